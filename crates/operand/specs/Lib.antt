@@ -1,0 +1,3 @@
+pub mod Field
+pub mod Access
+pub mod OperandLaws

@@ -1,0 +1,8 @@
+pub mod Codes
+pub mod Roles
+pub mod Environment
+pub mod Perform
+pub mod Decide
+pub mod Opened
+pub mod Exclusions
+pub mod DecisionLaws

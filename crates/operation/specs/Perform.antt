@@ -1,0 +1,144 @@
+-- What an instruction decides once its operands are found, full or empty as they must be, and unmasked: checks 7 and 8, and the results.
+use Prim.Native.Nat.{ℕ, _+_, _*_, _/_, _%_, _^_}
+use mathlib.Core.Bool.{Bool, cond, not, _||_}
+use lib.Dec.{eqb, leb}
+use Rattle.word.specs.Fields.{ciOf, riOf, utmOf, pcOf, pswOf, nextOf}
+use Rattle.word.specs.Vectors.{vectorOf}
+use Rattle.word.specs.Bits.{bitOf}
+use Rattle.word.specs.Integers.{integerOf}
+use Rattle.word.specs.Tests.{holdsOf}
+use Rattle.word.specs.declared.Instruction.{Instruction}
+use Rattle.word.specs.declared.Outcome.{Outcome}
+use Rattle.window.specs.declared.Cell.{Cell}
+use Rattle.window.specs.declared.Place.{Place}
+use Rattle.window.specs.declared.Place.the-variants.{At, Violation}
+use Rattle.window.specs.declared.Write.{Write}
+use Rattle.window.specs.declared.Write.the-variants.{Nothing, Put}
+use Rattle.window.specs.Windows.{bytePlace}
+use Rattle.window.specs.Memories.{cell}
+use Rattle.operand.specs.Access.{sourceLeft, destinationLeft}
+use Rattle.operation.specs.declared.Operation.{Operation}
+use Rattle.operation.specs.declared.Operation.the-variants as operation
+use Rattle.operation.specs.declared.Site.{Site}
+use Rattle.operation.specs.declared.Sites.{Sites}
+use Rattle.operation.specs.declared.Trap.{Trap}
+use Rattle.operation.specs.declared.Trap.the-variants as trap
+use Rattle.operation.specs.declared.Wait.the-variants.{Data, Create}
+use Rattle.operation.specs.declared.Fate.{Fate}
+use Rattle.operation.specs.declared.Fate.the-variants.{Continues, Quits, Creates}
+use Rattle.operation.specs.declared.Effects.{Effects}
+use Rattle.operation.specs.declared.Decision.{Decision}
+use Rattle.operation.specs.declared.Decision.the-variants.{Waits, Traps, Executes}
+use Rattle.operation.specs.Roles.{bOf, sacOf, dacOf}
+use Rattle.operation.specs.Environment.{Environment}
+
+-- what a field is left with as a source
+unfoldable pub leftOf : Site → Write
+leftOf s = sourceLeft (s .role) (s .access) (s .operand) (s .cell)
+
+-- sources are set empty first, then the destination is written
+unfoldable pub executed : Sites → (destination datum : Write) → Fate → Decision
+executed s destination datum fate =
+    Executes (record { first = leftOf (s .first); second = leftOf (s .second); third = leftOf (s .third); destination = destination; datum = datum; fate = fate })
+
+-- the first field as a destination that gets a result
+unfoldable pub resultIn : Site → Outcome → Write
+resultIn s r = destinationLeft (s .access) (s .operand) (r .word) (r .quality)
+
+-- a result with quality 0
+abbrev pub plain : ℕ → Outcome
+plain w = record { word = w; quality = 0 }
+
+-- an operation that ends with PC + 1
+unfoldable pub stepping : Environment → Sites → Outcome → Decision
+stepping v s r = executed s (resultIn (s .first) r) Nothing (Continues (nextOf (v .psw)))
+
+-- test C on S2, the third field, and the running PSW
+unfoldable pub testOf : Environment → Sites → (c : ℕ) → Bool
+testOf v s c = holdsOf c (s .third .cell .word) (s .third .cell .tag) (v .psw)
+
+-- B: PC = P, then CI, RI, UTM and PC each get S1's field added
+unfoldable pub branched : (psw p s1 : ℕ) → ℕ
+branched psw p s1 = pswOf (ciOf psw + ciOf s1) (riOf psw + riOf s1) (utmOf psw + utmOf s1) (p + pcOf s1)
+
+unfoldable pub performBranch : Environment → Sites → (c p : ℕ) → Decision
+performBranch v s c p =
+    executed s Nothing Nothing (Continues (cond (testOf v s c) (branched (v .psw) p (s .second .cell .word)) (nextOf (v .psw))))
+
+-- CALL: D gets the PSW with PC + 1, whatever the test says; on a true test PC comes from S1
+unfoldable pub called : (psw s1 : ℕ) → ℕ
+called psw s1 = pswOf (ciOf psw) (riOf psw) (utmOf psw) (pcOf s1)
+
+unfoldable pub performCall : Environment → Sites → (c : ℕ) → Decision
+performCall v s c =
+    executed s (resultIn (s .first) (plain (nextOf (v .psw)))) Nothing
+    (Continues (cond (testOf v s c) (called (v .psw) (s .second .cell .word)) (nextOf (v .psw))))
+
+-- CREATE: the creator's PSW at PC + 1, where ACT bits 8, 4, 2, 1 take CI, RI, UTM, PC from S1
+abbrev pub taken : (act bit : ℕ) → (field creator : ℕ) → ℕ
+taken act bit field creator = cond (eqb (act / bit % 2) 1) field creator
+
+unfoldable pub created : (act psw s1 : ℕ) → ℕ
+created act psw s1 =
+    pswOf (taken act 8 (ciOf s1) (ciOf psw)) (taken act 4 (riOf s1) (riOf psw)) (taken act 2 (utmOf s1) (utmOf psw)) (taken act 1 (pcOf s1) (pcOf psw + 1))
+
+-- check 8: a true CREATE with the create fault flag up is waved
+unfoldable pub performCreate : Environment → Sites → (c act : ℕ) → Decision
+performCreate v s c act =
+    cond (testOf v s c)
+    (cond (eqb (v .flag) 0)
+    (executed s Nothing Nothing (Creates (nextOf (v .psw)) (created act (v .psw) (s .second .cell .word))))
+    (Waits Create))
+    (executed s Nothing Nothing (Continues (nextOf (v .psw))))
+
+-- QT: on a true test the process leaves
+unfoldable pub performQuit : Environment → Sites → (c : ℕ) → Decision
+performQuit v s c = executed s Nothing Nothing (cond (testOf v s c) Quits (Continues (nextOf (v .psw))))
+
+-- the byte address: the low 32 bits of S1, for the X forms plus S2 modulo 2^32
+unfoldable pub indirectOf : Sites → ℕ
+indirectOf s = s .second .cell .word % 2 ^ 32
+
+unfoldable pub indexedOf : Sites → ℕ
+indexedOf s = (s .second .cell .word + s .third .cell .word) % 2 ^ 32
+
+-- the load of the data word at the real word address a: SAC 1 and 2 wait until full, 2 sets it empty
+unfoldable pub loadWord : Environment → Sites → (low a : ℕ) → Decision
+loadWord v s low a =
+    cond (not (eqb (sacOf low) 0))
+    (cond (eqb (v .datum a .tag) 0) (Waits Data)
+    (executed s (resultIn (s .first) (plain (v .datum a .word))) (cond (eqb (sacOf low) 2) (Put a (cell 0 (v .datum a .word))) Nothing) (Continues (nextOf (v .psw)))))
+    (stepping v s (plain (v .datum a .word)))
+
+-- the store of a word there: DAC 2 waits until empty; a store leaves full
+unfoldable pub storeWord : Environment → Sites → (low word a : ℕ) → Decision
+storeWord v s low word a =
+    cond (eqb (dacOf low) 2)
+    (cond (eqb (v .datum a .tag) 0) (executed s Nothing (Put a (cell 1 word)) (Continues (nextOf (v .psw)))) (Waits Data))
+    (executed s Nothing (Put a (cell 1 word)) (Continues (nextOf (v .psw))))
+
+-- check 7 of the byte address e: a protection violation is 14; then B = 1, or low three address bits not zero, gives 1C. The rest is
+-- for the word at the real address
+unfoldable pub dataAt : Environment → (low e : ℕ) → (ℕ → Decision) → Place → Decision
+dataAt v low e access (At a) = cond (eqb (bOf low) 1 || not (eqb (e % 8) 0)) (Traps trap.Simulated (v .psw)) (access (a / 8))
+dataAt v low e access Violation = Traps trap.Protection (v .psw)
+
+unfoldable pub performLoad : Environment → Sites → (low e : ℕ) → Decision
+performLoad v s low e = dataAt v low e (loadWord v s low) (bytePlace (v .row) e)
+
+unfoldable pub performStore : Environment → Sites → (low word e : ℕ) → Decision
+performStore v s low word e = dataAt v low e (storeWord v s low word) (bytePlace (v .row) e)
+
+unfoldable pub perform : Operation → Environment → Instruction → Sites → Decision
+perform operation.Nop v i s = executed s Nothing Nothing (Continues (nextOf (v .psw)))
+perform (operation.Vector op) v i s = stepping v s (plain (vectorOf op (s .second .cell .word) (s .third .cell .word)))
+perform (operation.Bit op) v i s = stepping v s (plain (bitOf op (s .second .cell .word) (s .third .cell .word)))
+perform (operation.Integer op) v i s = stepping v s (integerOf op (s .second .cell .word) (s .third .cell .word))
+perform (operation.Branch c p) v i s = performBranch v s c (p * 2 ^ 16 + i .first)
+perform (operation.Call c) v i s = performCall v s c
+perform (operation.Create c act) v i s = performCreate v s c act
+perform (operation.Quit c) v i s = performQuit v s c
+perform (operation.LoadIndirect low) v i s = performLoad v s low (indirectOf s)
+perform (operation.LoadIndexed low) v i s = performLoad v s low (indexedOf s)
+perform (operation.StoreIndirect low) v i s = performStore v s low (s .third .cell .word) (indirectOf s)
+perform (operation.StoreIndexed low) v i s = performStore v s low (s .first .cell .word) (indexedOf s)

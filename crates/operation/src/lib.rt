@@ -1,0 +1,95 @@
+// Operations: what a code stands for, the checks of an instruction, and what it decides.
+use operand::Operand;
+use operand::Role;
+use window::Cell;
+use window::Write;
+use word::Bit;
+use word::Integer;
+use word::Vector;
+
+// An operation, with the test, the action list or the access bits that its code holds; of B also the left digit of its address.
+pub enum Operation {
+    Nop,
+    Vector(Vector),
+    Bit(Bit),
+    Integer(Integer),
+    Branch(u16, u16),
+    Call(u16),
+    Create(u16, u16),
+    Quit(u16),
+    LoadIndirect(u16),
+    LoadIndexed(u16),
+    StoreIndirect(u16),
+    StoreIndexed(u16),
+}
+
+// What a 16-bit code stands for.
+pub enum Code {
+    Privileged,
+    Simulated,
+    Svc,
+    Listed(Operation),
+    Illegal,
+}
+
+// The roles of the three fields after the code.
+pub struct Roles {
+    pub first: Role,
+    pub second: Role,
+    pub third: Role,
+}
+
+// A field that was looked up: its role, access code and place, and the cell there before the step.
+pub struct Site {
+    pub role: Role,
+    pub access: u8,
+    pub operand: Operand,
+    pub cell: Cell,
+}
+
+pub struct Sites {
+    pub first: Site,
+    pub second: Site,
+    pub third: Site,
+}
+
+// Why a step traps.
+pub enum Trap {
+    CreateFault,
+    Illegal,
+    Protection,
+    Privileged,
+    Supervisor,
+    Simulated,
+    DataException,
+}
+
+// What a step waits for.
+pub enum Wait {
+    Access,
+    Data,
+    Create,
+}
+
+// What becomes of the process: it goes on with a PSW, it leaves, or it goes on and a process with the second PSW joins.
+pub enum Fate {
+    Continues(u64),
+    Quits,
+    Creates(u64, u64),
+}
+
+// What an executed step writes, in order: the sources of the three fields, the destination, the data word; and the process's fate.
+pub struct Effects {
+    pub first: Write,
+    pub second: Write,
+    pub third: Write,
+    pub destination: Write,
+    pub datum: Write,
+    pub fate: Fate,
+}
+
+pub enum Decision {
+    Waits(Wait),
+    Traps(Trap, u64),
+    Executes(Effects),
+}

@@ -1,0 +1,3 @@
+pub mod Report
+pub mod Opened
+pub mod Trials

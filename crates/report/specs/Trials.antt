@@ -1,0 +1,130 @@
+-- The trials of document 01 that are proved of the definitions: its starred ones, and its printed case.
+use mathlib.Core.Path.{_≡_, refl}
+use mathlib.Core.Bool.{true}
+use mathlib.Core.List.{List, [], _∷_, _++_}
+use Prim.Native.Nat.{ℕ, zero, suc, _+_, _-_, _*_, _^_}
+use lib.ListN.{length, getD, replicate}
+use Rattle.word.specs.Integers.{integerOf}
+use Rattle.word.specs.declared.Integer.the-variants.{Dec, Mul}
+use Rattle.word.specs.Bits.{bitOf}
+use Rattle.word.specs.declared.Bit.the-variants.{Bitset, Encode1}
+use Rattle.word.specs.Tests.{holdsOf}
+use Rattle.word.specs.Fields.{pswOf}
+use Rattle.window.specs.declared.Row.{Row}
+use Rattle.window.specs.Memories.{memory}
+use Rattle.operand.specs.declared.Role.the-variants.{Source}
+use Rattle.operand.specs.declared.Lookup.the-variants.{Violation}
+use Rattle.operand.specs.Field.{lookupOf}
+use Rattle.operation.specs.declared.Trap.the-variants.{CreateFault, Protection}
+use Rattle.step.specs.declared.Ending.the-variants.{Executed, Trapped}
+use Rattle.step.specs.State.{State}
+use Rattle.step.specs.Act.{Stepped}
+use Rattle.step.specs.Step.{step}
+use Rattle.image.specs.Image.{queueOf}
+use Rattle.report.specs.Report.{outputOf}
+use Rattle.report.specs.Opened.{opened}
+
+-- CB 4095, RB 3, RL 3, DB 1, DL 1: registers 6 and 7, data words 32 to 63
+unfoldable pub row : Row
+row = record { task = 1; cb = 4095; rb = 3; rl = 3; pb = 0; pl = 0; db = 1; dl = 1; kind = 255; psw = 0 }
+
+unfoldable pub upTo : ℕ → List ℕ
+upTo zero = []
+upTo (suc n) = upTo n ++ (n ∷ [])
+
+-- task 1 with `live` processes, one instruction, constant 0 with word 77, register 7 with word s1, and data word 63 with word 99
+unfoldable pub machine : (live instruction s1 : ℕ) → State
+machine live w s1 = record {
+  rows = row ∷ [];
+  table = record { psw = replicate 64 0; queues = queueOf (upTo live) ∷ replicate 6 (queueOf []); flag = 0 };
+  constants = 77 ∷ [];
+  registers = memory (replicate 8 0) (replicate 7 0 ++ (s1 ∷ []));
+  program = w ∷ replicate 15 0;
+  dataWords = memory (replicate 64 1) (replicate 63 0 ++ (99 ∷ []));
+}
+
+unfoldable pub instruction : (code first second third : ℕ) → ℕ
+instruction code first second third = code * 2 ^ 48 + first * 2 ^ 32 + second * 2 ^ 16 + third
+
+-- the register at a real address after a step of task 1
+unfoldable pub registerAfter : Stepped → ℕ → ℕ
+registerAfter x a = getD (x .state .registers .words) a 0
+
+-- CREATE always, ACT 0, S1 and S2 constants
+unfoldable pub create : ℕ
+create = instruction 0x3970 0 0x4000 0x4000
+
+pub record Starred : Type 0 where
+  -- DEC 0: -1, quality 0. DEC 5: 4, quality 1. DEC -2^63: 2^63-1, quality 4
+  pub dec-0 : integerOf Dec 0 0 ≡ record { word = 2 ^ 64 - 1; quality = 0 }
+  pub dec-5 : integerOf Dec 5 0 ≡ record { word = 4; quality = 1 }
+  pub dec-least : integerOf Dec (2 ^ 63) 0 ≡ record { word = 2 ^ 63 - 1; quality = 4 }
+  -- MUL -1, -1: 1, quality 0. MUL 2^32, 2^31: quality 4
+  pub mul-minus : integerOf Mul (2 ^ 64 - 1) (2 ^ 64 - 1) ≡ record { word = 1; quality = 0 }
+  pub mul-large : integerOf Mul (2 ^ 32) (2 ^ 31) .quality ≡ 4
+  -- ENCODE1 of 1: 63, of 0: -2^63. BITSET 0 at 64: leftmost bit
+  pub encode-1 : bitOf Encode1 1 0 ≡ 63
+  pub encode-0 : bitOf Encode1 0 0 ≡ 2 ^ 63
+  pub bitset-64 : bitOf Bitset 0 64 ≡ 2 ^ 63
+  -- RB 3, RL 3: displacement 1 reaches register 7 (MOV of it to register 6), 2 traps
+  pub register-1 : registerAfter (step 1 (machine 1 (instruction 0x611F 0 1 0) 5)) 6 ≡ 5
+  pub register-2 : step 1 (machine 1 (instruction 0x611F 0 2 0) 5) .ending ≡ Trapped Protection 0
+  -- DB 1, DL 1: hex F8 reaches byte 504, the data word 63; hex 100 traps
+  pub data-F8 : registerAfter (step 1 (machine 1 (instruction 0x6C00 0 1 0) 0xF8)) 6 ≡ 99
+  pub data-100 : step 1 (machine 1 (instruction 0x6C00 0 1 0) 0x100) .ending ≡ Trapped Protection 0
+  -- CB 4095: displacement 2 reads constant 0
+  pub constant-2 : registerAfter (step 1 (machine 1 (instruction 0x611F 0 0x4002 0) 5)) 6 ≡ 77
+  -- test E of 0 holds
+  pub even-0 : holdsOf 14 0 0 0 ≡ true
+  -- create at 62 live: no fault, at 63: fault
+  pub create-62 : step 1 (machine 62 create 0) .ending ≡ Executed
+  pub create-62-flag : step 1 (machine 62 create 0) .state .table .flag ≡ 0
+  pub create-63 : step 1 (machine 63 create 0) .ending ≡ Trapped CreateFault 1
+  pub create-63-flag : step 1 (machine 63 create 0) .state .table .flag ≡ 1
+  -- RI 2047 and displacement 1 never mean register 0
+  pub index : lookupOf Source (record { task = 1; cb = 0; rb = 0; rl = 1023; pb = 0; pl = 0; db = 0; dl = 0; kind = 255; psw = 0 }) (pswOf 0 2047 0 0) 0x8001 ≡ Violation
+
+pub starred : Starred
+unfolding opened row upTo machine instruction registerAfter create
+starred = record {
+  dec-0 = refl;
+  dec-5 = refl;
+  dec-least = refl;
+  mul-minus = refl;
+  mul-large = refl;
+  encode-1 = refl;
+  encode-0 = refl;
+  bitset-64 = refl;
+  register-1 = refl;
+  register-2 = refl;
+  data-F8 = refl;
+  data-100 = refl;
+  constant-2 = refl;
+  even-0 = refl;
+  create-62 = refl;
+  create-62-flag = refl;
+  create-63 = refl;
+  create-63-flag = refl;
+  index = refl;
+}
+
+-- the printed case, hex: 0001 01 | 01 01 0000 0001 0000 0001 0000 00000001 00000000 FF 0000000000000000 | 01 00 00 01 0000000000000000 | ..
+printedInput : List ℕ
+printedInput =
+    0 ∷ 1 ∷ 1 ∷
+    1 ∷ 1 ∷ 0 ∷ 0 ∷ 0 ∷ 1 ∷ 0 ∷ 0 ∷ 0 ∷ 1 ∷ 0 ∷ 0 ∷ 0 ∷ 0 ∷ 0 ∷ 1 ∷ 0 ∷ 0 ∷ 0 ∷ 0 ∷ 255 ∷ 0 ∷ 0 ∷ 0 ∷ 0 ∷ 0 ∷ 0 ∷ 0 ∷ 0 ∷
+    1 ∷ 0 ∷ 0 ∷ 1 ∷ 0 ∷ 0 ∷ 0 ∷ 0 ∷ 0 ∷ 0 ∷ 0 ∷ 0 ∷
+    0 ∷ 0 ∷
+    0 ∷ 0 ∷
+    0 ∷ 0 ∷ 0 ∷ 0 ∷
+    0 ∷ 0 ∷ 0 ∷ 0 ∷ []
+
+-- `1 1 14 00000` and `E0 W0 T1 I0 CF0`
+printedOutput : List ℕ
+printedOutput =
+    49 ∷ 32 ∷ 49 ∷ 32 ∷ 49 ∷ 52 ∷ 32 ∷ 48 ∷ 48 ∷ 48 ∷ 48 ∷ 48 ∷ 10 ∷
+    69 ∷ 48 ∷ 32 ∷ 87 ∷ 48 ∷ 32 ∷ 84 ∷ 49 ∷ 32 ∷ 73 ∷ 48 ∷ 32 ∷ 67 ∷ 70 ∷ 48 ∷ 10 ∷ []
+
+printed : outputOf printedInput ≡ printedOutput
+unfolding opened printedInput printedOutput
+printed = refl

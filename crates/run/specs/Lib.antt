@@ -1,0 +1,6 @@
+pub mod Run
+pub mod Refusals
+pub mod Compared
+pub mod RunLaws
+pub mod RunAgreement
+pub mod Isolation

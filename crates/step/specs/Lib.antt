@@ -1,0 +1,13 @@
+pub mod Queues
+pub mod State
+pub mod Owned
+pub mod Act
+pub mod Step
+pub mod Soundness
+pub mod Occurrences
+pub mod QueueLaws
+pub mod RowLaws
+pub mod ActLaws
+pub mod SoundLaws
+pub mod StepLaws
+pub mod Agreement

@@ -1,0 +1,24 @@
+// One step of a task: queues, the process table, and how a step ends.
+use operation::Trap;
+
+// The PTs of a task's processes in a ring: the head stands at head, and len of them follow one another.
+pub struct Queue {
+    pub pts: [u8; 64],
+    pub head: usize,
+    pub len: usize,
+}
+
+// The PSW of each PT, the queue of each task (of task t at t - 1) and the create fault flag.
+pub struct ProcessTable {
+    pub psw: [u64; 64],
+    pub queues: [Queue; 7],
+    pub flag: u8,
+}
+
+// How a step ends. A trap carries its kind and the PSW that is stored.
+pub enum Ending {
+    Executed,
+    Waved,
+    Trapped(Trap, u64),
+    Idle,
+}

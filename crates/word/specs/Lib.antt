@@ -1,0 +1,6 @@
+pub mod Fields
+pub mod Vectors
+pub mod Bits
+pub mod Integers
+pub mod Tests
+pub mod WordLaws
