@@ -5,4 +5,4 @@ pub mod Perform
 pub mod Decide
 pub mod Opened
 pub mod Exclusions
-pub mod DecisionLaws
+pub mod SoundDecisions

@@ -1,4 +1,4 @@
--- All definitions up to the decision at once, for instances that compute.
+-- The definitions up to the decision at once, for instances that compute.
 use Rattle.word.specs.Fields.{instructionOf, ciOf, riOf, utmOf, pcOf, pswOf, pswSound, nextOf}
 use Rattle.word.specs.Vectors.{digitOf, digitsBy, vectorOf}
 use Rattle.word.specs.Bits.{bitsetOf, bitclrOf, encode1Of, encode0Of, bitOf, parityOf}

@@ -4,3 +4,5 @@ pub mod Compared
 pub mod RunLaws
 pub mod RunAgreement
 pub mod Isolation
+pub mod AloneTest
+pub mod RunSound

@@ -67,22 +67,22 @@ local (Traps k p) o = owner (trappedRow (o .row) k p) (head-to p (o .processes))
 local (Executes e) o = owner (o .row) (localFate (e .fate) (o .processes))
 
 -- the table with q for the queue of task t and other PSWs
-record Moved (table : ProcessTable) (t : ℕ) (q : Queue) (psw : List ℕ) : Type 0 where
-  wide : length psw ≡ 64
-  queue : Shaped q
-  once : (p : ℕ) → occ p (listOf q) + occ p (livePts (table .queues)) ≤ 1 + occ p (listOf (queueIn (table .queues) t))
-  small : (p : ℕ) → 64 ≤ p → occ p (listOf q) ≡ 0
-  others : (l : List ℕ) → ((p : ℕ) → occ p (listOf (queueIn (table .queues) t)) + occ p l ≤ occ p (livePts (table .queues))) → pswsOf psw l ≡ pswsOf (table .psw) l
+pub record Moved (table : ProcessTable) (t : ℕ) (q : Queue) (psw : List ℕ) : Type 0 where
+  pub wide : length psw ≡ 64
+  pub queue : Shaped q
+  pub once : (p : ℕ) → occ p (listOf q) + occ p (livePts (table .queues)) ≤ 1 + occ p (listOf (queueIn (table .queues) t))
+  pub small : (p : ℕ) → 64 ≤ p → occ p (listOf q) ≡ 0
+  pub others : (l : List ℕ) → ((p : ℕ) → occ p (listOf (queueIn (table .queues) t)) + occ p l ≤ occ p (livePts (table .queues))) → pswsOf psw l ≡ pswsOf (table .psw) l
 
 module _ (table : ProcessTable) (t : ℕ) (tidy : Tidy table) (low : 1 ≤ t) (high : t ≤ 7) where
-  index : t - 1 < length (table .queues)
+  pub index : t - 1 < length (table .queues)
   index = omega (arith, tidy .seven)
 
-  mine : Shaped (queueIn (table .queues) t)
+  pub mine : Shaped (queueIn (table .queues) t)
   unfolding queueIn
   mine = tidy .shaped (t - 1) (omega arith)
 
-  le : (p : ℕ) → occ p (listOf (queueIn (table .queues) t)) ≤ occ p (livePts (table .queues))
+  pub le : (p : ℕ) → occ p (listOf (queueIn (table .queues) t)) ≤ occ p (livePts (table .queues))
   unfolding queueIn
   le p = occ-get p (table .queues) (t - 1) index
 
@@ -90,7 +90,7 @@ module _ (table : ProcessTable) (t : ℕ) (tidy : Tidy table) (low : 1 ≤ t) (h
   distinct = record { once = λ p. omega (arith, tidy .once p, le p); inside = λ p h. omega (arith, tidy .small p (omega (arith, tidy .wide)), le p) }
 
   -- a table that has moved is tidy
-  tidy-moved : (q : Queue) (psw : List ℕ) (flag : ℕ) → Moved table t q psw
+  pub tidy-moved : (q : Queue) (psw : List ℕ) (flag : ℕ) → Moved table t q psw
       → Tidy (record { psw = psw; queues = withQueue (table .queues) t q; flag = flag })
   unfolding withQueue queueIn
   tidy-moved q psw flag m = record {
@@ -125,17 +125,17 @@ module _ (table : ProcessTable) (t : ℕ) (tidy : Tidy table) (low : 1 ≤ t) (h
     front : Heads (headOf (queueIn (table .queues) t)) (listOf (queueIn (table .queues) t))
     front = heads (queueIn (table .queues) t) nonempty
 
-    wide-head : (p : ℕ) → length (headPsw table t p) ≡ 64
+    pub wide-head : (p : ℕ) → length (headPsw table t p) ≡ 64
     unfolding headPsw
-    wide-head p = length-set (table .psw) (headOf (queueIn (table .queues) t)) p ∙ tidy .wide
+    wide-head p = length-set (table .psw) _ p ∙ tidy .wide
 
-    others-head : (p : ℕ) (l : List ℕ) → ((x : ℕ) → occ x (listOf (queueIn (table .queues) t)) + occ x l ≤ occ x (livePts (table .queues))) → pswsOf (headPsw table t p) l ≡ pswsOf (table .psw) l
+    pub others-head : (p : ℕ) (l : List ℕ) → ((x : ℕ) → occ x (listOf (queueIn (table .queues) t)) + occ x l ≤ occ x (livePts (table .queues))) → pswsOf (headPsw table t p) l ≡ pswsOf (table .psw) l
     unfolding headPsw
     others-head p l h =
         psws-other (table .psw) (listOf (queueIn (table .queues) t)) l (headOf (queueIn (table .queues) t)) p front (λ x. omega (arith, h x, tidy .once x))
 
     -- head to tail, with the same PSWs and with another for the head
-    moved-turn : (psw : List ℕ) → length psw ≡ 64
+    pub moved-turn : (psw : List ℕ) → length psw ≡ 64
         → ((l : List ℕ) → ((p : ℕ) → occ p (listOf (queueIn (table .queues) t)) + occ p l ≤ occ p (livePts (table .queues))) → pswsOf psw l ≡ pswsOf (table .psw) l)
         → Moved table t (turned (queueIn (table .queues) t)) psw
     moved-turn psw w o = record {
@@ -146,7 +146,7 @@ module _ (table : ProcessTable) (t : ℕ) (tidy : Tidy table) (low : 1 ≤ t) (h
       others = o;
     }
 
-    moved-shift : Moved table t (shifted (queueIn (table .queues) t)) (table .psw)
+    pub moved-shift : Moved table t (shifted (queueIn (table .queues) t)) (table .psw)
     moved-shift = record {
       wide = tidy .wide;
       queue = shifted-shaped (queueIn (table .queues) t) mine;
@@ -168,7 +168,7 @@ module _ (table : ProcessTable) (t : ℕ) (tidy : Tidy table) (low : 1 ≤ t) (h
     }
 
     -- a trap leaves the queues
-    tidy-stay : (p flag : ℕ) → Tidy (record { psw = headPsw table t p; queues = table .queues; flag = flag })
+    pub tidy-stay : (p flag : ℕ) → Tidy (record { psw = headPsw table t p; queues = table .queues; flag = flag })
     tidy-stay p flag = record { wide = wide-head p; seven = tidy .seven; shaped = tidy .shaped; once = tidy .once; small = tidy .small }
 
     own-stay : (p flag : ℕ) → processesOf (record { psw = headPsw table t p; queues = table .queues; flag = flag }) t ≡ head-to p (processesOf table t)
@@ -223,7 +223,7 @@ module _ (table : ProcessTable) (t : ℕ) (tidy : Tidy table) (low : 1 ≤ t) (h
         after-turn = sym (own-moved (turned (queueIn (table .queues) t)) (headPsw table t p) flag) ∙ own-go p flag
 
     -- a process joins behind the turned queue, and behind the queue as it is
-    moved-created : (p new : ℕ) → length (livePts (table .queues)) < 64 → Moved table t (joined (turned (queueIn (table .queues) t)) (lowestFree (table .queues))) (set (headPsw table t p) (lowestFree (table .queues)) new)
+    pub moved-created : (p new : ℕ) → length (livePts (table .queues)) < 64 → Moved table t (joined (turned (queueIn (table .queues) t)) (lowestFree (table .queues))) (set (headPsw table t p) (lowestFree (table .queues)) new)
     unfolding lowestFree queueIn
     moved-created p new k =
         moved-join (turned (queueIn (table .queues) t)) p (lowestFree (table .queues)) new (turned-shaped (queueIn (table .queues) t) mine)
@@ -238,7 +238,7 @@ module _ (table : ProcessTable) (t : ℕ) (tidy : Tidy table) (low : 1 ≤ t) (h
     own-created p new flag k =
         own-join p (lowestFree (table .queues)) new flag (omega (arith, len-get (table .queues) (t - 1) index)) (free-spec 64 (livePts (table .queues)) k)
 
-    moved-fault : (p new : ℕ) → length (livePts (table .queues)) < 64 → Moved table t (joined (queueIn (table .queues) t) (lowestFree (table .queues))) (set (headPsw table t p) (lowestFree (table .queues)) new)
+    pub moved-fault : (p new : ℕ) → length (livePts (table .queues)) < 64 → Moved table t (joined (queueIn (table .queues) t) (lowestFree (table .queues))) (set (headPsw table t p) (lowestFree (table .queues)) new)
     unfolding lowestFree queueIn
     moved-fault p new k =
         moved-join (queueIn (table .queues) t) p (lowestFree (table .queues)) new mine

@@ -9,5 +9,9 @@ pub mod QueueLaws
 pub mod RowLaws
 pub mod ActLaws
 pub mod SoundLaws
+pub mod RowsKept
+pub mod MemoriesKept
+pub mod TableKept
 pub mod StepLaws
+pub mod SoundKept
 pub mod Agreement

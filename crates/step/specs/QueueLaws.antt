@@ -144,6 +144,22 @@ turned-len q = go (eqb (q .len) 0)
     go true = refl
     go false = refl
 
+pub shifted-len : (q : Queue) → shifted q .len ≤ q .len
+unfolding shifted
+shifted-len q = go (eqb (q .len) 0)
+  where
+    go : (b : Bool) → cond b q (queue (q .pts) ((q .head % 64 + 1) % 64) (q .len - 1)) .len ≤ q .len
+    go true = omega arith
+    go false = omega arith
+
+pub joined-len : (q : Queue) (p : ℕ) → joined q p .len ≤ suc (q .len)
+unfolding joined
+joined-len q p = go (leb 64 (q .len))
+  where
+    go : (b : Bool) → cond b q (queue (set (q .pts) ((q .head % 64 + q .len % 64) % 64) p) (q .head) (q .len + 1)) .len ≤ suc (q .len)
+    go true = omega arith
+    go false = omega arith
+
 -- ---- all queues
 
 -- where a queue is replaced, the numbers of the old one go and those of the new one come

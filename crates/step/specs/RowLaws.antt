@@ -51,6 +51,19 @@ pub find-task : (t : ℕ) (rs : List Row) (r : Row) → findRow t rs ≡ some r 
 find-task t [] r e = absurd (none-some r (unfold findRow in e))
 find-task t (y ∷ rs) r e = elim (found t r y rs e) [ here q p ↦ rw (← p) q | there q k ↦ find-task t rs r k ]
 
+-- the lists are one but that x stands for r
+pub data Put (r x : Row) : List Row → List Row → Type 0 where
+  first : {rs : List Row} → Put r x (r ∷ rs) (x ∷ rs)
+  later : {y : Row} {rs qs : List Row} → Put r x rs qs → Put r x (y ∷ rs) (y ∷ qs)
+
+pub put-row : (t : ℕ) (rs : List Row) (r x : Row) → findRow t rs ≡ some r → Put r x rs (putRow t x rs)
+put-row t [] r x e = absurd (none-some r (unfold findRow in e))
+put-row t (y ∷ rs) r x e =
+    elim (found t r y rs e) [
+      | here q p ↦ rw (put-here t x y rs q) (subst (λ (z : Row). Put r x (z ∷ rs) (x ∷ rs)) (sym p) first)
+      | there q k ↦ rw (put-there t x y rs q) (later (put-row t rs r x k))
+    ]
+
 pub find-put-same : (t : ℕ) (rs : List Row) (r x : Row) → findRow t rs ≡ some r → x .task ≡ t → findRow t (putRow t x rs) ≡ some x
 find-put-same t [] r x e n = absurd (none-some r (unfold findRow in e))
 find-put-same t (y ∷ rs) r x e n =
@@ -70,4 +83,3 @@ find-put-other t u (y ∷ rs) x ne n = go (eqb (y .task) u) (eqb (y .task) t) (e
     go false true (differ p) (same q) ih = ap (findRow t) (put-there u x y rs p) ∙ find-here t y (putRow u x rs) q ∙ sym (find-here t y rs q)
     go false false (differ p) (differ q) ih =
         ap (findRow t) (put-there u x y rs p) ∙ find-there t y (putRow u x rs) q ∙ ih ∙ sym (find-there t y rs q)
-

@@ -1,9 +1,9 @@
 -- Soundness of a state: its parts, and the invariant of a run that it gives.
-use Prim.Native.Nat.{ℕ, zero, suc, _+_, _≤_, _<_}
-use mathlib.Core.Path.{_≡_, refl, sym, ap, _∙_}
+use Prim.Native.Nat.{ℕ, zero, suc, _+_, _^_, _≤_, _<_}
+use mathlib.Core.Path.{_≡_, refl}
 use mathlib.Core.Logic.{_≢_}
-use mathlib.Core.Bool.{Bool, true, false, _&&_, _||_, false≢true}
-use mathlib.Core.Option.{Option, none, some}
+use mathlib.Core.Bool.{Bool, true, false, _||_, false≢true}
+use mathlib.Core.Option.{some}
 use mathlib.Core.List.{List, [], _∷_}
 use native.Mathlib.Nat.{le-of-suc-le-suc, not-suc-le-zero}
 use native.Mathlib.Omega.{arith}
@@ -12,17 +12,18 @@ use lib.Dec.{eqb, leb, ltb}
 use borrow.Author.Tests.{eqb-true, eq-eqb, leb-true, ltb-true}
 use Rattle.window.specs.declared.Row.{Row}
 use Rattle.window.specs.Bools.{Eq?, same, differ, eq?, and-left, and-right, or-right}
+use Rattle.window.specs.Sound.{tagSound, stateSound}
 use Rattle.window.specs.Conjunctions.{also, both}
 use Rattle.step.specs.declared.Queue.{Queue}
 use Rattle.step.specs.declared.ProcessTable.{ProcessTable}
 use Rattle.step.specs.Queues.{hit, occ, livePts}
 use Rattle.step.specs.State.{State, findRow, noQueue, pswsOf}
 use Rattle.step.specs.Soundness.{every, distinct, taskSound, rowSound, rowsSound, listed, queueShaped, queuesSound, ptSound, roomSound}
-use Rattle.step.specs.Soundness.{flagSound, processesSound, tableSound, memoriesSound, windowsSound, sound}
+use Rattle.step.specs.Soundness.{flagSound, processesSound, tableSound, wordsSound, memorySound, memoriesSound, windowsSound, sound}
 use Rattle.word.specs.Fields.{pswSound}
 use Rattle.step.specs.Occurrences.{occ-nil, occ-cons, hit-same, hit-differ}
 use Rattle.step.specs.QueueLaws.{Shaped}
-use Rattle.step.specs.RowLaws.{Found, here, there, found, none-some}
+use Rattle.step.specs.RowLaws.{here, there, found, none-some}
 use Rattle.step.specs.ActLaws.{Tidy, Inv}
 
 -- ---- the parts
@@ -37,13 +38,19 @@ pub record SoundTable (rows : List Row) (t : ProcessTable) : Type 0 where
   pub flag : flagSound (t .flag) ≡ true
   pub room : roomSound (length (livePts (t .queues))) (t .flag) ≡ true
 
+pub record SoundMemories (s : State) : Type 0 where
+  pub constants : wordsSound 4096 (s .constants) ≡ true
+  pub registers : memorySound 2048 tagSound (s .registers) ≡ true
+  pub program : wordsSound (2 ^ 20) (s .program) ≡ true
+  pub dataWords : memorySound (2 ^ 20) stateSound (s .dataWords) ≡ true
+
 pub record Sound (s : State) : Type 0 where
   pub rows : rowsSound 0 (s .rows) ≡ true
   pub table : SoundTable (s .rows) (s .table)
-  pub memories : memoriesSound s ≡ true
+  pub memories : SoundMemories s
   pub windows : windowsSound (length (s .registers .words)) (length (s .program)) (length (s .dataWords .words)) (s .rows) ≡ true
 
-pub table-parts : (rows : List Row) (t : ProcessTable) → tableSound rows t ≡ true → SoundTable rows t
+table-parts : (rows : List Row) (t : ProcessTable) → tableSound rows t ≡ true → SoundTable rows t
 unfolding tableSound processesSound
 table-parts rows t e =
     let u = both (both (λ x. x) (both (λ x. x) (λ x. x))) (both (both (λ x. x) (both (λ x. x) (λ x. x))) (both (λ x. x) (λ x. x))) e in
@@ -58,32 +65,44 @@ table-parts rows t e =
       room = u .1 .1 .1;
     }
 
-pub table-whole : (rows : List Row) (t : ProcessTable) → SoundTable rows t → tableSound rows t ≡ true
+table-whole : (rows : List Row) (t : ProcessTable) → SoundTable rows t → tableSound rows t ≡ true
 unfolding tableSound processesSound
 table-whole rows t s =
     also (also (eq-eqb (length (t .psw)) 64 (s .wide)) (also (eq-eqb (length (t .queues)) 7 (s .seven)) (s .queues)))
     (also (also (s .once) (also (s .small) (s .psws))) (also (s .flag) (s .room)))
 
+memories-parts : (s : State) → memoriesSound s ≡ true → SoundMemories s
+unfolding memoriesSound
+memories-parts s e =
+    let u = both (both (λ x. x) (λ x. x)) (both (λ x. x) (λ x. x)) e in
+    record { constants = u .0 .0; registers = u .0 .1; program = u .1 .0; dataWords = u .1 .1 }
+
+memories-whole : (s : State) → SoundMemories s → memoriesSound s ≡ true
+unfolding memoriesSound
+memories-whole s m = also (also (m .constants) (m .registers)) (also (m .program) (m .dataWords))
+
 pub sound-parts : (s : State) → sound s ≡ true → Sound s
 unfolding sound
 sound-parts s e =
     let u = both (both (λ x. x) (λ x. x)) (both (λ x. x) (λ x. x)) e in
-    record { rows = u .0 .0; table = table-parts (s .rows) (s .table) (u .0 .1); memories = u .1 .0; windows = u .1 .1 }
+    record { rows = u .0 .0; table = table-parts (s .rows) (s .table) (u .0 .1); memories = memories-parts s (u .1 .0); windows = u .1 .1 }
 
 pub sound-whole : (s : State) → Sound s → sound s ≡ true
 unfolding sound
-sound-whole s p = also (also (p .rows) (table-whole (s .rows) (s .table) (p .table))) (also (p .memories) (p .windows))
+sound-whole s p = also (also (p .rows) (table-whole (s .rows) (s .table) (p .table))) (also (memories-whole s (p .memories)) (p .windows))
 
 -- ---- a test of every element, and no element twice, by what stands in the list
 
-pub every-at : (test : ℕ → Bool) (l : List ℕ) → every test l ≡ true → (p : ℕ) → occ p l ≢ 0 → test p ≡ true
+pub every-parts : (test : ℕ → Bool) (x : ℕ) (l : List ℕ) → every test (x ∷ l) ≡ true → (test x ≡ true) × (every test l ≡ true)
 unfolding every
+every-parts test x l e = both (λ k. k) (λ k. k) e
+
+pub every-at : (test : ℕ → Bool) (l : List ℕ) → every test l ≡ true → (p : ℕ) → occ p l ≢ 0 → test p ≡ true
 every-at test [] e p n = absurd (n (occ-nil p))
-every-at test (x ∷ l) e p n =
-    go (eqb p x) (eq? p x) (λ k. every-at test l (and-right (test x) (every test l) e) p k)
+every-at test (x ∷ l) e p n = go (eqb p x) (eq? p x) (every-at test l (every-parts test x l e .1) p)
   where
     go : (b : Bool) → Eq? p x b → (occ p l ≢ 0 → test p ≡ true) → test p ≡ true
-    go true (same q) ih = rw q (and-left (test x) (every test l) e)
+    go true (same q) ih = rw q (every-parts test x l e .0)
     go false (differ q) ih = ih (λ z. n (omega (arith, occ-cons p x l, hit-differ p x q)))
 
 pub every-of : (test : ℕ → Bool) (l : List ℕ) → ((p : ℕ) → occ p l ≢ 0 → test p ≡ true) → every test l ≡ true
