@@ -70,7 +70,6 @@ unfoldable pub scheduleB : List ℕ
 scheduleB =
     1 ∷ 3 ∷ 3 ∷ 1 ∷ 1 ∷ 3 ∷ 1 ∷ 3 ∷ 1 ∷ 3 ∷ []
 
-
 unfoldable pub none-read : Image
 none-read = record { rows = []; flag = 0; processes = []; constants = []; registers = []; program = []; dataWords = [] }
 

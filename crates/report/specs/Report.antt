@@ -59,7 +59,11 @@ pcText kind psw = cond (eqb kind noTrap) (45 ∷ 45 ∷ 45 ∷ 45 ∷ 45 ∷ [])
 -- a line per row: task, live processes, trap kind, trapped PC
 unfoldable pub rowLine : ProcessTable → Row → List ℕ
 rowLine table r =
-    decimal (r .task) ++ (space ++ (decimal (length (processesOf table (r .task))) ++ (space ++ (kindText (r .kind) ++ (space ++ (pcText (r .kind) (r .psw) ++ newline))))))
+    decimal (r .task)
+    ++ (space ++ decimal (length (processesOf table (r .task))))
+    ++ (space ++ kindText (r .kind))
+    ++ (space ++ pcText (r .kind) (r .psw))
+    ++ newline
 
 unfoldable pub rowLines : ProcessTable → List Row → List ℕ
 rowLines table [] = []
@@ -68,7 +72,12 @@ rowLines table (r ∷ rs) = rowLine table r ++ rowLines table rs
 -- E, W, T, I and their counts, CF and the flag
 unfoldable pub countsLine : Counts → (flag : ℕ) → List ℕ
 countsLine c flag =
-    (69 ∷ decimal (c .executed)) ++ (space ++ ((87 ∷ decimal (c .waved)) ++ (space ++ ((84 ∷ decimal (c .trapped)) ++ (space ++ ((73 ∷ decimal (c .idle)) ++ (space ++ ((67 ∷ 70 ∷ decimal flag) ++ newline))))))))
+    (69 ∷ decimal (c .executed))
+    ++ (space ++ (87 ∷ decimal (c .waved)))
+    ++ (space ++ (84 ∷ decimal (c .trapped)))
+    ++ (space ++ (73 ∷ decimal (c .idle)))
+    ++ (space ++ (67 ∷ 70 ∷ decimal flag))
+    ++ newline
 
 unfoldable pub reportOf : Ran → List ℕ
 reportOf r = rowLines (r .state .table) (r .state .rows) ++ countsLine (r .counts) (r .state .table .flag)

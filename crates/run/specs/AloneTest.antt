@@ -8,6 +8,7 @@ use Prim.Native.Nat.{ℕ}
 use lib.Dec.{eqb}
 use borrow.Author.Tests.{eqb-true, not-true}
 use Rattle.window.specs.Bools.{and-left, and-right}
+use Rattle.window.specs.Conjunctions.{both}
 use Rattle.window.specs.declared.Row.{Row}
 use Rattle.window.specs.Windows.{meets, registerWindow, dataWindow}
 use Rattle.step.specs.State.{State, findRow}
@@ -45,11 +46,13 @@ unmet-found r (y ∷ rows) u x a e n =
 
 pub alone-of : (t : ℕ) (s : State) → alone t s ≡ true → Alone t s
 unfolding alone aloneIn unmet
-alone-of t s a = record {
-  registers = λ u n r x e f. not-true (meets (registerWindow r) (registerWindow x)) (and-left (not (meets (registerWindow r) (registerWindow x))) (not (meets (dataWindow r) (dataWindow x))) (both u n r x e f));
-  dataWords = λ u n r x e f. not-true (meets (dataWindow r) (dataWindow x)) (and-right (not (meets (registerWindow r) (registerWindow x))) (not (meets (dataWindow r) (dataWindow x))) (both u n r x e f));
+alone-of t s a u n = record {
+  registers = λ r x e f. not-true (meets (registerWindow r) (registerWindow x)) (parts r x e f .0);
+  dataWords = λ r x e f. not-true (meets (dataWindow r) (dataWindow x)) (parts r x e f .1);
 }
   where
-    both : (u : ℕ) → u ≢ t → (r x : Row) → findRow t (s .rows) ≡ some r → findRow u (s .rows) ≡ some x → unmet r x ≡ true
-    both u n r x e f =
-        unmet-found r (s .rows) u x (sym (ap (λ (o : Option Row). aloneIn o (s .rows)) e) ∙ a) f (λ k. n (k ∙ find-task t (s .rows) r e))
+    parts : (r x : Row) → findRow t (s .rows) ≡ some r → findRow u (s .rows) ≡ some x
+        → (not (meets (registerWindow r) (registerWindow x)) ≡ true) × (not (meets (dataWindow r) (dataWindow x)) ≡ true)
+    parts r x e f =
+        both (λ k. k) (λ k. k)
+        (unmet-found r (s .rows) u x (sym (ap (λ (o : Option Row). aloneIn o (s .rows)) e) ∙ a) f (λ k. n (k ∙ find-task t (s .rows) r e)))

@@ -37,12 +37,15 @@ SameProgram t s s′ = (r : Row) → findRow t (s .rows) ≡ some r → cut (pro
 abbrev pub SameConstants : State → State → Type 0
 SameConstants s s′ = (a : ℕ) → constantAt (s .constants) a ≡ constantAt (s′ .constants) a
 
+-- no register window and no data window of task t meets one of task u
+pub record Clear (t u : ℕ) (s : State) : Type 0 where
+  pub registers : (r x : Row) → findRow t (s .rows) ≡ some r → findRow u (s .rows) ≡ some x → meets (registerWindow r) (registerWindow x) ≡ false
+  pub dataWords : (r x : Row) → findRow t (s .rows) ≡ some r → findRow u (s .rows) ≡ some x → meets (dataWindow r) (dataWindow x) ≡ false
+
 -- the register and data windows of the tasks of A meet none of a task outside A
-pub record Apart (A : ℕ → Bool) (s : State) : Type 0 where
-  pub registers : (t u : ℕ) → A t ≡ true → A u ≡ false → (r x : Row) → findRow t (s .rows) ≡ some r → findRow u (s .rows) ≡ some x → meets (registerWindow r) (registerWindow x) ≡ false
-  pub dataWords : (t u : ℕ) → A t ≡ true → A u ≡ false → (r x : Row) → findRow t (s .rows) ≡ some r → findRow u (s .rows) ≡ some x → meets (dataWindow r) (dataWindow x) ≡ false
+abbrev pub Apart : (ℕ → Bool) → State → Type 0
+Apart A s = (t u : ℕ) → A t ≡ true → A u ≡ false → Clear t u s
 
 -- the register and data windows of task t meet no other task's
-pub record Alone (t : ℕ) (s : State) : Type 0 where
-  pub registers : (u : ℕ) → u ≢ t → (r x : Row) → findRow t (s .rows) ≡ some r → findRow u (s .rows) ≡ some x → meets (registerWindow r) (registerWindow x) ≡ false
-  pub dataWords : (u : ℕ) → u ≢ t → (r x : Row) → findRow t (s .rows) ≡ some r → findRow u (s .rows) ≡ some x → meets (dataWindow r) (dataWindow x) ≡ false
+abbrev pub Alone : ℕ → State → Type 0
+Alone t s = (u : ℕ) → u ≢ t → Clear t u s

@@ -33,7 +33,7 @@ use Rattle.run.specs.declared.Counts.{Counts}
 use Rattle.run.specs.Run.{noCounts, runBy, run}
 use Rattle.run.specs.RunLaws.{after, run-after}
 use Rattle.run.specs.RunAgreement.{only, only-nil, only-in, only-out, Ready, runs-agree}
-use Rattle.run.specs.Compared.{cut, memoryIn, Compared, SameProgram, SameConstants, Apart, Alone}
+use Rattle.run.specs.Compared.{cut, memoryIn, Compared, SameProgram, SameConstants, Clear, Apart, Alone}
 
 -- ---- a part cut out of a list, and its places
 
@@ -76,7 +76,10 @@ cut-of-cells : (w : Window) (k l : List ℕ) → ((a : ℕ) → inside w a ≡ t
 unfolding cut
 cut-of-cells w k l h =
     ext? (cut w k) (cut w l)
-    (λ i. at-drop (w .first) (take (suc (w .last)) k) i ∙ go i (leb (suc (w .last)) (w .first + i)) (le? (suc (w .last)) (w .first + i)) ∙ sym (at-drop (w .first) (take (suc (w .last)) l) i))
+    (λ i.
+    at-drop (w .first) (take (suc (w .last)) k) i
+    ∙ go i (leb (suc (w .last)) (w .first + i)) (le? (suc (w .last)) (w .first + i))
+    ∙ sym (at-drop (w .first) (take (suc (w .last)) l) i))
   where
     go : (i : ℕ) (b : Bool) → Le? (suc (w .last)) (w .first + i) b
         → getElem? (take (suc (w .last)) k) (w .first + i) ≡ getElem? (take (suc (w .last)) l) (w .first + i)
@@ -164,10 +167,10 @@ apart-of A s k = record {
   where
     unmet : (m : Part) (t u : ℕ) → A t ≡ true → A u ≡ false → (r x : Row) → findRow t (s .rows) ≡ some r → findRow u (s .rows) ≡ some x
         → meets (windowIn m r) (windowIn m x) ≡ false
-    unmet registerTags t u i o r x e f = k .registers t u i o r x e f
-    unmet registerWords t u i o r x e f = k .registers t u i o r x e f
-    unmet dataTags t u i o r x e f = k .dataWords t u i o r x e f
-    unmet dataValues t u i o r x e f = k .dataWords t u i o r x e f
+    unmet registerTags t u i o r x e f = k t u i o .registers r x e f
+    unmet registerWords t u i o r x e f = k t u i o .registers r x e f
+    unmet dataTags t u i o r x e f = k t u i o .dataWords r x e f
+    unmet dataValues t u i o r x e f = k t u i o .dataWords r x e f
 
 -- ---- two runs
 
@@ -205,10 +208,7 @@ only-one t (u ∷ ts) = go (eqb u t) refl (only-one t ts)
         only-out (λ u. eqb u t) u ts m ∙ ih ∙ ap (λ (n : ℕ). replicate n t) k
 
 apart-of-alone : (t : ℕ) (s : State) → Alone t s → Apart (λ u. eqb u t) s
-apart-of-alone t s k = record {
-  registers = λ v u m n r x e f. k .registers u (eqb-false u t n) r x (subst (λ (y : ℕ). findRow y (s .rows) ≡ some r) (eqb-true v t m) e) f;
-  dataWords = λ v u m n r x e f. k .dataWords u (eqb-false u t n) r x (subst (λ (y : ℕ). findRow y (s .rows) ≡ some r) (eqb-true v t m) e) f;
-}
+apart-of-alone t s k v u m n = subst (λ (y : ℕ). Clear y u s) (sym (eqb-true v t m)) (k u (eqb-false u t n))
 
 -- the set with one member
 pub isolation : (t : ℕ) (ts us : List ℕ) (s s′ : State) → Inv s → Inv s′ → Alone t s → Alone t s′

@@ -1,6 +1,6 @@
 -- The numbers of the refusals, and when a schedule is accepted.
 use Prim.Native.Nat.{ℕ}
-use mathlib.Core.Bool.{Bool, _&&_, not, cond}
+use mathlib.Core.Bool.{Bool, true, false, cond, _&&_}
 use mathlib.Core.Option.{Option, none, some}
 use mathlib.Core.List.{List}
 use lib.Dec.{leb, ltb}
@@ -44,6 +44,10 @@ scheduleRefusal schedule =
     cond (ltb 65535 (length schedule)) (some ListLength)
     (cond (every itemSound schedule) none (some Item))
 
+unfoldable pub accepts : Option Refusal → Bool
+accepts none = true
+accepts (some e) = false
+
 -- a schedule is accepted if neither 9 nor 10 applies
 unfoldable pub scheduleSound : List ℕ → Bool
-scheduleSound schedule = leb (length schedule) 65535 && every itemSound schedule
+scheduleSound schedule = accepts (scheduleRefusal schedule)

@@ -21,7 +21,7 @@ use Rattle.step.specs.declared.ProcessTable.{ProcessTable}
 use Rattle.step.specs.declared.Ending.{Ending}
 use Rattle.step.specs.declared.Ending.the-variants.{Executed, Waved, Trapped, Idle}
 use Rattle.step.specs.Queues.{total, headOf, turned, shifted, joined, livePts, lowestFree}
-use Rattle.step.specs.State.{State, putRow, queueIn, withQueue}
+use Rattle.step.specs.State.{taskQueue, State, putRow, withQueue}
 
 -- the writes of a decision to registers, in order: sources are set empty first, then the destination is written
 unfoldable pub registerWrites : Decision → List Write
@@ -60,15 +60,21 @@ tableOf psw queues flag = record { psw = psw; queues = queues; flag = flag }
 
 -- the table with a PSW in the head process of task t
 unfoldable pub headPsw : ProcessTable → (t psw : ℕ) → List ℕ
-headPsw table t p = set (table .psw) (headOf (queueIn (table .queues) t)) p
+headPsw table t p = set (table .psw) (headOf (taskQueue table t)) p
 
--- a create: the creator goes to the tail, and the created process behind it with the lowest free PT
+-- the table with q for the queue of the row's task, and other PSWs
+abbrev pub requeued : ProcessTable → Row → (psw : List ℕ) → Queue → (flag : ℕ) → ProcessTable
+requeued table r psw q flag = tableOf psw (withQueue (table .queues) (r .task) q) flag
+
+-- the creator's PSW in its process, and the new one in the process with the lowest free PT
+unfoldable pub createdPsw : ProcessTable → Row → (p new : ℕ) → List ℕ
+createdPsw table r p new = set (headPsw table (r .task) p) (lowestFree (table .queues)) new
+
+-- a create: the creator goes to the tail, and the created process behind it
 unfoldable pub createdIn : ProcessTable → Row → (p new : ℕ) → Change
 createdIn table r p new = record {
   row = r;
-  table =
-      tableOf (set (headPsw table (r .task) p) (lowestFree (table .queues)) new)
-      (withQueue (table .queues) (r .task) (joined (turned (queueIn (table .queues) (r .task))) (lowestFree (table .queues)))) (table .flag);
+  table = requeued table r (createdPsw table r p new) (joined (turned (taskQueue table (r .task))) (lowestFree (table .queues))) (table .flag);
   ending = Executed;
 }
 
@@ -76,9 +82,7 @@ createdIn table r p new = record {
 unfoldable pub faultIn : ProcessTable → Row → (p new : ℕ) → Change
 faultIn table r p new = record {
   row = trappedRow r CreateFault p;
-  table =
-      tableOf (set (headPsw table (r .task) p) (lowestFree (table .queues)) new)
-      (withQueue (table .queues) (r .task) (joined (queueIn (table .queues) (r .task)) (lowestFree (table .queues)))) 1;
+  table = requeued table r (createdPsw table r p new) (joined (taskQueue table (r .task)) (lowestFree (table .queues))) 1;
   ending = Trapped CreateFault p;
 }
 
@@ -86,12 +90,12 @@ faultIn table r p new = record {
 unfoldable pub fateIn : ProcessTable → Row → Fate → Change
 fateIn table r (Continues p) = record {
   row = r;
-  table = tableOf (headPsw table (r .task) p) (withQueue (table .queues) (r .task) (turned (queueIn (table .queues) (r .task)))) (table .flag);
+  table = requeued table r (headPsw table (r .task) p) (turned (taskQueue table (r .task))) (table .flag);
   ending = Executed;
 }
 fateIn table r Quits = record {
   row = r;
-  table = tableOf (table .psw) (withQueue (table .queues) (r .task) (shifted (queueIn (table .queues) (r .task)))) (table .flag);
+  table = requeued table r (table .psw) (shifted (taskQueue table (r .task))) (table .flag);
   ending = Executed;
 }
 fateIn table r (Creates p new) = cond (ltb (suc (length (livePts (table .queues)))) total) (createdIn table r p new) (faultIn table r p new)
@@ -100,7 +104,7 @@ fateIn table r (Creates p new) = cond (ltb (suc (length (livePts (table .queues)
 unfoldable pub changeOf : ProcessTable → Row → Decision → Change
 changeOf table r (Waits w) = record {
   row = r;
-  table = tableOf (table .psw) (withQueue (table .queues) (r .task) (turned (queueIn (table .queues) (r .task)))) (table .flag);
+  table = requeued table r (table .psw) (turned (taskQueue table (r .task))) (table .flag);
   ending = Waved;
 }
 changeOf table r (Traps k p) = record {

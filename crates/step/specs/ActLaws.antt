@@ -20,9 +20,9 @@ use Rattle.operation.specs.declared.Decision.the-variants.{Waits, Traps, Execut
 use Rattle.step.specs.declared.Queue.{Queue}
 use Rattle.step.specs.declared.ProcessTable.{ProcessTable}
 use Rattle.step.specs.Queues.{total, capacity, occ, hit, listOf, headOf, turned, shifted, joined, livePts, lowestFree, freeFrom}
-use Rattle.step.specs.State.{State, findRow, putRow, noQueue, queueIn, withQueue, pswsOf, processesOf}
+use Rattle.step.specs.State.{taskQueue, State, findRow, putRow, noQueue, queueIn, withQueue, pswsOf, processesOf}
 use Rattle.step.specs.Owned.{Own, owner, ownIn, own}
-use Rattle.step.specs.Act.{Change, changeOf, fateIn, createdIn, faultIn, headPsw, trappedRow, act}
+use Rattle.step.specs.Act.{createdPsw, Change, changeOf, fateIn, createdIn, faultIn, headPsw, trappedRow, act}
 use Rattle.step.specs.Occurrences.{occ-rot, occ-rest, occ-snoc, hit-differ, joined-once, rot, rest, head-to, Distinct, Heads, Free, free-spec, psws-set, psws-rot, psws-rest, psws-head, psws-other, psws-go, psws-join}
 use Rattle.step.specs.QueueLaws.{Shaped, heads, turned-list, shifted-list, joined-list, turned-shaped, shifted-shaped, joined-shaped, turned-len, occ-set, occ-get, occ-two, len-get}
 use Rattle.step.specs.RowLaws.{find-task, find-put-same, find-put-other}
@@ -70,23 +70,23 @@ local (Executes e) o = owner (o .row) (localFate (e .fate) (o .processes))
 pub record Moved (table : ProcessTable) (t : ℕ) (q : Queue) (psw : List ℕ) : Type 0 where
   pub wide : length psw ≡ 64
   pub queue : Shaped q
-  pub once : (p : ℕ) → occ p (listOf q) + occ p (livePts (table .queues)) ≤ 1 + occ p (listOf (queueIn (table .queues) t))
+  pub once : (p : ℕ) → occ p (listOf q) + occ p (livePts (table .queues)) ≤ 1 + occ p (listOf (taskQueue table t))
   pub small : (p : ℕ) → 64 ≤ p → occ p (listOf q) ≡ 0
-  pub others : (l : List ℕ) → ((p : ℕ) → occ p (listOf (queueIn (table .queues) t)) + occ p l ≤ occ p (livePts (table .queues))) → pswsOf psw l ≡ pswsOf (table .psw) l
+  pub others : (l : List ℕ) → ((p : ℕ) → occ p (listOf (taskQueue table t)) + occ p l ≤ occ p (livePts (table .queues))) → pswsOf psw l ≡ pswsOf (table .psw) l
 
 module _ (table : ProcessTable) (t : ℕ) (tidy : Tidy table) (low : 1 ≤ t) (high : t ≤ 7) where
   pub index : t - 1 < length (table .queues)
   index = omega (arith, tidy .seven)
 
-  pub mine : Shaped (queueIn (table .queues) t)
+  pub mine : Shaped (taskQueue table t)
   unfolding queueIn
   mine = tidy .shaped (t - 1) (omega arith)
 
-  pub le : (p : ℕ) → occ p (listOf (queueIn (table .queues) t)) ≤ occ p (livePts (table .queues))
+  pub le : (p : ℕ) → occ p (listOf (taskQueue table t)) ≤ occ p (livePts (table .queues))
   unfolding queueIn
   le p = occ-get p (table .queues) (t - 1) index
 
-  distinct : Distinct (table .psw) (listOf (queueIn (table .queues) t))
+  distinct : Distinct (table .psw) (listOf (taskQueue table t))
   distinct = record { once = λ p. omega (arith, tidy .once p, le p); inside = λ p h. omega (arith, tidy .small p (omega (arith, tidy .wide)), le p) }
 
   -- a table that has moved is tidy
@@ -121,43 +121,43 @@ module _ (table : ProcessTable) (t : ℕ) (tidy : Tidy table) (low : 1 ≤ t) (h
       (λ p. occ-two p (table .queues) (t - 1) (u - 1) (λ e. n (omega arith)) index (omega (arith, tidy .seven)))
 
   -- the head process: its queue is not empty
-  module _ (nonempty : queueIn (table .queues) t .len ≢ 0) where
-    front : Heads (headOf (queueIn (table .queues) t)) (listOf (queueIn (table .queues) t))
-    front = heads (queueIn (table .queues) t) nonempty
+  module _ (nonempty : taskQueue table t .len ≢ 0) where
+    front : Heads (headOf (taskQueue table t)) (listOf (taskQueue table t))
+    front = heads (taskQueue table t) nonempty
 
     pub wide-head : (p : ℕ) → length (headPsw table t p) ≡ 64
     unfolding headPsw
     wide-head p = length-set (table .psw) _ p ∙ tidy .wide
 
-    pub others-head : (p : ℕ) (l : List ℕ) → ((x : ℕ) → occ x (listOf (queueIn (table .queues) t)) + occ x l ≤ occ x (livePts (table .queues))) → pswsOf (headPsw table t p) l ≡ pswsOf (table .psw) l
+    pub others-head : (p : ℕ) (l : List ℕ) → ((x : ℕ) → occ x (listOf (taskQueue table t)) + occ x l ≤ occ x (livePts (table .queues))) → pswsOf (headPsw table t p) l ≡ pswsOf (table .psw) l
     unfolding headPsw
     others-head p l h =
-        psws-other (table .psw) (listOf (queueIn (table .queues) t)) l (headOf (queueIn (table .queues) t)) p front (λ x. omega (arith, h x, tidy .once x))
+        psws-other (table .psw) (listOf (taskQueue table t)) l (headOf (taskQueue table t)) p front (λ x. omega (arith, h x, tidy .once x))
 
     -- head to tail, with the same PSWs and with another for the head
     pub moved-turn : (psw : List ℕ) → length psw ≡ 64
-        → ((l : List ℕ) → ((p : ℕ) → occ p (listOf (queueIn (table .queues) t)) + occ p l ≤ occ p (livePts (table .queues))) → pswsOf psw l ≡ pswsOf (table .psw) l)
-        → Moved table t (turned (queueIn (table .queues) t)) psw
+        → ((l : List ℕ) → ((p : ℕ) → occ p (listOf (taskQueue table t)) + occ p l ≤ occ p (livePts (table .queues))) → pswsOf psw l ≡ pswsOf (table .psw) l)
+        → Moved table t (turned (taskQueue table t)) psw
     moved-turn psw w o = record {
       wide = w;
-      queue = turned-shaped (queueIn (table .queues) t) mine;
-      once = λ p. omega (arith, ap (occ p) (turned-list (queueIn (table .queues) t) mine), occ-rot p (listOf (queueIn (table .queues) t)), tidy .once p);
-      small = λ p h. omega (arith, ap (occ p) (turned-list (queueIn (table .queues) t) mine), occ-rot p (listOf (queueIn (table .queues) t)), tidy .small p h, le p);
+      queue = turned-shaped (taskQueue table t) mine;
+      once = λ p. omega (arith, ap (occ p) (turned-list (taskQueue table t) mine), occ-rot p (listOf (taskQueue table t)), tidy .once p);
+      small = λ p h. omega (arith, ap (occ p) (turned-list (taskQueue table t) mine), occ-rot p (listOf (taskQueue table t)), tidy .small p h, le p);
       others = o;
     }
 
-    pub moved-shift : Moved table t (shifted (queueIn (table .queues) t)) (table .psw)
+    pub moved-shift : Moved table t (shifted (taskQueue table t)) (table .psw)
     moved-shift = record {
       wide = tidy .wide;
-      queue = shifted-shaped (queueIn (table .queues) t) mine;
-      once = λ p. omega (arith, ap (occ p) (shifted-list (queueIn (table .queues) t)), occ-rest p (listOf (queueIn (table .queues) t)), tidy .once p);
-      small = λ p h. omega (arith, ap (occ p) (shifted-list (queueIn (table .queues) t)), occ-rest p (listOf (queueIn (table .queues) t)), tidy .small p h, le p);
+      queue = shifted-shaped (taskQueue table t) mine;
+      once = λ p. omega (arith, ap (occ p) (shifted-list (taskQueue table t)), occ-rest p (listOf (taskQueue table t)), tidy .once p);
+      small = λ p h. omega (arith, ap (occ p) (shifted-list (taskQueue table t)), occ-rest p (listOf (taskQueue table t)), tidy .small p h, le p);
       others = λ l h. refl;
     }
 
     -- a process joins behind q, which holds the task's PTs
     moved-join : (q : Queue) (p f new : ℕ) → Shaped q → q .len < 64 → Free f 64 (livePts (table .queues))
-        → ((x : ℕ) → occ x (listOf q) ≡ occ x (listOf (queueIn (table .queues) t)))
+        → ((x : ℕ) → occ x (listOf q) ≡ occ x (listOf (taskQueue table t)))
         → Moved table t (joined q f) (set (headPsw table t p) f new)
     moved-join q p f new s k fr e = record {
       wide = length-set (headPsw table t p) f new ∙ wide-head p;
@@ -173,7 +173,7 @@ module _ (table : ProcessTable) (t : ℕ) (tidy : Tidy table) (low : 1 ≤ t) (h
 
     own-stay : (p flag : ℕ) → processesOf (record { psw = headPsw table t p; queues = table .queues; flag = flag }) t ≡ head-to p (processesOf table t)
     unfolding processesOf headPsw
-    own-stay p flag = psws-head (table .psw) (listOf (queueIn (table .queues) t)) (headOf (queueIn (table .queues) t)) p front distinct
+    own-stay p flag = psws-head (table .psw) (listOf (taskQueue table t)) (headOf (taskQueue table t)) p front distinct
 
     other-stay : (p flag u : ℕ) → t ≢ u → 1 ≤ u → u ≤ 7
         → processesOf (record { psw = headPsw table t p; queues = table .queues; flag = flag }) u ≡ processesOf table u
@@ -183,65 +183,65 @@ module _ (table : ProcessTable) (t : ℕ) (tidy : Tidy table) (low : 1 ≤ t) (h
         (λ x. occ-two x (table .queues) (t - 1) (u - 1) (λ e. n (omega arith)) index (omega (arith, tidy .seven)))
 
     -- the processes of the task after each kind of move
-    own-turn : (flag : ℕ) → processesOf (record { psw = table .psw; queues = withQueue (table .queues) t (turned (queueIn (table .queues) t)); flag = flag }) t
+    own-turn : (flag : ℕ) → processesOf (record { psw = table .psw; queues = withQueue (table .queues) t (turned (taskQueue table t)); flag = flag }) t
         ≡ rot (processesOf table t)
     unfolding processesOf
     own-turn flag =
-        own-moved (turned (queueIn (table .queues) t)) (table .psw) flag
-        ∙ ap (pswsOf (table .psw)) (turned-list (queueIn (table .queues) t) mine) ∙ psws-rot (table .psw) (listOf (queueIn (table .queues) t))
+        own-moved (turned (taskQueue table t)) (table .psw) flag
+        ∙ ap (pswsOf (table .psw)) (turned-list (taskQueue table t) mine) ∙ psws-rot (table .psw) (listOf (taskQueue table t))
 
     own-go : (p flag : ℕ)
-        → processesOf (record { psw = headPsw table t p; queues = withQueue (table .queues) t (turned (queueIn (table .queues) t)); flag = flag }) t
+        → processesOf (record { psw = headPsw table t p; queues = withQueue (table .queues) t (turned (taskQueue table t)); flag = flag }) t
         ≡ rot (head-to p (processesOf table t))
     unfolding processesOf headPsw
     own-go p flag =
-        own-moved (turned (queueIn (table .queues) t)) (headPsw table t p) flag
-        ∙ ap (pswsOf (headPsw table t p)) (turned-list (queueIn (table .queues) t) mine)
-        ∙ psws-go (table .psw) (listOf (queueIn (table .queues) t)) (headOf (queueIn (table .queues) t)) p front distinct
+        own-moved (turned (taskQueue table t)) (headPsw table t p) flag
+        ∙ ap (pswsOf (headPsw table t p)) (turned-list (taskQueue table t) mine)
+        ∙ psws-go (table .psw) (listOf (taskQueue table t)) (headOf (taskQueue table t)) p front distinct
 
-    own-shift : (flag : ℕ) → processesOf (record { psw = table .psw; queues = withQueue (table .queues) t (shifted (queueIn (table .queues) t)); flag = flag }) t
+    own-shift : (flag : ℕ) → processesOf (record { psw = table .psw; queues = withQueue (table .queues) t (shifted (taskQueue table t)); flag = flag }) t
         ≡ rest (processesOf table t)
     unfolding processesOf
     own-shift flag =
-        own-moved (shifted (queueIn (table .queues) t)) (table .psw) flag
-        ∙ ap (pswsOf (table .psw)) (shifted-list (queueIn (table .queues) t)) ∙ psws-rest (table .psw) (listOf (queueIn (table .queues) t))
+        own-moved (shifted (taskQueue table t)) (table .psw) flag
+        ∙ ap (pswsOf (table .psw)) (shifted-list (taskQueue table t)) ∙ psws-rest (table .psw) (listOf (taskQueue table t))
 
-    own-join : (p f new flag : ℕ) → queueIn (table .queues) t .len < 64 → Free f 64 (livePts (table .queues))
-        → processesOf (record { psw = set (headPsw table t p) f new; queues = withQueue (table .queues) t (joined (turned (queueIn (table .queues) t)) f); flag = flag }) t
+    own-join : (p f new flag : ℕ) → taskQueue table t .len < 64 → Free f 64 (livePts (table .queues))
+        → processesOf (record { psw = set (headPsw table t p) f new; queues = withQueue (table .queues) t (joined (turned (taskQueue table t)) f); flag = flag }) t
         ≡ rot (head-to p (processesOf table t)) ++ (new ∷ [])
     unfolding processesOf
     own-join p f new flag k fr =
-        own-moved (joined (turned (queueIn (table .queues) t)) f) (set (headPsw table t p) f new) flag
+        own-moved (joined (turned (taskQueue table t)) f) (set (headPsw table t p) f new) flag
         ∙ ap (pswsOf (set (headPsw table t p) f new))
-        (joined-list (turned (queueIn (table .queues) t)) f (turned-shaped (queueIn (table .queues) t) mine) (omega (arith, turned-len (queueIn (table .queues) t))))
-        ∙ psws-join (headPsw table t p) (listOf (turned (queueIn (table .queues) t))) f new
-        (omega (arith, ap (occ f) (turned-list (queueIn (table .queues) t) mine), occ-rot f (listOf (queueIn (table .queues) t)), le f, fr .none-such))
+        (joined-list (turned (taskQueue table t)) f (turned-shaped (taskQueue table t) mine) (omega (arith, turned-len (taskQueue table t))))
+        ∙ psws-join (headPsw table t p) (listOf (turned (taskQueue table t))) f new
+        (omega (arith, ap (occ f) (turned-list (taskQueue table t) mine), occ-rot f (listOf (taskQueue table t)), le f, fr .none-such))
         (omega (arith, wide-head p, fr .small))
         ∙ ap (λ (l : List ℕ). l ++ (new ∷ [])) after-turn
       where
-        after-turn : pswsOf (headPsw table t p) (listOf (turned (queueIn (table .queues) t))) ≡ rot (head-to p (processesOf table t))
-        after-turn = sym (own-moved (turned (queueIn (table .queues) t)) (headPsw table t p) flag) ∙ own-go p flag
+        after-turn : pswsOf (headPsw table t p) (listOf (turned (taskQueue table t))) ≡ rot (head-to p (processesOf table t))
+        after-turn = sym (own-moved (turned (taskQueue table t)) (headPsw table t p) flag) ∙ own-go p flag
 
     -- a process joins behind the turned queue, and behind the queue as it is
-    pub moved-created : (p new : ℕ) → length (livePts (table .queues)) < 64 → Moved table t (joined (turned (queueIn (table .queues) t)) (lowestFree (table .queues))) (set (headPsw table t p) (lowestFree (table .queues)) new)
+    pub moved-created : (p new : ℕ) → length (livePts (table .queues)) < 64 → Moved table t (joined (turned (taskQueue table t)) (lowestFree (table .queues))) (set (headPsw table t p) (lowestFree (table .queues)) new)
     unfolding lowestFree queueIn
     moved-created p new k =
-        moved-join (turned (queueIn (table .queues) t)) p (lowestFree (table .queues)) new (turned-shaped (queueIn (table .queues) t) mine)
-        (omega (arith, turned-len (queueIn (table .queues) t), len-get (table .queues) (t - 1) index))
+        moved-join (turned (taskQueue table t)) p (lowestFree (table .queues)) new (turned-shaped (taskQueue table t) mine)
+        (omega (arith, turned-len (taskQueue table t), len-get (table .queues) (t - 1) index))
         (free-spec 64 (livePts (table .queues)) k)
-        (λ x. omega (arith, ap (occ x) (turned-list (queueIn (table .queues) t) mine), occ-rot x (listOf (queueIn (table .queues) t))))
+        (λ x. omega (arith, ap (occ x) (turned-list (taskQueue table t) mine), occ-rot x (listOf (taskQueue table t))))
 
     own-created : (p new flag : ℕ) → length (livePts (table .queues)) < 64
-        → processesOf (record { psw = set (headPsw table t p) (lowestFree (table .queues)) new; queues = withQueue (table .queues) t (joined (turned (queueIn (table .queues) t)) (lowestFree (table .queues))); flag = flag }) t
+        → processesOf (record { psw = set (headPsw table t p) (lowestFree (table .queues)) new; queues = withQueue (table .queues) t (joined (turned (taskQueue table t)) (lowestFree (table .queues))); flag = flag }) t
         ≡ rot (head-to p (processesOf table t)) ++ (new ∷ [])
     unfolding lowestFree queueIn
     own-created p new flag k =
         own-join p (lowestFree (table .queues)) new flag (omega (arith, len-get (table .queues) (t - 1) index)) (free-spec 64 (livePts (table .queues)) k)
 
-    pub moved-fault : (p new : ℕ) → length (livePts (table .queues)) < 64 → Moved table t (joined (queueIn (table .queues) t) (lowestFree (table .queues))) (set (headPsw table t p) (lowestFree (table .queues)) new)
+    pub moved-fault : (p new : ℕ) → length (livePts (table .queues)) < 64 → Moved table t (joined (taskQueue table t) (lowestFree (table .queues))) (set (headPsw table t p) (lowestFree (table .queues)) new)
     unfolding lowestFree queueIn
     moved-fault p new k =
-        moved-join (queueIn (table .queues) t) p (lowestFree (table .queues)) new mine
+        moved-join (taskQueue table t) p (lowestFree (table .queues)) new mine
         (omega (arith, len-get (table .queues) (t - 1) index)) (free-spec 64 (livePts (table .queues)) k) (λ x. refl)
 
 -- a change with the flag down after it
@@ -252,27 +252,27 @@ record Good (table : ProcessTable) (r : Row) (d : Decision) (c : Change) : Type 
   mine : owner (c .row) (processesOf (c .table) (r .task)) ≡ local d (owner r (processesOf table (r .task)))
   others : (u : ℕ) → r .task ≢ u → 1 ≤ u → u ≤ 7 → processesOf (c .table) u ≡ processesOf table u
 
-module _ (table : ProcessTable) (r : Row) (tidy : Tidy table) (low : 1 ≤ r .task) (high : r .task ≤ 7) (nonempty : queueIn (table .queues) (r .task) .len ≢ 0) where
+module _ (table : ProcessTable) (r : Row) (tidy : Tidy table) (low : 1 ≤ r .task) (high : r .task ≤ 7) (nonempty : taskQueue table (r .task) .len ≢ 0) where
   good-fate : (d : Decision) (f : Fate) → ((o : Own) → local d o ≡ owner (o .row) (localFate f (o .processes)))
       → fateIn table r f .table .flag ≡ 0 → Good table r d (fateIn table r f)
-  unfolding fateIn createdIn faultIn
+  unfolding fateIn createdIn createdPsw faultIn
   good-fate d (Continues p) e z =
-      let m : Moved table (r .task) (turned (queueIn (table .queues) (r .task))) (headPsw table (r .task) p) = moved-turn table (r .task) tidy low high nonempty (headPsw table (r .task) p) (wide-head table (r .task) tidy low high nonempty p) (others-head table (r .task) tidy low high nonempty p) in
+      let m : Moved table (r .task) (turned (taskQueue table (r .task))) (headPsw table (r .task) p) = moved-turn table (r .task) tidy low high nonempty (headPsw table (r .task) p) (wide-head table (r .task) tidy low high nonempty p) (others-head table (r .task) tidy low high nonempty p) in
       record {
         keeps = refl;
         was = z;
-        tidy = tidy-moved table (r .task) tidy low high (turned (queueIn (table .queues) (r .task))) (headPsw table (r .task) p) (table .flag) m;
+        tidy = tidy-moved table (r .task) tidy low high (turned (taskQueue table (r .task))) (headPsw table (r .task) p) (table .flag) m;
         mine = ap (owner r) (own-go table (r .task) tidy low high nonempty p (table .flag)) ∙ sym (e (owner r (processesOf table (r .task))));
-        others = other-moved table (r .task) tidy low high (turned (queueIn (table .queues) (r .task))) (headPsw table (r .task) p) (table .flag) m;
+        others = other-moved table (r .task) tidy low high (turned (taskQueue table (r .task))) (headPsw table (r .task) p) (table .flag) m;
       }
   good-fate d Quits e z =
-      let m : Moved table (r .task) (shifted (queueIn (table .queues) (r .task))) (table .psw) = moved-shift table (r .task) tidy low high nonempty in
+      let m : Moved table (r .task) (shifted (taskQueue table (r .task))) (table .psw) = moved-shift table (r .task) tidy low high nonempty in
       record {
         keeps = refl;
         was = z;
-        tidy = tidy-moved table (r .task) tidy low high (shifted (queueIn (table .queues) (r .task))) (table .psw) (table .flag) m;
+        tidy = tidy-moved table (r .task) tidy low high (shifted (taskQueue table (r .task))) (table .psw) (table .flag) m;
         mine = ap (owner r) (own-shift table (r .task) tidy low high nonempty (table .flag)) ∙ sym (e (owner r (processesOf table (r .task))));
-        others = other-moved table (r .task) tidy low high (shifted (queueIn (table .queues) (r .task))) (table .psw) (table .flag) m;
+        others = other-moved table (r .task) tidy low high (shifted (taskQueue table (r .task))) (table .psw) (table .flag) m;
       }
   good-fate d (Creates p new) e z = go (ltb (suc (length (livePts (table .queues)))) total) (λ k. ltb-true (suc (length (livePts (table .queues)))) total k) z
     where
@@ -280,26 +280,26 @@ module _ (table : ProcessTable) (r : Row) (tidy : Tidy table) (low : 1 ≤ r .ta
           → cond b (createdIn table r p new) (faultIn table r p new) .table .flag ≡ 0
           → Good table r d (cond b (createdIn table r p new) (faultIn table r p new))
       go true k z =
-          let m : Moved table (r .task) (joined (turned (queueIn (table .queues) (r .task))) (lowestFree (table .queues))) (set (headPsw table (r .task) p) (lowestFree (table .queues)) new) = moved-created table (r .task) tidy low high nonempty p new (omega (arith, k refl)) in
+          let m : Moved table (r .task) (joined (turned (taskQueue table (r .task))) (lowestFree (table .queues))) (set (headPsw table (r .task) p) (lowestFree (table .queues)) new) = moved-created table (r .task) tidy low high nonempty p new (omega (arith, k refl)) in
           record {
             keeps = refl;
             was = z;
-            tidy = tidy-moved table (r .task) tidy low high (joined (turned (queueIn (table .queues) (r .task))) (lowestFree (table .queues))) (set (headPsw table (r .task) p) (lowestFree (table .queues)) new) (table .flag) m;
+            tidy = tidy-moved table (r .task) tidy low high (joined (turned (taskQueue table (r .task))) (lowestFree (table .queues))) (set (headPsw table (r .task) p) (lowestFree (table .queues)) new) (table .flag) m;
             mine = ap (owner r) (own-created table (r .task) tidy low high nonempty p new (table .flag) (omega (arith, k refl))) ∙ sym (e (owner r (processesOf table (r .task))));
-            others = other-moved table (r .task) tidy low high (joined (turned (queueIn (table .queues) (r .task))) (lowestFree (table .queues))) (set (headPsw table (r .task) p) (lowestFree (table .queues)) new) (table .flag) m;
+            others = other-moved table (r .task) tidy low high (joined (turned (taskQueue table (r .task))) (lowestFree (table .queues))) (set (headPsw table (r .task) p) (lowestFree (table .queues)) new) (table .flag) m;
           }
       go false k z = absurd (omega arith)
 
   good : (d : Decision) → changeOf table r d .table .flag ≡ 0 → Good table r d (changeOf table r d)
   unfolding changeOf local trappedRow
   good (Waits w) z =
-      let m : Moved table (r .task) (turned (queueIn (table .queues) (r .task))) (table .psw) = moved-turn table (r .task) tidy low high nonempty (table .psw) (tidy .wide) (λ l h. refl) in
+      let m : Moved table (r .task) (turned (taskQueue table (r .task))) (table .psw) = moved-turn table (r .task) tidy low high nonempty (table .psw) (tidy .wide) (λ l h. refl) in
       record {
         keeps = refl;
         was = z;
-        tidy = tidy-moved table (r .task) tidy low high (turned (queueIn (table .queues) (r .task))) (table .psw) (table .flag) m;
+        tidy = tidy-moved table (r .task) tidy low high (turned (taskQueue table (r .task))) (table .psw) (table .flag) m;
         mine = ap (owner r) (own-turn table (r .task) tidy low high nonempty (table .flag));
-        others = other-moved table (r .task) tidy low high (turned (queueIn (table .queues) (r .task))) (table .psw) (table .flag) m;
+        others = other-moved table (r .task) tidy low high (turned (taskQueue table (r .task))) (table .psw) (table .flag) m;
       }
   good (Traps k p) z = record {
     keeps = refl;
@@ -312,7 +312,7 @@ module _ (table : ProcessTable) (r : Row) (tidy : Tidy table) (low : 1 ≤ r .ta
 
 -- ---- the same of the whole state
 
-module _ (s : State) (t : ℕ) (r : Row) (inv : Inv s) (at : findRow t (s .rows) ≡ some r) (nonempty : queueIn (s .table .queues) t .len ≢ 0)
+module _ (s : State) (t : ℕ) (r : Row) (inv : Inv s) (at : findRow t (s .rows) ≡ some r) (nonempty : taskQueue (s .table) t .len ≢ 0)
     (d : Decision) (down : act s r d .state .table .flag ≡ 0) where
   task-t : r .task ≡ t
   task-t = find-task t (s .rows) r at
@@ -374,7 +374,7 @@ local-fixed (Executes e) o = refl
 
 -- nothing lowers the flag
 fate-flag : (table : ProcessTable) (r : Row) (f : Fate) → fateIn table r f .table .flag ≡ 0 → table .flag ≡ 0
-unfolding fateIn createdIn faultIn
+unfolding fateIn createdIn createdPsw faultIn
 fate-flag table r (Continues p) z = z
 fate-flag table r Quits z = z
 fate-flag table r (Creates p new) z = go (ltb (suc (length (livePts (table .queues)))) total) z

@@ -18,7 +18,7 @@ use Rattle.operation.specs.declared.Decision.{Decision}
 use Rattle.operation.specs.declared.Decision.the-variants.{Waits, Traps, Executes}
 use Rattle.operation.specs.Decide.{decide}
 use Rattle.operation.specs.SoundDecisions.{SoundEnvironment, SoundDecision, decide-sound}
-use Rattle.step.specs.State.{State, findRow, queueIn, processesOf, environment}
+use Rattle.step.specs.State.{taskQueue, State, findRow, processesOf, environment}
 use Rattle.step.specs.Act.{changeOf, registerWrites, dataWrites, act}
 use Rattle.step.specs.Step.{noTrap, headDecides, rowDecides, step}
 use Rattle.step.specs.Soundness.{every, listed, sound}
@@ -88,7 +88,7 @@ data-writes flag (Executes e) h = more (h .datum) done
 
 -- ---- the state
 
-module _ (s : State) (t : ℕ) (r : Row) (before : Sound s) (at : findRow t (s .rows) ≡ some r) (nonempty : queueIn (s .table .queues) t .len ≢ 0) where
+module _ (s : State) (t : ℕ) (r : Row) (before : Sound s) (at : findRow t (s .rows) ≡ some r) (nonempty : taskQueue (s .table) t .len ≢ 0) where
   task-t : r .task ≡ t
   task-t = find-task t (s .rows) r at
 

@@ -39,7 +39,9 @@ taskSound before t = ltb before t && leb t 7
 
 -- the trap kinds that may be recorded; FF is none
 unfoldable pub kinds : List ℕ
-kinds = kindOf CreateFault ∷ kindOf Illegal ∷ kindOf Protection ∷ kindOf Privileged ∷ kindOf Supervisor ∷ kindOf Simulated ∷ kindOf DataException ∷ noTrap ∷ []
+kinds =
+    kindOf CreateFault ∷ kindOf Illegal ∷ kindOf Protection ∷ kindOf Privileged ∷ kindOf Supervisor ∷ kindOf Simulated ∷
+    kindOf DataException ∷ noTrap ∷ []
 
 unfoldable pub kindSound : ℕ → Bool
 kindSound k = member k kinds

@@ -40,6 +40,9 @@ noQueue = record { pts = []; head = 0; len = 0 }
 unfoldable pub queueIn : List Queue → ℕ → Queue
 queueIn qs t = getD qs (t - 1) noQueue
 
+abbrev pub taskQueue : ProcessTable → ℕ → Queue
+taskQueue table t = queueIn (table .queues) t
+
 -- the queues with q for the queue of task t
 unfoldable pub withQueue : List Queue → ℕ → Queue → List Queue
 withQueue qs t q = set qs (t - 1) q
@@ -50,7 +53,7 @@ pswsOf psw pts = map (λ p. getD psw p 0) pts
 
 -- the processes of task t as the list of their PSWs from head to tail, without PTs
 unfoldable pub processesOf : ProcessTable → ℕ → List ℕ
-processesOf table t = pswsOf (table .psw) (listOf (queueIn (table .queues) t))
+processesOf table t = pswsOf (table .psw) (listOf (taskQueue table t))
 
 -- all that a step of the task with row r may read, its head process having this PSW
 unfoldable pub environment : State → Row → (psw : ℕ) → Environment

@@ -20,7 +20,7 @@ use Rattle.operation.specs.Environment.{Environment}
 use Rattle.operation.specs.declared.Decision.{Decision}
 use Rattle.step.specs.declared.Queue.{Queue}
 use Rattle.step.specs.Queues.{ring, listOf}
-use Rattle.step.specs.State.{State, findRow, queueIn, pswsOf, processesOf, environment}
+use Rattle.step.specs.State.{taskQueue, State, findRow, pswsOf, processesOf, environment}
 use Rattle.step.specs.Act.{act, registerWrites, dataWrites}
 use Rattle.step.specs.Step.{noTrap, headDecides, rowDecides, acted, stepRow, stepBy}
 use Rattle.step.specs.RowLaws.{some-inj, none-some}
@@ -95,14 +95,14 @@ module _ (decide : Environment → Decision) where
   -- the step is idle, or an act of the task's row
   pub data Steps (t : ℕ) (s : State) : Type 0 where
     idles : stepBy decide t s .state ≡ s → decided s (own t s) ≡ none → Steps t s
-    acts : (r : Row) (d : Decision) → findRow t (s .rows) ≡ some r → queueIn (s .table .queues) t .len ≢ 0
+    acts : (r : Row) (d : Decision) → findRow t (s .rows) ≡ some r → taskQueue (s .table) t .len ≢ 0
         → own t s ≡ some (owner r (processesOf (s .table) t)) → decided s (own t s) ≡ some d
         → stepBy decide t s .state ≡ act s r d .state → Steps t s
 
   -- a task that decides has a process
-  deciding : (t : ℕ) (s : State) (r : Row) (d : Decision) → rowDecides decide s r (processesOf (s .table) t) ≡ some d → queueIn (s .table .queues) t .len ≢ 0
+  deciding : (t : ℕ) (s : State) (r : Row) (d : Decision) → rowDecides decide s r (processesOf (s .table) t) ≡ some d → taskQueue (s .table) t .len ≢ 0
   unfolding rowDecides headDecides processesOf
-  deciding t s r d e z = go (eqb (r .kind) noTrap) (ap (rowDecides decide s r) (sym (none-live (queueIn (s .table .queues) t) (s .table .psw) z)) ∙ e)
+  deciding t s r d e z = go (eqb (r .kind) noTrap) (ap (rowDecides decide s r) (sym (none-live (taskQueue (s .table) t) (s .table .psw) z)) ∙ e)
     where
       go : (b : Bool) → cond b (headDecides decide s r []) none ≡ some d → ⊥
       go true k = none-some d k

@@ -22,8 +22,8 @@ use Rattle.operation.specs.SoundDecisions.{SoundFate, SoundDecision}
 use Rattle.step.specs.declared.Queue.{Queue}
 use Rattle.step.specs.declared.ProcessTable.{ProcessTable}
 use Rattle.step.specs.Queues.{total, occ, listOf, turned, shifted, joined, livePts, lowestFree}
-use Rattle.step.specs.State.{queueIn, withQueue, pswsOf, processesOf}
-use Rattle.step.specs.Act.{Change, changeOf, fateIn, createdIn, faultIn, headPsw, tableOf}
+use Rattle.step.specs.State.{taskQueue, queueIn, withQueue, pswsOf, processesOf}
+use Rattle.step.specs.Act.{createdPsw, Change, changeOf, fateIn, createdIn, faultIn, headPsw, tableOf}
 use Rattle.step.specs.Soundness.{every, listed, queueShaped, queuesSound, ptSound, flagSound, roomSound}
 use Rattle.step.specs.Occurrences.{Free, free-spec, occ-rot, occ-rest, occ-snoc, hit-differ}
 use Rattle.step.specs.QueueLaws.{Shaped, length-live, len-get, occ-set, turned-list, turned-shaped, turned-len, shifted-len, joined-len, shifted-list, joined-list}
@@ -151,7 +151,7 @@ abbrev live : ProcessTable → List ℕ
 live table = livePts (table .queues)
 
 abbrev queueAt : ProcessTable → ℕ → Queue
-queueAt table t = queueIn (table .queues) t
+queueAt table t = taskQueue table t
 
 -- a listed task with a process, in a sound table
 pub record Ready (rows : List Row) (table : ProcessTable) (t : ℕ) : Type 0 where
@@ -159,7 +159,7 @@ pub record Ready (rows : List Row) (table : ProcessTable) (t : ℕ) : Type 0 whe
   pub low : 1 ≤ t
   pub high : t ≤ 7
   pub lists : listed t rows ≡ true
-  pub nonempty : queueIn (table .queues) t .len ≢ 0
+  pub nonempty : taskQueue table t .len ≢ 0
 
 -- q for the queue of task t, other PSWs and another flag
 record Kept (table : ProcessTable) (t : ℕ) (q : Queue) (psw : List ℕ) (flag : ℕ) : Type 0 where
@@ -300,7 +300,7 @@ pub record SoundChange (rows : List Row) (r : Row) (c : Change) : Type 0 where
 
 module _ {rows : List Row} {table : ProcessTable} (r : Row) (ready : Ready rows table (r .task)) where
   fate-sound : (f : Fate) → SoundFate (table .flag) f → SoundChange rows r (fateIn table r f)
-  unfolding fateIn createdIn faultIn
+  unfolding fateIn createdIn createdPsw faultIn
   fate-sound (Continues p) h = record { row = replaces-self r; table = kept-sound ready (kept-go ready p h) }
   fate-sound Quits h = record { row = replaces-self r; table = kept-sound ready (kept-leave ready) }
   fate-sound (Creates p new) h = go (ltb (suc (length (live table))) total) (ltb-true (suc (length (live table))) total)
