@@ -12,7 +12,7 @@ use borrow.Author.Tests.{ltb-false, lt-ltb}
 use Rattle.run.specs.declared.Refusal.{Refusal}
 use Rattle.run.specs.declared.Refusal.the-variants.{Short, Count}
 use Rattle.image.specs.Codec.{Bytes, Result, refused, accepted, bind, number, field, Codec, num, count, seq, via, decMany, okMany, section}
-use Rattle.window.specs.Conjunctions.{also}
+use Rattle.word.specs.Conjunctions.{also}
 
 -- what reading gives is a value of the format, and what it leaves of bytes is bytes
 pub record Tested {A : Type 0} (c : Codec A) : Type 0 where

@@ -10,7 +10,7 @@ use borrow.Author.Tests.{eq-eqb, le-leb}
 use Rattle.word.specs.Fields.{pswSound}
 use Rattle.window.specs.declared.Row.{Row}
 use Rattle.window.specs.Memories.{wordOf}
-use Rattle.window.specs.Bools.{and-left, and-right, or-right}
+use Rattle.word.specs.Bools.{and-left, and-right, or-right}
 use Rattle.step.specs.Queues.{livePts}
 use Rattle.step.specs.Soundness.{every, distinct, rowsSound, listed, windowsSound, queueShaped, queuesSound, ptSound, roomSound}
 use Rattle.step.specs.Soundness.{processesSound, tableSound, memoriesSound, sound}
@@ -19,7 +19,7 @@ use Rattle.run.specs.declared.Refusal.the-variants.{Window, Processes}
 use Rattle.image.specs.declared.Process.{Process}
 use Rattle.image.specs.Codec.{Bytes, Result, refused, accepted}
 use Rattle.image.specs.FormatLaws.{image-tested}
-use Rattle.window.specs.Conjunctions.{also}
+use Rattle.word.specs.Conjunctions.{also}
 use Rattle.image.specs.Passed.{PassedAll, PassedImage, image-passes, taskOf}
 use Rattle.image.specs.Weights.{Permuted, permuted-length, permuted-every, permuted-distinct}
 use Rattle.image.specs.TableLaws.{length-queueOf, length-ptsOf, livePts-queuesOf, length-queuesOf, ptsFrom-all, ptsOf-none, length-pswTable}

@@ -11,7 +11,7 @@ use Rattle.window.specs.declared.Row.{Row}
 use Rattle.window.specs.declared.Cell.{Cell}
 use Rattle.window.specs.Sound.{bits, wordSound, tagSound, stateSound}
 use Rattle.window.specs.Memories.{tagOf, wordOf}
-use Rattle.window.specs.Bools.{and-left, and-right}
+use Rattle.word.specs.Bools.{and-left, and-right}
 use Rattle.step.specs.Soundness.{every, taskSound, kindSound, recordSound, basesSound, rowSound, rowsSound, ptSound, flagSound, listed, wordsSound}
 use Rattle.step.specs.Soundness.{memorySound}
 use Rattle.run.specs.declared.Refusal.{Refusal}
@@ -20,7 +20,7 @@ use Rattle.image.specs.declared.Process.{Process}
 use Rattle.image.specs.Codec.{Codec, num, count, seq, via, okMany, section}
 use Rattle.image.specs.Image.{Image, rowCodec, rowTask, noHeader, plain, tasksCodec, processCodec, processTask, processesCodec, wordCodec}
 use Rattle.image.specs.Image.{wordsCodec, cellCodec, cellsCodec, alike, imageCodec, ptOf, memoryOf}
-use Rattle.window.specs.Conjunctions.{also, both, and-map, and-assoc}
+use Rattle.word.specs.Conjunctions.{also, both, and-map, and-assoc}
 
 -- ---- values
 

@@ -9,13 +9,13 @@ use lib.ListN.{length, getD, set, take, drop, replicate, length-append, length-r
 use lib.Seq.{drop-cons, take-append-seam}
 use lib.Dec.{eqb}
 use borrow.Author.Tests.{eq-eqb, ne-eqb}
-use Rattle.window.specs.Bools.{Eq?, same, differ, eq?, and-left, and-right, clash}
+use Rattle.word.specs.Bools.{Eq?, same, differ, eq?, and-left, and-right, clash}
 use Rattle.step.specs.Queues.{ring, listOf, livePts}
 use Rattle.step.specs.State.{pswsOf}
 use Rattle.step.specs.Soundness.{every}
 use Rattle.image.specs.declared.Process.{Process}
 use Rattle.image.specs.Image.{ptOf, ptsOf, queueOf, queuesOf, pswTable}
-use Rattle.window.specs.Conjunctions.{also}
+use Rattle.word.specs.Conjunctions.{also}
 use Rattle.image.specs.Passed.{taskOf, pswOf}
 use Rattle.image.specs.Weights.{weigh, weigh-append, Permuted}
 

@@ -8,7 +8,7 @@ use Prim.Native.Nat.{ℕ, _-_, _^_}
 use lib.ListN.{getD}
 use lib.Dec.{ltb}
 use borrow.Author.Tests.{ltb-true}
-use Rattle.window.specs.Bools.{and-left, and-right}
+use Rattle.word.specs.Bools.{and-left, and-right}
 use Rattle.step.specs.Soundness.{every}
 use Rattle.window.specs.declared.Row.{Row}
 use Rattle.window.specs.Windows.{registerWindow, programWindow, dataWindow}

@@ -7,8 +7,8 @@ use mathlib.Core.List.{List, [], _∷_}
 use Prim.Native.Nat.{ℕ}
 use lib.Dec.{eqb}
 use borrow.Author.Tests.{eqb-true, not-true}
-use Rattle.window.specs.Bools.{and-left, and-right}
-use Rattle.window.specs.Conjunctions.{both}
+use Rattle.word.specs.Bools.{and-left, and-right}
+use Rattle.word.specs.Conjunctions.{both}
 use Rattle.window.specs.declared.Row.{Row}
 use Rattle.window.specs.Windows.{meets, registerWindow, dataWindow}
 use Rattle.step.specs.State.{State, findRow}

@@ -11,7 +11,7 @@ use lib.ListN.{length, getElem?, take, drop, replicate}
 use lib.Seq.{slice}
 use lib.Dec.{eqb, leb}
 use borrow.Author.Tests.{eq-eqb, eqb-true, eqb-false}
-use Rattle.window.specs.Bools.{Le?, below, above, le?, clash}
+use Rattle.word.specs.Bools.{Le?, below, above, le?, clash}
 use Rattle.window.specs.declared.Row.{Row}
 use Rattle.window.specs.declared.Window.{Window}
 use Rattle.window.specs.Windows.{inside, meets, registerWindow, programWindow, dataWindow}

@@ -7,7 +7,7 @@ use mathlib.Core.List.{List, [], _∷_}
 use Prim.Native.Nat.{ℕ}
 use lib.ListN.{getElem?}
 use lib.Dec.{eqb}
-use Rattle.window.specs.Bools.{Eq?, same, differ, eq?}
+use Rattle.word.specs.Bools.{Eq?, same, differ, eq?}
 use Rattle.window.specs.declared.Row.{Row}
 use Rattle.window.specs.declared.Window.{Window}
 use Rattle.window.specs.declared.Cell.{Cell}

@@ -13,7 +13,7 @@ use Rattle.window.specs.declared.Write.the-variants.{Nothing, Put}
 use Rattle.window.specs.Windows.{inside}
 use Rattle.window.specs.Memories.{Memory, seen, stored, storedOne, storedAll, written, tagOf, wordOf}
 use Rattle.window.specs.MemoryLaws.{length-storedAll}
-use Rattle.window.specs.Conjunctions.{also, both}
+use Rattle.word.specs.Conjunctions.{also, both}
 use Rattle.window.specs.Sound.{wordSound}
 use Rattle.operation.specs.SoundDecisions.{SoundWrite}
 use Rattle.step.specs.Soundness.{every, wordsSound, memorySound}

@@ -8,7 +8,7 @@ use native.Mathlib.Omega.{arith}
 use lib.ListN.{length, getD, set, length-set, length-append}
 use lib.Seq.{getD-set-same, getD-set-other}
 use lib.Dec.{eqb, leb}
-use Rattle.window.specs.Bools.{Eq?, same, differ, eq?, Le?, below, above, le?}
+use Rattle.word.specs.Bools.{Eq?, same, differ, eq?, Le?, below, above, le?}
 use Rattle.step.specs.Queues.{hit, occ, freeFrom}
 use Rattle.step.specs.State.{pswsOf}
 

@@ -11,7 +11,7 @@ use lib.ListN.{length, getD, set, length-set, length-append}
 use lib.Seq.{getD-set-same, getD-set-other}
 use native.Mathlib.Numerals.{add-one}
 use borrow.Author.Tests.{lt-leb}
-use Rattle.window.specs.Bools.{Le?, below, above, le?}
+use Rattle.word.specs.Bools.{Le?, below, above, le?}
 use Rattle.step.specs.declared.Queue.{Queue}
 use Rattle.step.specs.Queues.{ring, listOf, headOf, turned, shifted, joined, livePts, occ}
 use Rattle.step.specs.State.{noQueue}

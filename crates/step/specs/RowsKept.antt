@@ -6,7 +6,7 @@ use mathlib.Core.List.{List}
 use lib.Dec.{eqb}
 use Rattle.word.specs.Fields.{pswSound}
 use Rattle.window.specs.declared.Row.{Row}
-use Rattle.window.specs.Conjunctions.{also, both, and-map}
+use Rattle.word.specs.Conjunctions.{also, both, and-map}
 use Rattle.window.specs.Windows.{registerWindow, programWindow, dataWindow}
 use Rattle.operation.specs.declared.Trap.{Trap}
 use Rattle.operation.specs.declared.Trap.the-variants.{CreateFault, Illegal, Protection, Privileged, Supervisor, Simulated, DataException}

@@ -11,9 +11,9 @@ use lib.ListN.{length, getD}
 use lib.Dec.{eqb, leb, ltb}
 use borrow.Author.Tests.{eqb-true, eq-eqb, leb-true, ltb-true}
 use Rattle.window.specs.declared.Row.{Row}
-use Rattle.window.specs.Bools.{Eq?, same, differ, eq?, and-left, and-right, or-right}
+use Rattle.word.specs.Bools.{Eq?, same, differ, eq?, and-left, and-right, or-right}
 use Rattle.window.specs.Sound.{tagSound, stateSound}
-use Rattle.window.specs.Conjunctions.{also, both}
+use Rattle.word.specs.Conjunctions.{also, both}
 use Rattle.step.specs.declared.Queue.{Queue}
 use Rattle.step.specs.declared.ProcessTable.{ProcessTable}
 use Rattle.step.specs.Queues.{hit, occ, livePts}

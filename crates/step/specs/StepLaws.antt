@@ -8,7 +8,7 @@ use Prim.Native.Nat.{ℕ, zero, suc}
 use native.Mathlib.Omega.{arith}
 use lib.ListN.{length, getElem?}
 use lib.Dec.{eqb}
-use Rattle.window.specs.Bools.{Eq?, same, differ, eq?}
+use Rattle.word.specs.Bools.{Eq?, same, differ, eq?}
 use Rattle.window.specs.declared.Row.{Row}
 use Rattle.window.specs.declared.Window.{Window}
 use Rattle.window.specs.declared.Cell.{Cell}

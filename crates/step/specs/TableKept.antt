@@ -11,8 +11,8 @@ use lib.Dec.{eqb, leb, ltb}
 use borrow.Author.Tests.{eq-eqb, le-leb, leb-true, lt-ltb, ltb-true, not-true}
 use Rattle.word.specs.Fields.{pswSound}
 use Rattle.window.specs.declared.Row.{Row}
-use Rattle.window.specs.Bools.{Eq?, same, differ, eq?, Le?, below, above, le?, or-right, clash}
-use Rattle.window.specs.Conjunctions.{also}
+use Rattle.word.specs.Bools.{Eq?, same, differ, eq?, Le?, below, above, le?, or-right, clash}
+use Rattle.word.specs.Conjunctions.{also}
 use Rattle.operation.specs.declared.Trap.the-variants.{CreateFault}
 use Rattle.operation.specs.declared.Fate.{Fate}
 use Rattle.operation.specs.declared.Fate.the-variants.{Continues, Quits, Creates}

@@ -13,7 +13,7 @@ use Rattle.window.specs.declared.Write.{Write}
 use Rattle.window.specs.declared.Write.the-variants.{Nothing, Put}
 use Rattle.window.specs.Windows.{inside}
 use Rattle.window.specs.Memories.{Memory, seen, cellIn, cellAt, stored, storedOne, storedAll}
-use Rattle.window.specs.Bools.{Eq?, same, differ, eq?, clash}
+use Rattle.word.specs.Bools.{Eq?, same, differ, eq?, clash}
 
 -- what a place holds once v is stored there: nothing where there is no such place
 over : ℕ → Option ℕ → Option ℕ

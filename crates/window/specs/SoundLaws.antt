@@ -6,7 +6,7 @@ use native.Mathlib.Omega.{arith}
 use lib.Dec.{leb}
 use borrow.Author.Tests.{le-leb, leb-true, lt-ltb, ltb-true}
 use Rattle.window.specs.Sound.{bits, wordSound, tagSound}
-use Rattle.window.specs.Bools.{Le?, below, above, le?, and-left, and-right, and-both, or-right}
+use Rattle.word.specs.Bools.{Le?, below, above, le?, and-left, and-right, and-both, or-right}
 
 pub word-sound : (w : ℕ) → w < 2 ^ 64 → wordSound w ≡ true
 unfolding wordSound bits

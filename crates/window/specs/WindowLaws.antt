@@ -12,7 +12,7 @@ use Rattle.window.specs.declared.Window.{Window}
 use Rattle.window.specs.declared.Place.{Place}
 use Rattle.window.specs.declared.Place.the-variants.{At, Violation}
 use Rattle.window.specs.Windows.{windowOf, inside, placeIn, meets}
-use Rattle.window.specs.Bools.{Le?, below, above, le?, and-left, and-right, and-both}
+use Rattle.word.specs.Bools.{Le?, below, above, le?, and-left, and-right, and-both}
 
 -- a real address in a window, as an order
 pub record In (w : Window) (a : ℕ) : Type 0 where

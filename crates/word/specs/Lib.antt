@@ -4,3 +4,5 @@ pub mod Bits
 pub mod Integers
 pub mod Tests
 pub mod WordLaws
+pub mod Bools
+pub mod Conjunctions

@@ -16,6 +16,7 @@ use Rattle.word.specs.declared.Bit.{Bit}
 use Rattle.word.specs.declared.Bit.the-variants.{Bitclr, Bitset, Encode0, Encode1}
 use Rattle.word.specs.declared.Integer.{Integer}
 use Rattle.word.specs.declared.Integer.the-variants.{Add, Sub, Inc, Dec, Mul}
+use Rattle.word.specs.Bools.{and-left}
 use Rattle.word.specs.Fields.{pswOf, pswSound, nextOf}
 use Rattle.word.specs.Vectors.{digitOf, digitsBy, vectorOf}
 use Rattle.word.specs.Bits.{weightOf, bitIn, bitsetOf, bitclrOf, encode1Of, encode0Of, bitOf}
@@ -43,11 +44,8 @@ next-sound psw = psw-sound _ _ _ _
 -- a sound PSW is a word
 pub psw-word : (psw : ℕ) → pswSound psw ≡ true → psw < 2 ^ 64
 unfolding pswSound
-psw-word psw e = let h : psw < 2 ^ 56 = ltb-true psw (2 ^ 56) (go (ltb psw (2 ^ 56)) (eqb (psw / 2 ^ 20 % 2 ^ 4) 0) e) in omega arith
-  where
-    go : (a b : Bool) → a && b ≡ true → a ≡ true
-    go true b e = refl
-    go false b e = e
+psw-word psw e =
+    let h : psw < 2 ^ 56 = ltb-true psw (2 ^ 56) (and-left (ltb psw (2 ^ 56)) (eqb (psw / 2 ^ 20 % 2 ^ 4) 0) e) in omega arith
 
 -- digit by digit
 joined-lt : (f : ℕ → ℕ → ℕ) → ((a b : ℕ) → f (a % 2) (b % 2) ≤ 1) → (k a b : ℕ) → digitsBy f k a b < 2 ^ k

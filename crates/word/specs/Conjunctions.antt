@@ -1,7 +1,7 @@
 -- Tests joined by `&&`, with the tests found from their proofs.
 use mathlib.Core.Path.{_≡_, refl}
 use mathlib.Core.Bool.{Bool, true, false, _&&_}
-use Rattle.window.specs.Bools.{and-left, and-right, and-both}
+use Rattle.word.specs.Bools.{and-left, and-right, and-both}
 
 pub also : {a b : Bool} → a ≡ true → b ≡ true → a && b ≡ true
 also {a} {b} e f = and-both a b e f
