@@ -1,0 +1,361 @@
+"""Random inputs for the batch program of document 01.
+
+    python3 inputs.py SEED COUNT
+
+prints one line per input, in hex: the input, the emulator's output, the final image (- where refused).
+A summary of what the inputs reached goes to standard error.
+"""
+
+import collections
+import random
+import sys
+
+import emulator
+from emulator import Cell, Process, Psw, Row, State, WORD, constant_field, instruction_word, register_field
+
+ZERO_CONSTANT = 100                 # displacement past every constant, so that it reads as zero
+PLAIN_CODES = {operation[0]: code for code, operation in emulator.OPERATIONS.items()}
+TRAP_WORDS = ('unlisted', 'privileged', 'simulated', 'svc', 'unused', 'access', 'destination', 'window', 'data')
+# Operations of the source that document 01 does not list, or lists with other low digits.
+UNLISTED_CODES = (0x711E, 0x7112, 0x610F, 0x4C00, 0x9C02, 0xB871, 0x7300, 0x7201, 0x7142, 0x7970, 0x7973, 0x1971,
+                  0x6C20, 0x7C40, 0xBC80, 0xFCE2, 0x0001, 0xFFFF)
+
+
+# Values
+
+def landing_word(rng):
+    """A word that serves as a byte address and as a PSW: mostly a small multiple of 8."""
+    kind = rng.random()
+    if kind < 0.90:
+        return 8 * rng.choice((0, 0, 0, 1, 1, 1, 1, 1, 2, 3))
+    if kind < 0.94:
+        return rng.choice((1, 4, 7, 12, 250, 256, 264, 504, 512, 1 << 31, (1 << 32) - 8, (1 << 31) + 8))
+    if kind < 0.95:
+        return WORD - 7                                     # -8, for the X forms
+    if kind < 0.96:
+        return rng.getrandbits(32) << 32 | 8                # bits above the address
+    return Psw(rng.choice((0, 1, 8191)), rng.choice((0, 1, 2, 2047)), rng.choice((0, 0, 0x40, 0x7F)), 8).word()
+
+
+def number_word(rng):
+    """A word for arithmetic, often at an edge."""
+    kind = rng.random()
+    if kind < 0.45:
+        return rng.choice((0, 0, 1, 2, 5, 63, 64, WORD, WORD - 1, 1 << 63, (1 << 63) - 1, 1 << 62, 1 << 32, 1 << 31))
+    if kind < 0.65:
+        return rng.randrange(100)
+    if kind < 0.75:
+        return WORD - rng.randrange(100)
+    return rng.getrandbits(64)
+
+
+# Instructions
+
+def source_field(rng, size, landing=False):
+    """A legal source; landing asks for a constant or an odd register, which hold landing words."""
+    if rng.random() < (0.5 if landing else 0.25):
+        if rng.random() < 0.3:
+            return constant_field(ZERO_CONSTANT, rng.random() < 0.3)
+        return constant_field(rng.randrange(7), rng.random() < 0.2)
+    displacement = rng.randrange(size)
+    if landing:
+        displacement |= 1
+    access = rng.choices((0, 1, 2, 3), (75, 14, 9, 2))[0]
+    return indexed_or_not(rng, displacement, access)
+
+
+def destination_field(rng, size):
+    """A legal destination, mostly an even register, so that landing words last."""
+    displacement = rng.randrange(size)
+    if rng.random() < 0.9:
+        displacement &= ~1
+    return indexed_or_not(rng, displacement, rng.choices((0, 1, 2, 3), (76, 12, 7, 5))[0])
+
+
+def indexed_or_not(rng, displacement, access):
+    if rng.random() < 0.15:
+        return register_field(displacement % 2, access, 1)
+    return register_field(displacement, access)
+
+
+def test_digit(rng):
+    """Any of the sixteen tests, often one that holds."""
+    return 7 if rng.random() < 0.3 else rng.randrange(16)
+
+
+def fields_of(rng, operation, size):
+    """Legal second, third and fourth field of an operation."""
+    fields = []
+    landing = operation[0] in ('B', 'CALL', 'CREATE') or operation[0] in DATA_NAMES
+    for role in operation[1:]:
+        if role == 'D':
+            fields.append(destination_field(rng, size))
+        elif role == 'S1':
+            fields.append(source_field(rng, size, landing))
+        elif role in ('S0', 'S2'):
+            indexing = role == 'S2' and operation[0] in ('LODX', 'STOX')
+            fields.append(source_field(rng, size, indexing))
+        else:
+            fields.append(0)
+    return fields
+
+
+DATA_NAMES = [operation[0] for operation in emulator.DATA_ACCESS.values()]
+LEGAL = [name for name in PLAIN_CODES if name != 'SVC'] + ['B', 'CALL', 'CREATE', 'QT'] + DATA_NAMES
+
+
+def legal_instruction(rng, size, words, crowded):
+    """An instruction that passes check 2, for a register window of this size and a program window of words."""
+    weights = {name: 2 for name in LEGAL}
+    weights.update({'NOP': 1, 'B': 5, 'CALL': 3, 'CREATE': 30 if crowded else 4, 'QT': 1})
+    weights.update({name: 6 for name in DATA_NAMES})
+    name = rng.choices(LEGAL, [weights[name] for name in LEGAL])[0]
+    if name in PLAIN_CODES:
+        code = PLAIN_CODES[name]
+        return instruction_word(code, *fields_of(rng, emulator.OPERATIONS[code], size))
+    for high, operation in emulator.CONTROL.items():
+        if operation[0] == name:
+            fields = fields_of(rng, operation, size)
+            low_digit = {'B': 0, 'CALL': 1, 'CREATE': rng.randrange(16), 'QT': 0}[name]
+            if name == 'B':
+                fields[0] = rng.randrange(8)                # the low part of P; S1 mostly adds 0 or 8
+                if rng.random() < 0.5:
+                    fields[:2] = rng.randrange(words), constant_field(ZERO_CONSTANT)
+            return instruction_word(high << 8 | test_digit(rng) << 4 | low_digit, *fields)
+    for code, operation in emulator.DATA_ACCESS.items():
+        if operation[0] == name:
+            if name in ('LODI', 'LODX'):
+                code |= rng.choices((0, 1, 2), (5, 2, 3))[0] << 2
+            else:
+                code |= rng.choices((0, 2), (6, 4))[0]
+            return instruction_word(code, *fields_of(rng, operation, size))
+    raise AssertionError(name)
+
+
+def trapping_instruction(rng, size, words):
+    """An instruction with something wrong, or SVC."""
+    kind = rng.choice(TRAP_WORDS)
+    fields = [rng.choice((0, 1, constant_field(1), rng.getrandbits(16))) for _ in range(3)]
+    good = legal_instruction(rng, size, words, False)
+    if kind == 'unlisted':
+        code = rng.getrandbits(16) if rng.random() < 0.3 else rng.choice(UNLISTED_CODES)
+        return instruction_word(code, *fields)
+    if kind == 'privileged':
+        return instruction_word(rng.choice(sorted(emulator.PRIVILEGED_CODES)), *fields)
+    if kind == 'simulated':
+        return instruction_word(rng.choice(sorted(emulator.SIMULATED_CODES)), *fields)
+    if kind == 'svc':
+        return instruction_word(0x0900, fields[0], 0, rng.choice((0, 0, 0, 1)))
+    if kind == 'unused':                                    # a nonzero unused field, or a constant's unused bit
+        code = PLAIN_CODES[rng.choice(('NOP', 'MOV', 'CLR', 'ONE', 'NOT', 'INC', 'DEC', 'ENCODE0', 'ENCODE1'))]
+        return rng.choice((instruction_word(code, 0, 0, rng.choice((1, constant_field(0)))),
+                           good | 0x6000 << rng.choice((0, 16, 32))))
+    if kind == 'access':                                    # access codes 4 to 7
+        return good | 0x2000 << rng.choice((0, 16, 32))
+    if kind == 'destination':
+        return instruction_word(0x7126, constant_field(0), register_field(0), register_field(0))
+    if kind == 'window':
+        outside = register_field(rng.choice((size, size + 1, 2047)), rng.randrange(4), rng.randrange(2))
+        return rng.choice((instruction_word(0x611F, outside, register_field(0)),
+                           instruction_word(0x7139, 0, outside, register_field(0)),
+                           instruction_word(0x7130 | 0x4901, 0, constant_field(0), outside)))
+    code = rng.choice(list(emulator.DATA_ACCESS)) | rng.choice((0x10, 0x10, 0x18, 0x12, rng.randrange(32)))
+    return instruction_word(code, *fields_of(rng, emulator.DATA_ACCESS[code & 0xFFE0], size))
+
+
+# Images
+
+def window(rng, units, least=1):
+    """First and last unit of a window of at least so many units, mostly the whole memory, now and then empty."""
+    if units == 0 or rng.random() < 0.02:
+        return rng.choice(((1, 0), (3, 2), (0x3FF, 0)))
+    if rng.random() < 0.5:
+        return 0, units - 1
+    first = rng.randrange(units)
+    last = rng.randrange(first, units)
+    return (first, last) if last - first >= least - 1 else (0, units - 1)
+
+
+def random_psw(rng, words):
+    pc = rng.randrange(words) if rng.random() < 0.985 else rng.choice((words, 0xFFFFF, words + 15))
+    utm = rng.choice((0x40, 0x20, 0x08, 0x02, 0x7F, 0x80, 0x01)) if rng.random() < 0.12 else 0
+    ri = rng.choice((1, 1, 1, 2, 2, 2, 2047)) if rng.random() < 0.2 else 0
+    ci = rng.choice((1, 2, 100, 8191)) if rng.random() < 0.2 else 0
+    return Psw(ci, ri, utm, pc)
+
+
+def random_rows(rng, state):
+    for task in sorted(rng.sample(range(1, 8), rng.choice((1, 1, 2, 2, 2, 3)))):
+        rb, rl = window(rng, len(state.registers) // 2, 2)
+        pb, pl = window(rng, len(state.program) // 16)
+        db, dl = window(rng, len(state.data) // 32)
+        cb = rng.choice((0, 0, 0, 1, 2, 4095))
+        row = Row(task, cb, rb, rl, pb, pl, db, dl)
+        if rng.random() < 0.05:
+            row.trap_kind, row.trap_psw = rng.choice(emulator.TRAP_KINDS), random_psw(rng, 16)
+        state.rows.append(row)
+        state.queues[task] = []
+
+
+def random_registers(rng, count):
+    registers = []
+    for place in range(count):
+        word = landing_word(rng) if place % 2 and rng.random() < 0.95 else number_word(rng)
+        quality = rng.randrange(7) if rng.random() < 0.25 else 0
+        registers.append(Cell(word, rng.random() < 0.8, quality))
+    return registers
+
+
+def random_program(rng, state, blocks, crowded):
+    """Words for a program memory of so many blocks of 16; most blocks end in a branch back."""
+    sizes = [2 * (row.rl - row.rb + 1) for row in state.rows if row.rb <= row.rl]
+    size = min(sizes) if sizes else 2
+    words = min([16 * (row.pl - row.pb + 1) for row in state.rows if row.pb <= row.pl] + [16 * blocks])
+    share = rng.choice((0.0, 0.02, 0.03, 0.05, 0.2))       # of trapping instructions
+    program = []
+    for place in range(16 * blocks):
+        if place % 16 == 15 and rng.random() < 0.9:
+            zero = constant_field(ZERO_CONSTANT)
+            program.append(instruction_word(0x3870, rng.randrange(16), zero, zero))
+        elif rng.random() < share:
+            program.append(trapping_instruction(rng, size, words))
+        else:
+            program.append(legal_instruction(rng, size, words, crowded))
+    return program
+
+
+def random_state(rng):
+    state = State()
+    crowded = rng.random() < 0.12
+    blocks = rng.choice((1, 1, 2, 3))
+    state.program = [0] * (16 * blocks)                     # filled once the windows are known
+    state.constants = [landing_word(rng) if rng.random() < 0.9 else number_word(rng) for _ in range(rng.randrange(7))]
+    state.registers = random_registers(rng, rng.randrange(4, 17))
+    data_words = rng.choice((0, 32, 32, 64, 64))
+    state.data = [Cell(number_word(rng), rng.random() < 0.6) for _ in range(data_words)]
+    random_rows(rng, state)
+    state.program = random_program(rng, state, blocks, crowded)
+    live = rng.randrange(60, 65) if crowded else rng.choice((0, 1, 1, 2, 2, 3, 4, 5, 6))
+    for pt in rng.sample(range(64), live):
+        row = rng.choice(state.rows)
+        state.queues[row.task].append(Process(pt, random_psw(rng, 16 * max(1, row.pl - row.pb + 1))))
+    state.flag = 1 if live == 64 or rng.random() < 0.1 else 0
+    return state
+
+
+# Damage, for the refusals
+
+def damaged_state(rng, state, schedule):
+    """Spoil a state or schedule so that its image is refused as a whole, or its run."""
+    row = rng.choice(state.rows)
+    kind = rng.choice(('register window', 'program window', 'data window', 'pt', 'flag', 'schedule', 'schedule'))
+    if kind == 'register window':
+        row.rb, row.rl = 0, len(state.registers) // 2 + rng.randrange(2)
+    elif kind == 'program window':
+        row.pb, row.pl = 0, len(state.program) // 16 + rng.randrange(2)
+    elif kind == 'data window':
+        row.db, row.dl = 0, len(state.data) // 32 + rng.randrange(2)
+    elif kind == 'pt':
+        state.queues[row.task] += [Process(5, Psw(0, 0, 0, 0)), Process(5, Psw(0, 0, 0, 0))]
+    elif kind == 'flag':
+        state.flag = 0
+        state.queues = {other.task: [] for other in state.rows}
+        state.queues[row.task] = [Process(pt, Psw(0, 0, 0, 0)) for pt in range(64)]
+    else:
+        schedule[rng.randrange(len(schedule))] = rng.choice((0, 8, 255))
+
+
+def count_places(state, image_start):
+    """Byte places of the six section counts in the input."""
+    processes = image_start + 1 + 28 * len(state.rows)
+    constants = processes + 2 + 10 * len(state.live())
+    registers = constants + 2 + 8 * len(state.constants)
+    program = registers + 2 + 9 * len(state.registers)
+    data = program + 4 + 8 * len(state.program)
+    return image_start, processes, constants, registers, program, data
+
+
+def damaged_bytes(rng, state, data, image_start):
+    """Change a byte, cut short or append."""
+    kind = rng.choice(('cut', 'append', 'byte', 'head', 'head', 'head', 'count', 'count'))
+    if kind == 'cut':
+        return data[:rng.randrange(len(data))]
+    if kind == 'append':
+        return data + bytes(rng.randrange(1, 5))
+    data = bytearray(data)
+    if kind == 'byte':
+        place = rng.randrange(len(data))
+    elif kind == 'head':                                    # rows and the first processes
+        place = rng.randrange(image_start, min(len(data), image_start + 28 * len(state.rows) + 20))
+    else:
+        place = rng.choice(count_places(state, image_start))
+    data[place] = rng.choice((rng.randrange(256), data[place] ^ 1 << rng.randrange(8), 8, 0x40, 0xFF))
+    return bytes(data)
+
+
+def random_input(rng):
+    state = random_state(rng)
+    listed = [row.task for row in state.rows]
+    schedule = []
+    for _ in range(rng.randrange(4, 41)):
+        schedule.append(rng.choice(listed) if rng.random() < 0.94 else rng.randrange(1, 8))
+    damage = rng.random() < 1 / 8
+    by_state = damage and rng.random() < 0.4
+    if by_state:
+        damaged_state(rng, state, schedule)
+    data = len(schedule).to_bytes(2, 'big') + bytes(schedule) + emulator.write_image(state)
+    if damage and (not by_state or rng.random() < 0.2):
+        data = damaged_bytes(rng, state, data, 2 + len(schedule))
+    return data
+
+
+# Summary
+
+def head_operation(state, task):
+    """Name of the operation that the task's next step would execute, if its head has a legal instruction."""
+    row = state.row(task)
+    if row is None or not state.queues[task]:
+        return None
+    base, limit = row.program_window()
+    real = base + state.queues[task][0].psw.pc
+    try:
+        return emulator.decode(state.program[real])[0] if real <= limit else None
+    except emulator.Trap:
+        return None
+
+
+def tally(summary, data, output, image):
+    """Add what one input reached, replaying the run step by step."""
+    if image is None:
+        summary['refused', output.decode().strip()] += 1
+        return
+    count = int.from_bytes(data[:2], 'big')
+    state = emulator.read_image(data[2 + count:])
+    for task in data[2:2 + count]:
+        name = head_operation(state, task)
+        ending = emulator.step(state, task)
+        summary['steps', ending] += 1
+        if ending == emulator.TRAPPED:
+            summary['trapped', '%02X' % state.row(task).trap_kind] += 1
+        elif ending == emulator.EXECUTED:
+            summary['operations', name] += 1
+    summary['inputs', 'run'] += 1
+    assert emulator.write_image(state) == image
+
+
+def main():
+    seed, count = int(sys.argv[1]), int(sys.argv[2])
+    rng = random.Random(seed)
+    summary = collections.Counter()
+    for _ in range(count):
+        data = random_input(rng)
+        output, image = emulator.batch_with_image(data)
+        print(data.hex(), output.hex(), '-' if image is None else image.hex())
+        tally(summary, data, output, image)
+    for title in ('inputs', 'refused', 'steps', 'trapped', 'operations'):
+        found = sorted((what, times) for (group, what), times in summary.items() if group == title)
+        print(title + ':', ' '.join('%s %d' % pair for pair in found), file=sys.stderr)
+
+
+if __name__ == '__main__':
+    main()
