@@ -26,7 +26,7 @@ use Rattle.run.specs.Run.{run}
 use Rattle.image.specs.Codec.{Codec, Result, refused, accepted}
 use Rattle.image.specs.Image.{Decoded, bad, good, decode, stateOf, encode}
 use Rattle.report.specs.Report.{scheduleCodec, outputOf}
-use Rattle.report.specs.Opened.{opened}
+use Rattle.report.specs.Laws.Opened.{opened}
 
 -- the image that is written after the run
 written : (schedule : List ℕ) → Decoded → List ℕ

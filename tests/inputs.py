@@ -104,19 +104,25 @@ DATA_NAMES = [operation[0] for operation in emulator.DATA_ACCESS.values()]
 LEGAL = [name for name in PLAIN_CODES if name != 'SVC'] + ['B', 'CALL', 'CREATE', 'QT'] + DATA_NAMES
 
 
-def legal_instruction(rng, size, words, crowded):
+def operation_weights(crowded, with_data):
+    """How often each operation is to be drawn; many creates where processes are many already."""
+    weights = {name: 4 for name in LEGAL}
+    weights.update({'NOP': 2, 'B': 6, 'CALL': 6, 'CREATE': 60 if crowded else 6, 'QT': 1})
+    weights.update({name: 10 if with_data else 0.2 for name in DATA_NAMES})
+    return [weights[name] for name in LEGAL]
+
+
+def legal_instruction(rng, size, words, weights):
     """An instruction that passes check 2, for a register window of this size and a program window of words."""
-    weights = {name: 2 for name in LEGAL}
-    weights.update({'NOP': 1, 'B': 5, 'CALL': 3, 'CREATE': 30 if crowded else 4, 'QT': 1})
-    weights.update({name: 6 for name in DATA_NAMES})
-    name = rng.choices(LEGAL, [weights[name] for name in LEGAL])[0]
+    name = rng.choices(LEGAL, weights)[0]
     if name in PLAIN_CODES:
         code = PLAIN_CODES[name]
         return instruction_word(code, *fields_of(rng, emulator.OPERATIONS[code], size))
     for high, operation in emulator.CONTROL.items():
         if operation[0] == name:
             fields = fields_of(rng, operation, size)
-            low_digit = {'B': 0, 'CALL': 1, 'CREATE': rng.randrange(16), 'QT': 0}[name]
+            high_address = rng.randrange(16) if rng.random() < 0.05 else 0
+            low_digit = {'B': high_address, 'CALL': 1, 'CREATE': rng.randrange(16), 'QT': 0}[name]
             if name == 'B':
                 fields[0] = rng.randrange(8)                # the low part of P; S1 mostly adds 0 or 8
                 if rng.random() < 0.5:
@@ -125,18 +131,18 @@ def legal_instruction(rng, size, words, crowded):
     for code, operation in emulator.DATA_ACCESS.items():
         if operation[0] == name:
             if name in ('LODI', 'LODX'):
-                code |= rng.choices((0, 1, 2), (5, 2, 3))[0] << 2
+                code |= rng.choices((0, 1, 2), (6, 2, 2))[0] << 2
             else:
-                code |= rng.choices((0, 2), (6, 4))[0]
+                code |= rng.choices((0, 2), (7, 3))[0]
             return instruction_word(code, *fields_of(rng, operation, size))
     raise AssertionError(name)
 
 
-def trapping_instruction(rng, size, words):
+def trapping_instruction(rng, size, words, weights):
     """An instruction with something wrong, or SVC."""
     kind = rng.choice(TRAP_WORDS)
     fields = [rng.choice((0, 1, constant_field(1), rng.getrandbits(16))) for _ in range(3)]
-    good = legal_instruction(rng, size, words, False)
+    good = legal_instruction(rng, size, words, weights)
     if kind == 'unlisted':
         code = rng.getrandbits(16) if rng.random() < 0.3 else rng.choice(UNLISTED_CODES)
         return instruction_word(code, *fields)
@@ -211,6 +217,7 @@ def random_program(rng, state, blocks, crowded):
     sizes = [2 * (row.rl - row.rb + 1) for row in state.rows if row.rb <= row.rl]
     size = min(sizes) if sizes else 2
     words = min([16 * (row.pl - row.pb + 1) for row in state.rows if row.pb <= row.pl] + [16 * blocks])
+    weights = operation_weights(crowded, all(row.db <= row.dl for row in state.rows))
     share = rng.choice((0.0, 0.02, 0.03, 0.05, 0.2))       # of trapping instructions
     program = []
     for place in range(16 * blocks):
@@ -218,9 +225,9 @@ def random_program(rng, state, blocks, crowded):
             zero = constant_field(ZERO_CONSTANT)
             program.append(instruction_word(0x3870, rng.randrange(16), zero, zero))
         elif rng.random() < share:
-            program.append(trapping_instruction(rng, size, words))
+            program.append(trapping_instruction(rng, size, words, weights))
         else:
-            program.append(legal_instruction(rng, size, words, crowded))
+            program.append(legal_instruction(rng, size, words, weights))
     return program
 
 
@@ -231,13 +238,13 @@ def random_state(rng):
     state.program = [0] * (16 * blocks)                     # filled once the windows are known
     state.constants = [landing_word(rng) if rng.random() < 0.9 else number_word(rng) for _ in range(rng.randrange(7))]
     state.registers = random_registers(rng, rng.randrange(4, 17))
-    data_words = rng.choice((0, 32, 32, 64, 64))
-    state.data = [Cell(number_word(rng), rng.random() < 0.6) for _ in range(data_words)]
+    data_words = rng.choice((0, 32, 32, 64, 64, 64))
+    state.data = [Cell(number_word(rng), rng.random() < 0.7) for _ in range(data_words)]
     random_rows(rng, state)
     state.program = random_program(rng, state, blocks, crowded)
-    live = rng.randrange(60, 65) if crowded else rng.choice((0, 1, 1, 2, 2, 3, 4, 5, 6))
-    for pt in rng.sample(range(64), live):
-        row = rng.choice(state.rows)
+    live = rng.randrange(60, 65) if crowded else rng.choice((0, 1, 2, 2, 3, 3, 4, 4, 5, 5, 6, 6))
+    for place, pt in enumerate(rng.sample(range(64), live)):
+        row = state.rows[place] if place < len(state.rows) else rng.choice(state.rows)
         state.queues[row.task].append(Process(pt, random_psw(rng, 16 * max(1, row.pl - row.pb + 1))))
     state.flag = 1 if live == 64 or rng.random() < 0.1 else 0
     return state

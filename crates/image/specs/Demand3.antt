@@ -4,14 +4,14 @@ use mathlib.Core.Bool.{true}
 use mathlib.Core.List.{List}
 use Prim.Native.Nat.{ℕ}
 use Rattle.step.specs.Queues.{occ}
-use Rattle.step.specs.SoundLaws.{inv-of}
+use Rattle.step.specs.Laws.Sound.{inv-of}
 use Rattle.run.specs.Refusals.{scheduleSound}
 use Rattle.run.specs.Run.{run}
 use Rattle.run.specs.Compared.{Compared, SameProgram, SameConstants, Alone}
-use Rattle.run.specs.Isolation.{isolation}
+use Rattle.run.specs.Laws.Isolation.{isolation}
 use Rattle.image.specs.Codec.{Bytes}
 use Rattle.image.specs.Image.{Image, stateOf, good, decode}
-use Rattle.image.specs.DecodeSound.{decode-sound}
+use Rattle.image.specs.Laws.DecodeSound.{decode-sound}
 
 -- an accepted image, read, and run over its own accepted schedule, with the flag down at the end
 pub record WholeRun (bytes schedule : List ℕ) (i : Image) : Type 0 where

@@ -1,9 +1,4 @@
 pub mod Codec
 pub mod Image
-pub mod CodecLaws
-pub mod FormatLaws
-pub mod Passed
-pub mod Weights
-pub mod TableLaws
-pub mod DecodeSound
 pub mod Demand3
+pub mod Laws

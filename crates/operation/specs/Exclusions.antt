@@ -10,7 +10,7 @@ use Rattle.operation.specs.declared.Fate.the-variants.{Continues}
 use Rattle.operation.specs.declared.Decision.the-variants.{Waits, Traps, Executes}
 use Rattle.operation.specs.Environment.{Environment}
 use Rattle.operation.specs.Decide.{decide}
-use Rattle.operation.specs.Opened.{opened}
+use Rattle.operation.specs.Laws.Opened.{opened}
 
 -- registers 6 and 7, data words 32 to 63
 unfoldable pub row : Row

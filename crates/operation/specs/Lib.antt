@@ -3,6 +3,5 @@ pub mod Roles
 pub mod Environment
 pub mod Perform
 pub mod Decide
-pub mod Opened
 pub mod Exclusions
-pub mod SoundDecisions
+pub mod Laws

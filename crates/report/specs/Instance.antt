@@ -8,20 +8,20 @@ use Prim.Native.Nat.{ℕ, _-_, _^_}
 use lib.ListN.{getD}
 use lib.Dec.{ltb}
 use borrow.Author.Tests.{ltb-true}
-use Rattle.word.specs.Bools.{and-left, and-right}
+use Rattle.word.specs.Laws.Bools.{and-left, and-right}
 use Rattle.step.specs.Soundness.{every}
 use Rattle.window.specs.declared.Row.{Row}
 use Rattle.window.specs.Windows.{registerWindow, programWindow, dataWindow}
 use Rattle.step.specs.State.{State, findRow}
 use Rattle.step.specs.Owned.{own}
-use Rattle.step.specs.RowLaws.{some-inj}
+use Rattle.step.specs.Laws.Rows.{some-inj}
 use Rattle.run.specs.Run.{run}
 use Rattle.run.specs.Compared.{Compared, SameProgram, cut, memoryIn}
-use Rattle.run.specs.AloneTest.{alone-of}
+use Rattle.run.specs.Laws.AloneTest.{alone-of}
 use Rattle.image.specs.Codec.{Bytes}
 use Rattle.image.specs.Image.{Image, stateOf, Decoded, bad, good, decode}
 use Rattle.image.specs.Demand3.{WholeRun, Agreed, demand-3}
-use Rattle.report.specs.Opened.{opened}
+use Rattle.report.specs.Laws.Opened.{opened}
 
 unfoldable pub bytesA : List ℕ
 bytesA =

@@ -1,4 +1,4 @@
 pub mod Report
-pub mod Opened
 pub mod Trials
 pub mod Instance
+pub mod Laws

@@ -22,7 +22,7 @@ use Rattle.step.specs.Act.{Stepped}
 use Rattle.step.specs.Step.{step}
 use Rattle.image.specs.Image.{queueOf}
 use Rattle.report.specs.Report.{outputOf}
-use Rattle.report.specs.Opened.{opened}
+use Rattle.report.specs.Laws.Opened.{opened}
 
 -- CB 4095, RB 3, RL 3, DB 1, DL 1: registers 6 and 7, data words 32 to 63
 unfoldable pub row : Row

@@ -1,0 +1,7 @@
+-- The laws of the definitions: nothing here need be believed.
+pub mod Codec
+pub mod Formats
+pub mod Passed
+pub mod Weights
+pub mod Table
+pub mod DecodeSound

@@ -1,0 +1,271 @@
+-- What a decision writes are sound cells and sound PSWs, where the environment is sound; and it creates only with the flag down.
+use mathlib.Core.Path.{_≡_, refl}
+use mathlib.Core.Bool.{Bool, true, false, cond, not, _||_}
+use Prim.Native.Nat.{ℕ, _+_, _*_, _/_, _%_, _^_, _≤_}
+use native.Mathlib.Omega.{arith}
+use lib.Dec.{eqb}
+use borrow.Author.Tests.{eqb-true}
+use Rattle.word.specs.declared.Instruction.{Instruction}
+use Rattle.word.specs.declared.Outcome.{Outcome}
+use Rattle.word.specs.Fields.{pswSound, pcOf, nextOf, instructionOf}
+use Rattle.word.specs.Laws.Words.{psw-sound, next-sound, psw-word, vector-word, bit-word, integer-word, integer-quality}
+use Rattle.window.specs.declared.Cell.{Cell}
+use Rattle.window.specs.declared.Place.{Place}
+use Rattle.window.specs.declared.Place.the-variants.{At, Violation}
+use Rattle.window.specs.declared.Write.{Write}
+use Rattle.window.specs.declared.Write.the-variants.{Nothing, Put}
+use Rattle.window.specs.Windows.{placeIn, programWindow, bytePlace}
+use Rattle.window.specs.Memories.{cell}
+use Rattle.window.specs.Sound.{wordSound, tagSound, stateSound}
+use Rattle.window.specs.Laws.Sound.{word-sound, sound-word, full-sound, empty-sound, quality-sound}
+use Rattle.operand.specs.declared.Role.{Role}
+use Rattle.operand.specs.declared.Role.the-variants.{Unused, Free, Destination, Source}
+use Rattle.operand.specs.declared.Operand.{Operand}
+use Rattle.operand.specs.declared.Operand.the-variants.{Register, Constant, Absent}
+use Rattle.operand.specs.declared.Lookup.{Lookup}
+use Rattle.operand.specs.declared.Lookup.the-variants.{Found}
+use Rattle.operand.specs.declared.Lookup.the-variants as lookup
+use Rattle.operand.specs.Access.{emptying, sourceLeft, destinationTag, destinationLeft}
+use Rattle.operation.specs.declared.Operation.{Operation}
+use Rattle.operation.specs.declared.Operation.the-variants as operation
+use Rattle.operation.specs.declared.Code.{Code}
+use Rattle.operation.specs.declared.Code.the-variants.{Privileged, Simulated, Svc, Listed, Illegal}
+use Rattle.operation.specs.declared.Site.{Site}
+use Rattle.operation.specs.declared.Sites.{Sites}
+use Rattle.operation.specs.declared.Fate.{Fate}
+use Rattle.operation.specs.declared.Fate.the-variants.{Continues, Quits, Creates}
+use Rattle.operation.specs.declared.Effects.{Effects}
+use Rattle.operation.specs.declared.Decision.{Decision}
+use Rattle.operation.specs.declared.Decision.the-variants.{Waits, Traps, Executes}
+use Rattle.operation.specs.Codes.{codeOf}
+use Rattle.operation.specs.Roles.{svcRoles, illegalFields, illegalInstruction, bOf, sacOf, dacOf}
+use Rattle.operation.specs.Environment.{Environment}
+use Rattle.operation.specs.Perform.{leftOf, executed, resultIn, plain, stepping, testOf, branched, called, created}
+use Rattle.operation.specs.Perform.{indirectOf, indexedOf, loadWord, storeWord, dataAt}
+use Rattle.operation.specs.Perform.{performBranch, performCall, performCreate, performQuit, performLoad, performStore, perform}
+use Rattle.operation.specs.Decide.{siteOf, sitesWait, sitesMasked, decideFound, foundThird, foundSecond, foundFirst}
+use Rattle.operation.specs.Decide.{decideOperands, decideCode, decideFetched, decide}
+
+-- what a task sees is sound
+pub record SoundEnvironment (v : Environment) : Type 0 where
+  pub psw : pswSound (v .psw) ≡ true
+  pub tags : (o : Operand) → tagSound (v .cell o .tag) ≡ true
+  pub words : (o : Operand) → wordSound (v .cell o .word) ≡ true
+  pub dataWords : (a : ℕ) → wordSound (v .datum a .word) ≡ true
+
+-- a write of a cell whose tag passes a test
+abbrev pub SoundWrite : (ℕ → Bool) → Write → Type 0
+SoundWrite tag Nothing = Unit {0}
+SoundWrite tag (Put a c) = (tag (c .tag) ≡ true) × (wordSound (c .word) ≡ true)
+
+abbrev pub SoundFate : (flag : ℕ) → Fate → Type 0
+SoundFate flag (Continues p) = pswSound p ≡ true
+SoundFate flag Quits = Unit {0}
+SoundFate flag (Creates p new) = (flag ≡ 0) × (pswSound p ≡ true) × (pswSound new ≡ true)
+
+pub record SoundEffects (flag : ℕ) (e : Effects) : Type 0 where
+  pub first : SoundWrite tagSound (e .first)
+  pub second : SoundWrite tagSound (e .second)
+  pub third : SoundWrite tagSound (e .third)
+  pub destination : SoundWrite tagSound (e .destination)
+  pub datum : SoundWrite stateSound (e .datum)
+  pub fate : SoundFate flag (e .fate)
+
+abbrev pub SoundDecision : (flag : ℕ) → Decision → Type 0
+SoundDecision flag (Waits w) = Unit {0}
+SoundDecision flag (Traps k p) = pswSound p ≡ true
+SoundDecision flag (Executes e) = SoundEffects flag e
+
+-- a looked up field whose cell is sound
+pub record SoundSite (s : Site) : Type 0 where
+  pub tag : tagSound (s .cell .tag) ≡ true
+  pub word : wordSound (s .cell .word) ≡ true
+
+pub record SoundSites (s : Sites) : Type 0 where
+  pub first : SoundSite (s .first)
+  pub second : SoundSite (s .second)
+  pub third : SoundSite (s .third)
+
+pub record SoundOutcome (r : Outcome) : Type 0 where
+  pub word : wordSound (r .word) ≡ true
+  pub quality : r .quality ≤ 6
+
+plain-sound : (w : ℕ) → wordSound w ≡ true → SoundOutcome (plain w)
+plain-sound w h = record { word = h; quality = omega arith }
+
+-- what holds of both arms of a test, of the first where the test holds
+tested : {A : Type 0} (P : A → Type 0) (b : Bool) {x y : A} → (b ≡ true → P x) → P y → P (cond b x y)
+tested P true p q = p refl
+tested P false p q = q
+
+either : {A : Type 0} (P : A → Type 0) (b : Bool) {x y : A} → P x → P y → P (cond b x y)
+either P b p q = tested P b (λ e. p) q
+
+emptying-sound : (o : Operand) (c : Cell) → tagSound (c .tag) ≡ true → wordSound (c .word) ≡ true → SoundWrite tagSound (emptying o c)
+unfolding emptying
+emptying-sound (Register a) c t w = (empty-sound (c .tag % 8) (quality-sound (c .tag) t), w)
+emptying-sound (Constant a) c t w = tt
+emptying-sound Absent c t w = tt
+
+source-sound : (role : Role) (ac : ℕ) (o : Operand) (c : Cell) → tagSound (c .tag) ≡ true → wordSound (c .word) ≡ true
+    → SoundWrite tagSound (sourceLeft role ac o c)
+unfolding sourceLeft
+source-sound Unused ac o c t w = tt
+source-sound Free ac o c t w = tt
+source-sound Destination ac o c t w = tt
+source-sound Source ac o c t w = either (SoundWrite tagSound) (eqb ac 2) (emptying-sound o c t w) tt
+
+tag-sound : (ac q : ℕ) → q ≤ 6 → tagSound (destinationTag ac q) ≡ true
+unfolding destinationTag
+tag-sound ac q h =
+    either (λ (t : ℕ). tagSound t ≡ true) (eqb ac 3) (empty-sound (q % 8) (omega arith)) (full-sound (q % 8) (omega arith))
+
+destination-sound : (ac : ℕ) (o : Operand) (w q : ℕ) → wordSound w ≡ true → q ≤ 6 → SoundWrite tagSound (destinationLeft ac o w q)
+unfolding destinationLeft
+destination-sound ac (Register a) w q h k = (tag-sound ac q k, h)
+destination-sound ac (Constant a) w q h k = tt
+destination-sound ac Absent w q h k = tt
+
+result-sound : (s : Site) (r : Outcome) → SoundOutcome r → SoundWrite tagSound (resultIn s r)
+unfolding resultIn
+result-sound s r h = destination-sound (s .access) (s .operand) (r .word) (r .quality) (h .word) (h .quality)
+
+left-sound : (s : Site) → SoundSite s → SoundWrite tagSound (leftOf s)
+unfolding leftOf
+left-sound s h = source-sound (s .role) (s .access) (s .operand) (s .cell) (h .tag) (h .word)
+
+-- every operation and every code, in a sound environment: `next-sound` and `psw-sound` give each PSW, `executed-sound` each write
+module _ (v : Environment) (h : SoundEnvironment v) where
+  next-word : wordSound (nextOf (v .psw)) ≡ true
+  next-word = word-sound _ (psw-word _ (next-sound (v .psw)))
+
+  module _ (s : Sites) (k : SoundSites s) where
+    executed-sound : (destination datum : Write) (fate : Fate) → SoundWrite tagSound destination → SoundWrite stateSound datum → SoundFate (v .flag) fate
+        → SoundDecision (v .flag) (executed s destination datum fate)
+    unfolding executed
+    executed-sound destination datum fate p q r = record {
+      first = left-sound (s .first) (k .first);
+      second = left-sound (s .second) (k .second);
+      third = left-sound (s .third) (k .third);
+      destination = p;
+      datum = q;
+      fate = r;
+    }
+
+    stepping-sound : (r : Outcome) → SoundOutcome r → SoundDecision (v .flag) (stepping v s r)
+    unfolding stepping
+    stepping-sound r o = executed-sound _ _ _ (result-sound (s .first) r o) tt (next-sound (v .psw))
+
+    branch-sound : (c p : ℕ) → SoundDecision (v .flag) (performBranch v s c p)
+    unfolding performBranch branched
+    branch-sound c p =
+        executed-sound _ _ _ tt tt (either (λ (x : ℕ). pswSound x ≡ true) (testOf v s c) (psw-sound _ _ _ _) (next-sound (v .psw)))
+
+    call-sound : (c : ℕ) → SoundDecision (v .flag) (performCall v s c)
+    unfolding performCall called
+    call-sound c =
+        executed-sound _ _ _ (result-sound (s .first) _ (plain-sound _ next-word)) tt
+        (either (λ (x : ℕ). pswSound x ≡ true) (testOf v s c) (psw-sound _ _ _ _) (next-sound (v .psw)))
+
+    create-sound : (c act : ℕ) → SoundDecision (v .flag) (performCreate v s c act)
+    unfolding performCreate created
+    create-sound c act =
+        either (SoundDecision (v .flag)) (testOf v s c)
+        (tested (SoundDecision (v .flag)) (eqb (v .flag) 0)
+        (λ e. executed-sound _ _ _ tt tt (eqb-true (v .flag) 0 e, next-sound (v .psw), psw-sound _ _ _ _)) tt)
+        (executed-sound _ _ _ tt tt (next-sound (v .psw)))
+
+    quit-sound : (c : ℕ) → SoundDecision (v .flag) (performQuit v s c)
+    unfolding performQuit
+    quit-sound c = executed-sound _ _ _ tt tt (either (SoundFate (v .flag)) (testOf v s c) tt (next-sound (v .psw)))
+
+    load-sound : (low a : ℕ) → SoundDecision (v .flag) (loadWord v s low a)
+    unfolding loadWord stateSound
+    load-sound low a =
+        let w : wordSound (v .datum a .word) ≡ true = h .dataWords a in
+        either (SoundDecision (v .flag)) (not (eqb (sacOf low) 0))
+        (either (SoundDecision (v .flag)) (eqb (v .datum a .tag) 0) tt
+        (executed-sound _ _ _ (result-sound (s .first) _ (plain-sound _ w))
+        (either (SoundWrite stateSound) (eqb (sacOf low) 2) (refl, w) tt) (next-sound (v .psw))))
+        (stepping-sound _ (plain-sound _ w))
+
+    store-sound : (low word a : ℕ) → wordSound word ≡ true → SoundDecision (v .flag) (storeWord v s low word a)
+    unfolding storeWord stateSound
+    store-sound low word a w =
+        let put : SoundDecision (v .flag) (executed s Nothing (Put a (cell 1 word)) (Continues (nextOf (v .psw)))) =
+        executed-sound _ _ _ tt (refl, w) (next-sound (v .psw)) in
+        either (SoundDecision (v .flag)) (eqb (dacOf low) 2) (either (SoundDecision (v .flag)) (eqb (v .datum a .tag) 0) put tt) put
+
+    data-sound : (low e : ℕ) (access : ℕ → Decision) (p : Place) → ((a : ℕ) → SoundDecision (v .flag) (access a))
+        → SoundDecision (v .flag) (dataAt v low e access p)
+    unfolding dataAt
+    data-sound low e access (At a) f = either (SoundDecision (v .flag)) (eqb (bOf low) 1 || not (eqb (e % 8) 0)) (h .psw) (f (a / 8))
+    data-sound low e access Violation f = h .psw
+
+    perform-load : (low e : ℕ) → SoundDecision (v .flag) (performLoad v s low e)
+    unfolding performLoad
+    perform-load low e = data-sound low e (loadWord v s low) (bytePlace (v .row) e) (load-sound low)
+
+    perform-store : (low word e : ℕ) → wordSound word ≡ true → SoundDecision (v .flag) (performStore v s low word e)
+    unfolding performStore
+    perform-store low word e w = data-sound low e (storeWord v s low word) (bytePlace (v .row) e) (λ a. store-sound low word a w)
+
+    perform-sound : (op : Operation) (i : Instruction) → SoundDecision (v .flag) (perform op v i s)
+    unfolding perform
+    perform-sound operation.Nop i = executed-sound _ _ _ tt tt (next-sound (v .psw))
+    perform-sound (operation.Vector op) i = stepping-sound _ (plain-sound _ (word-sound _ (vector-word op _ _)))
+    perform-sound (operation.Bit op) i = stepping-sound _ (plain-sound _ (word-sound _ (bit-word op _ _ (sound-word _ (k .second .word)))))
+    perform-sound (operation.Integer op) i = stepping-sound _ (record { word = word-sound _ (integer-word op _ _); quality = integer-quality op _ _ })
+    perform-sound (operation.Branch c p) i = branch-sound c (p * 2 ^ 16 + i .first)
+    perform-sound (operation.Call c) i = call-sound c
+    perform-sound (operation.Create c act) i = create-sound c act
+    perform-sound (operation.Quit c) i = quit-sound c
+    perform-sound (operation.LoadIndirect low) i = perform-load low (indirectOf s)
+    perform-sound (operation.LoadIndexed low) i = perform-load low (indexedOf s)
+    perform-sound (operation.StoreIndirect low) i = perform-store low (s .third .cell .word) (indirectOf s) (k .third .word)
+    perform-sound (operation.StoreIndexed low) i = perform-store low (s .first .cell .word) (indexedOf s) (k .first .word)
+
+    found-sound : (op : Operation) (i : Instruction) → SoundDecision (v .flag) (decideFound op v i s)
+    unfolding decideFound
+    found-sound op i =
+        either (SoundDecision (v .flag)) (sitesWait s) tt (either (SoundDecision (v .flag)) (sitesMasked (v .psw) s) (h .psw) (perform-sound op i))
+
+  site-sound : (role : Role) (f : ℕ) (o : Operand) → SoundSite (siteOf v role f o)
+  unfolding siteOf
+  site-sound role f o = record { tag = h .tags o; word = h .words o }
+
+  third-sound : (op : Operation) (i : Instruction) (a b : Operand) (l : Lookup) → SoundDecision (v .flag) (foundThird op v i a b l)
+  unfolding foundThird
+  third-sound op i a b (Found c) = found-sound _ (record { first = site-sound _ _ a; second = site-sound _ _ b; third = site-sound _ _ c }) op i
+  third-sound op i a b lookup.Violation = h .psw
+
+  second-sound : (op : Operation) (i : Instruction) (a : Operand) (l m : Lookup) → SoundDecision (v .flag) (foundSecond op v i a l m)
+  unfolding foundSecond
+  second-sound op i a (Found b) m = third-sound op i a b m
+  second-sound op i a lookup.Violation m = h .psw
+
+  first-sound : (op : Operation) (i : Instruction) (l m n : Lookup) → SoundDecision (v .flag) (foundFirst op v i l m n)
+  unfolding foundFirst
+  first-sound op i (Found a) m n = second-sound op i a m n
+  first-sound op i lookup.Violation m n = h .psw
+
+  operands-sound : (op : Operation) (i : Instruction) → SoundDecision (v .flag) (decideOperands op v i)
+  unfolding decideOperands
+  operands-sound op i = first-sound op i _ _ _
+
+  code-sound : (c : Code) (i : Instruction) → SoundDecision (v .flag) (decideCode c v i)
+  unfolding decideCode
+  code-sound Privileged i = h .psw
+  code-sound Simulated i = h .psw
+  code-sound Illegal i = h .psw
+  code-sound Svc i = either (SoundDecision (v .flag)) (illegalFields svcRoles i) (h .psw) (next-sound (v .psw))
+  code-sound (Listed op) i = either (SoundDecision (v .flag)) (illegalInstruction op i) (h .psw) (operands-sound op i)
+
+  fetched-sound : (p : Place) → SoundDecision (v .flag) (decideFetched v p)
+  unfolding decideFetched
+  fetched-sound (At a) = code-sound (codeOf (instructionOf (v .code a) .code)) (instructionOf (v .code a))
+  fetched-sound Violation = h .psw
+
+pub decide-sound : (v : Environment) → SoundEnvironment v → SoundDecision (v .flag) (decide v)
+unfolding decide
+decide-sound v h = fetched-sound v h (placeIn (programWindow (v .row)) (pcOf (v .psw)))

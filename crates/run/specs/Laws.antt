@@ -1,0 +1,6 @@
+-- The laws of the definitions: nothing here need be believed.
+pub mod Run
+pub mod RunAgreement
+pub mod Isolation
+pub mod AloneTest
+pub mod RunSound

@@ -1,0 +1,60 @@
+-- A run: its counts add up to the schedule's length, and the flag never falls. For any instruction set.
+use mathlib.Core.Path.{_≡_, refl, sym, ap, _∙_}
+use mathlib.Core.List.{List, [], _∷_}
+use Prim.Native.Nat.{ℕ, suc, _+_}
+use native.Mathlib.Omega.{arith}
+use lib.ListN.{length}
+use Rattle.operation.specs.Environment.{Environment}
+use Rattle.operation.specs.declared.Decision.{Decision}
+use Rattle.operation.specs.Decide.{decide}
+use Rattle.step.specs.declared.Ending.{Ending}
+use Rattle.step.specs.declared.Ending.the-variants.{Executed, Waved, Trapped, Idle}
+use Rattle.step.specs.State.{State}
+use Rattle.step.specs.Step.{stepBy}
+use Rattle.step.specs.Laws.Step.{step-flag}
+use Rattle.run.specs.declared.Counts.{Counts}
+use Rattle.run.specs.Run.{counted, noCounts, Ran, runBy, run}
+
+-- executed + waved + trapped + idle
+abbrev pub sum : Counts → ℕ
+sum c = c .executed + c .waved + c .trapped + c .idle
+
+sum-counted : (e : Ending) (c : Counts) → sum (counted e c) ≡ suc (sum c)
+unfolding counted
+sum-counted Executed c = omega arith
+sum-counted Waved c = omega arith
+sum-counted (Trapped k p) c = omega arith
+sum-counted Idle c = omega arith
+
+module _ (decide : Environment → Decision) where
+  -- the state after a schedule
+  unfoldable pub after : List ℕ → State → State
+  after [] s = s
+  after (t ∷ ts) s = after ts (stepBy decide t s .state)
+
+  pub run-after : (ts : List ℕ) (s : State) (c : Counts) → runBy decide ts s c .state ≡ after ts s
+  unfolding runBy after
+  run-after [] s c = refl
+  run-after (t ∷ ts) s c = run-after ts (stepBy decide t s .state) (counted (stepBy decide t s .ending) c)
+
+  sum-run : (ts : List ℕ) (s : State) (c : Counts) → sum (runBy decide ts s c .counts) ≡ length ts + sum c
+  unfolding runBy
+  sum-run [] s c = omega arith
+  sum-run (t ∷ ts) s c =
+      sum-run ts (stepBy decide t s .state) (counted (stepBy decide t s .ending) c) ∙ omega (arith, sum-counted (stepBy decide t s .ending) c)
+
+  -- the flag is down at the end: it was down throughout
+  pub after-flag : (ts : List ℕ) (s : State) → after ts s .table .flag ≡ 0 → s .table .flag ≡ 0
+  unfolding after
+  after-flag [] s z = z
+  after-flag (t ∷ ts) s z = step-flag decide t s (after-flag ts (stepBy decide t s .state) z)
+
+-- executed + waved + trapped + idle = items
+pub run-counts : (schedule : List ℕ) (s : State) → sum (run schedule s .counts) ≡ length schedule
+unfolding run
+run-counts schedule s = sum-run decide schedule s noCounts ∙ omega arith
+
+-- a run never lowers the flag
+pub run-flag : (schedule : List ℕ) (s : State) → run schedule s .state .table .flag ≡ 0 → s .table .flag ≡ 0
+unfolding run
+run-flag schedule s z = after-flag decide schedule s (ap (λ (x : State). x .table .flag) (sym (run-after decide schedule s noCounts)) ∙ z)
