@@ -15,10 +15,13 @@ from emulator import Cell, Process, Psw, Row, State, WORD, constant_field, instr
 
 ZERO_CONSTANT = 100                 # displacement past every constant, so that it reads as zero
 PLAIN_CODES = {operation[0]: code for code, operation in emulator.OPERATIONS.items()}
-TRAP_WORDS = ('unlisted', 'privileged', 'simulated', 'svc', 'unused', 'access', 'destination', 'window', 'data')
+TRAP_WORDS = ('unlisted', 'digit', 'privileged', 'simulated', 'svc', 'unused', 'access', 'destination', 'window',
+              'bytes', 'data access')
 # Operations of the source that document 01 does not list, or lists with other low digits.
 UNLISTED_CODES = (0x711E, 0x7112, 0x610F, 0x4C00, 0x9C02, 0xB871, 0x7300, 0x7201, 0x7142, 0x7970, 0x7973, 0x1971,
                   0x6C20, 0x7C40, 0xBC80, 0xFCE2, 0x0001, 0xFFFF)
+ILLEGAL_DATA_ACCESS = {'LODI': (0xC, 0x1, 0x2, 0x6, 0xF), 'LODX': (0xC, 0x1, 0x2, 0x9, 0x1C),
+                       'STOI': (0x1, 0x3, 0x4, 0x8, 0xA), 'STOX': (0x1, 0x3, 0xC, 0x6, 0x13)}
 
 
 # Values
@@ -26,23 +29,26 @@ UNLISTED_CODES = (0x711E, 0x7112, 0x610F, 0x4C00, 0x9C02, 0xB871, 0x7300, 0x7201
 def landing_word(rng):
     """A word that serves as a byte address and as a PSW: mostly a small multiple of 8."""
     kind = rng.random()
-    if kind < 0.90:
-        return 8 * rng.choice((0, 0, 0, 1, 1, 1, 1, 1, 2, 3))
-    if kind < 0.94:
-        return rng.choice((1, 4, 7, 12, 250, 256, 264, 504, 512, 1 << 31, (1 << 32) - 8, (1 << 31) + 8))
+    place = 8 * rng.choice((0, 0, 0, 1, 1, 1, 1, 1, 1, 2))
+    if kind < 0.68:
+        return place
+    if kind < 0.88:                                         # CI and RI lie above the address
+        return Psw(rng.choice((0, 1, 8191)), rng.choice((0, 0, 1, 2047)), 0, place).word()
+    if kind < 0.91:
+        return Psw(rng.choice((0, 1)), 0, rng.choice((0x40, 0x60, 0x7F, 0xC0, 0xFF)), place).word()
     if kind < 0.95:
+        return rng.choice((1, 4, 7, 12, 20, 250, 256, 264, 504, 512, 1 << 31, (1 << 32) - 8, (1 << 31) + 8))
+    if kind < 0.98:
         return WORD - 7                                     # -8, for the X forms
-    if kind < 0.96:
-        return rng.getrandbits(32) << 32 | 8                # bits above the address
-    return Psw(rng.choice((0, 1, 8191)), rng.choice((0, 1, 2, 2047)), rng.choice((0, 0, 0x40, 0x7F)), 8).word()
+    return rng.getrandbits(32) << 32 | place                # zero bits set too
 
 
 def number_word(rng):
     """A word for arithmetic, often at an edge."""
     kind = rng.random()
-    if kind < 0.45:
-        return rng.choice((0, 0, 1, 2, 5, 63, 64, WORD, WORD - 1, 1 << 63, (1 << 63) - 1, 1 << 62, 1 << 32, 1 << 31))
-    if kind < 0.65:
+    if kind < 0.6:
+        return rng.choice((0, 0, 1, 1, 1, 5, 64, WORD, WORD - 1, 1 << 63, (1 << 63) - 1, 1 << 62, 1 << 32, 1 << 31))
+    if kind < 0.7:
         return rng.randrange(100)
     if kind < 0.75:
         return WORD - rng.randrange(100)
@@ -60,7 +66,7 @@ def source_field(rng, size, landing=False):
     displacement = rng.randrange(size)
     if landing:
         displacement |= 1
-    access = rng.choices((0, 1, 2, 3), (75, 14, 9, 2))[0]
+    access = rng.choices((0, 1, 2, 3), (79, 11, 8, 2))[0]
     return indexed_or_not(rng, displacement, access)
 
 
@@ -69,7 +75,7 @@ def destination_field(rng, size):
     displacement = rng.randrange(size)
     if rng.random() < 0.9:
         displacement &= ~1
-    return indexed_or_not(rng, displacement, rng.choices((0, 1, 2, 3), (76, 12, 7, 5))[0])
+    return indexed_or_not(rng, displacement, rng.choices((0, 1, 2, 3), (80, 10, 5, 5))[0])
 
 
 def indexed_or_not(rng, displacement, access):
@@ -107,7 +113,7 @@ LEGAL = [name for name in PLAIN_CODES if name != 'SVC'] + ['B', 'CALL', 'CREATE'
 def operation_weights(crowded, with_data):
     """How often each operation is to be drawn; many creates where processes are many already."""
     weights = {name: 4 for name in LEGAL}
-    weights.update({'NOP': 2, 'B': 6, 'CALL': 6, 'CREATE': 60 if crowded else 6, 'QT': 1})
+    weights.update({'NOP': 2, 'B': 10, 'CALL': 6, 'CREATE': 60 if crowded else 6, 'QT': 1})
     weights.update({name: 10 if with_data else 0.2 for name in DATA_NAMES})
     return [weights[name] for name in LEGAL]
 
@@ -125,7 +131,7 @@ def legal_instruction(rng, size, words, weights):
             low_digit = {'B': high_address, 'CALL': 1, 'CREATE': rng.randrange(16), 'QT': 0}[name]
             if name == 'B':
                 fields[0] = rng.randrange(8)                # the low part of P; S1 mostly adds 0 or 8
-                if rng.random() < 0.5:
+                if rng.random() < 0.3:
                     fields[:2] = rng.randrange(words), constant_field(ZERO_CONSTANT)
             return instruction_word(high << 8 | test_digit(rng) << 4 | low_digit, *fields)
     for code, operation in emulator.DATA_ACCESS.items():
@@ -146,6 +152,10 @@ def trapping_instruction(rng, size, words, weights):
     if kind == 'unlisted':
         code = rng.getrandbits(16) if rng.random() < 0.3 else rng.choice(UNLISTED_CODES)
         return instruction_word(code, *fields)
+    if kind == 'digit':                                     # CALL and QT with another low digit
+        operand = register_field(0)
+        return rng.choice((instruction_word(0x7900 | rng.choice((0x70, 0x72, 0x0F)), operand, operand, operand),
+                           instruction_word(0x1900 | rng.choice((0x01, 0x71, 0x0F)), 0, 0, operand)))
     if kind == 'privileged':
         return instruction_word(rng.choice(sorted(emulator.PRIVILEGED_CODES)), *fields)
     if kind == 'simulated':
@@ -164,16 +174,17 @@ def trapping_instruction(rng, size, words, weights):
         outside = register_field(rng.choice((size, size + 1, 2047)), rng.randrange(4), rng.randrange(2))
         return rng.choice((instruction_word(0x611F, outside, register_field(0)),
                            instruction_word(0x7139, 0, outside, register_field(0)),
-                           instruction_word(0x7130 | 0x4901, 0, constant_field(0), outside)))
-    code = rng.choice(list(emulator.DATA_ACCESS)) | rng.choice((0x10, 0x10, 0x18, 0x12, rng.randrange(32)))
-    return instruction_word(code, *fields_of(rng, emulator.DATA_ACCESS[code & 0xFFE0], size))
+                           instruction_word(0x7971, 0, constant_field(0), outside)))
+    code, operation = rng.choice(list(emulator.DATA_ACCESS.items()))
+    low_bits = 0x10 if kind == 'bytes' else rng.choice(ILLEGAL_DATA_ACCESS[operation[0]])
+    return instruction_word(code | low_bits, *fields_of(rng, operation, size))
 
 
 # Images
 
 def window(rng, units, least=1):
     """First and last unit of a window of at least so many units, mostly the whole memory, now and then empty."""
-    if units == 0 or rng.random() < 0.02:
+    if units == 0 or rng.random() < 0.01:
         return rng.choice(((1, 0), (3, 2), (0x3FF, 0)))
     if rng.random() < 0.5:
         return 0, units - 1
@@ -183,7 +194,7 @@ def window(rng, units, least=1):
 
 
 def random_psw(rng, words):
-    pc = rng.randrange(words) if rng.random() < 0.985 else rng.choice((words, 0xFFFFF, words + 15))
+    pc = rng.randrange(words) if rng.random() < 0.995 else rng.choice((words, 0xFFFFF, words + 15))
     utm = rng.choice((0x40, 0x20, 0x08, 0x02, 0x7F, 0x80, 0x01)) if rng.random() < 0.12 else 0
     ri = rng.choice((1, 1, 1, 2, 2, 2, 2047)) if rng.random() < 0.2 else 0
     ci = rng.choice((1, 2, 100, 8191)) if rng.random() < 0.2 else 0
@@ -195,7 +206,7 @@ def random_rows(rng, state):
         rb, rl = window(rng, len(state.registers) // 2, 2)
         pb, pl = window(rng, len(state.program) // 16)
         db, dl = window(rng, len(state.data) // 32)
-        cb = rng.choice((0, 0, 0, 1, 2, 4095))
+        cb = rng.choice((0, 0, 0, 1, 2, 2048, 4095))
         row = Row(task, cb, rb, rl, pb, pl, db, dl)
         if rng.random() < 0.05:
             row.trap_kind, row.trap_psw = rng.choice(emulator.TRAP_KINDS), random_psw(rng, 16)
@@ -208,7 +219,7 @@ def random_registers(rng, count):
     for place in range(count):
         word = landing_word(rng) if place % 2 and rng.random() < 0.95 else number_word(rng)
         quality = rng.randrange(7) if rng.random() < 0.25 else 0
-        registers.append(Cell(word, rng.random() < 0.8, quality))
+        registers.append(Cell(word, rng.random() < 0.85, quality))
     return registers
 
 
@@ -218,7 +229,7 @@ def random_program(rng, state, blocks, crowded):
     size = min(sizes) if sizes else 2
     words = min([16 * (row.pl - row.pb + 1) for row in state.rows if row.pb <= row.pl] + [16 * blocks])
     weights = operation_weights(crowded, all(row.db <= row.dl for row in state.rows))
-    share = rng.choice((0.0, 0.02, 0.03, 0.05, 0.2))       # of trapping instructions
+    share = rng.choice((0.0, 0.0, 0.02, 0.05, 0.2))       # of trapping instructions
     program = []
     for place in range(16 * blocks):
         if place % 16 == 15 and rng.random() < 0.9:
@@ -255,48 +266,69 @@ def random_state(rng):
 def damaged_state(rng, state, schedule):
     """Spoil a state or schedule so that its image is refused as a whole, or its run."""
     row = rng.choice(state.rows)
-    kind = rng.choice(('register window', 'program window', 'data window', 'pt', 'flag', 'schedule', 'schedule'))
+    kind = rng.choice(('register window', 'program window', 'data window', 'pt', 'flag', 'schedule', 'order'))
     if kind == 'register window':
-        row.rb, row.rl = 0, len(state.registers) // 2 + rng.randrange(2)
+        row.rb, row.rl = 0, len(state.registers) // 2
     elif kind == 'program window':
-        row.pb, row.pl = 0, len(state.program) // 16 + rng.randrange(2)
+        row.pb, row.pl = 0, len(state.program) // 16
+        state.program += [0] * rng.choice((0, 1, 15))
     elif kind == 'data window':
-        row.db, row.dl = 0, len(state.data) // 32 + rng.randrange(2)
+        row.db, row.dl = 0, len(state.data) // 32
+        state.data += [Cell(0, True) for _ in range(rng.choice((0, 1, 31)))]
     elif kind == 'pt':
         state.queues[row.task] += [Process(5, Psw(0, 0, 0, 0)), Process(5, Psw(0, 0, 0, 0))]
     elif kind == 'flag':
         state.flag = 0
         state.queues = {other.task: [] for other in state.rows}
         state.queues[row.task] = [Process(pt, Psw(0, 0, 0, 0)) for pt in range(64)]
+    elif kind == 'order':
+        state.rows.reverse()
+        state.queues = {other.task: [] for other in state.rows}
     else:
         schedule[rng.randrange(len(schedule))] = rng.choice((0, 8, 255))
 
 
-def count_places(state, image_start):
-    """Byte places of the six section counts in the input."""
+def field_places(state, image_start):
+    """Byte places in the input of the section counts, and groups of other fields each with bytes worth a trial."""
     processes = image_start + 1 + 28 * len(state.rows)
     constants = processes + 2 + 10 * len(state.live())
     registers = constants + 2 + 8 * len(state.constants)
     program = registers + 2 + 9 * len(state.registers)
     data = program + 4 + 8 * len(state.program)
-    return image_start, processes, constants, registers, program, data
+    counts = [image_start, processes, constants, registers, program, data]
+    tasks = tuple(row.task for row in state.rows)
+    flag_fields = [(processes + 1, (2, 255))]
+    row_fields, process_fields = [], []
+    for place in range(len(state.rows)):
+        row = image_start + 1 + 28 * place
+        row_fields += [(row, (0, 1, 3, 7, 8)), (row + 1, (0x0F, 0x10)), (row + 3, (3, 4)), (row + 5, (3, 4)),
+                       (row + 11, (0, 1)), (row + 19, (0x10, 0x18, 0x12, 0xFE)), (row + 20, (0, 1)),
+                       (row + 25, (0x10, 0x0F)), (row + 27, (1, 2))]
+    for place in range(len(state.live())):
+        process = processes + 2 + 10 * place
+        process_fields += [(process, (0, 63, 64)), (process + 1, tasks), (process + 1, tasks + (0, 8)),
+                           (process + 2, (1, 0x80)), (process + 7, (0x10, 0x80, 0x0F))]
+    register_fields = [(registers + 2 + 9 * place, (6, 7, 14, 15, 16)) for place in range(len(state.registers))]
+    data_fields = [(data + 4 + 9 * place, (0, 2, 255)) for place in range(len(state.data))]
+    groups = (flag_fields, row_fields, row_fields, process_fields, process_fields, register_fields, data_fields)
+    return counts, [group for group in groups if group]
 
 
 def damaged_bytes(rng, state, data, image_start):
     """Change a byte, cut short or append."""
-    kind = rng.choice(('cut', 'append', 'byte', 'head', 'head', 'head', 'count', 'count'))
+    kind = rng.choice(('cut', 'append', 'byte', 'field', 'field', 'field', 'field', 'count', 'count'))
     if kind == 'cut':
         return data[:rng.randrange(len(data))]
     if kind == 'append':
         return data + bytes(rng.randrange(1, 5))
+    counts, groups = field_places(state, image_start)
     data = bytearray(data)
-    if kind == 'byte':
-        place = rng.randrange(len(data))
-    elif kind == 'head':                                    # rows and the first processes
-        place = rng.randrange(image_start, min(len(data), image_start + 28 * len(state.rows) + 20))
+    if kind == 'field':
+        place, values = rng.choice(rng.choice(groups))
+        data[place] = rng.choice(values)
     else:
-        place = rng.choice(count_places(state, image_start))
-    data[place] = rng.choice((rng.randrange(256), data[place] ^ 1 << rng.randrange(8), 8, 0x40, 0xFF))
+        place = rng.choice(counts) if kind == 'count' else rng.randrange(len(data))
+        data[place] = rng.choice((rng.randrange(256), data[place] ^ 1 << rng.randrange(8), 8, 0x40, 0xFF))
     return bytes(data)
 
 

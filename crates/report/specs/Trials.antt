@@ -16,6 +16,7 @@ use Rattle.operand.specs.declared.Role.the-variants.{Source}
 use Rattle.operand.specs.declared.Lookup.the-variants.{Violation}
 use Rattle.operand.specs.Field.{lookupOf}
 use Rattle.operation.specs.declared.Trap.the-variants.{CreateFault, Protection}
+use Rattle.operation.specs.Exclusions.{Excluded, excluded}
 use Rattle.step.specs.declared.Ending.the-variants.{Executed, Trapped}
 use Rattle.step.specs.State.{State}
 use Rattle.step.specs.Act.{Stepped}
@@ -109,7 +110,7 @@ starred = record {
 }
 
 -- the printed case, hex: 0001 01 | 01 01 0000 0001 0000 0001 0000 00000001 00000000 FF 0000000000000000 | 01 00 00 01 0000000000000000 | ..
-printedInput : List ℕ
+unfoldable pub printedInput : List ℕ
 printedInput =
     0 ∷ 1 ∷ 1 ∷
     1 ∷ 1 ∷ 0 ∷ 0 ∷ 0 ∷ 1 ∷ 0 ∷ 0 ∷ 0 ∷ 1 ∷ 0 ∷ 0 ∷ 0 ∷ 0 ∷ 0 ∷ 1 ∷ 0 ∷ 0 ∷ 0 ∷ 0 ∷ 255 ∷ 0 ∷ 0 ∷ 0 ∷ 0 ∷ 0 ∷ 0 ∷ 0 ∷ 0 ∷
@@ -120,11 +121,17 @@ printedInput =
     0 ∷ 0 ∷ 0 ∷ 0 ∷ []
 
 -- `1 1 14 00000` and `E0 W0 T1 I0 CF0`
-printedOutput : List ℕ
+unfoldable pub printedOutput : List ℕ
 printedOutput =
     49 ∷ 32 ∷ 49 ∷ 32 ∷ 49 ∷ 52 ∷ 32 ∷ 48 ∷ 48 ∷ 48 ∷ 48 ∷ 48 ∷ 10 ∷
     69 ∷ 48 ∷ 32 ∷ 87 ∷ 48 ∷ 32 ∷ 84 ∷ 49 ∷ 32 ∷ 73 ∷ 48 ∷ 32 ∷ 67 ∷ 70 ∷ 48 ∷ 10 ∷ []
 
-printed : outputOf printedInput ≡ printedOutput
+-- the starred trials, the printed case from its input bytes to its two lines, and what document 01 excludes
+pub record Trials : Type 0 where
+  pub starred-ones : Starred
+  pub printed : outputOf printedInput ≡ printedOutput
+  pub exclusions : Excluded
+
+pub trials : Trials
 unfolding opened printedInput printedOutput
-printed = refl
+trials = record { starred-ones = starred; printed = refl; exclusions = excluded }

@@ -121,7 +121,8 @@ module _ (t : ℕ) (s s′ : State) (c : Compared t s s′) (r : Row) (e : findR
   cut-same dataTags = ap (λ (x : Memory). x .tags) (c .dataWords r e)
   cut-same dataValues = ap (λ (x : Memory). x .words) (c .dataWords r e)
 
-agree-of : (A : ℕ → Bool) (s s′ : State) → ((t : ℕ) → A t ≡ true → Compared t s s′) → ((t : ℕ) → A t ≡ true → SameProgram t s s′) → SameConstants s s′ → Agree A s s′
+agree-of : (A : ℕ → Bool) (s s′ : State) → ((t : ℕ) → A t ≡ true → Compared t s s′) → ((t : ℕ) → A t ≡ true → SameProgram t s s′) → SameConstants s s′
+    → Agree A s s′
 agree-of A s s′ h p k = record {
   owns = λ t m. h t m .owned;
   constants = k;

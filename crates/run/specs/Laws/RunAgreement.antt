@@ -107,7 +107,8 @@ module _ (decide : Environment → Decision) (A : ℕ → Bool) where
             ends = k .ends;
           }
 
-  pub runs-agree : (ts us : List ℕ) (s s′ : State) → only A ts ≡ only A us → Ready ts s → Ready us s′ → Agree A s s′ → Agree A (after decide ts s) (after decide us s′)
+  pub runs-agree : (ts us : List ℕ) (s s′ : State) → only A ts ≡ only A us → Ready ts s → Ready us s′ → Agree A s s′
+      → Agree A (after decide ts s) (after decide us s′)
   unfolding after
   runs-agree [] us s s′ e r r′ g = agree-trans A s s′ (after decide us s′) g (all-outside us s′ (sym e ∙ only-nil A) r′)
   runs-agree (t ∷ ts) us s s′ e r r′ g =

@@ -19,10 +19,12 @@ use Rattle.operation.specs.declared.Decision.{Decision}
 use Rattle.operation.specs.declared.Decision.the-variants.{Waits, Traps, Executes}
 use Rattle.step.specs.declared.Queue.{Queue}
 use Rattle.step.specs.declared.ProcessTable.{ProcessTable}
+use Rattle.step.specs.declared.Ending.{Ending}
+use Rattle.step.specs.declared.Ending.the-variants.{Executed, Waved}
 use Rattle.step.specs.Queues.{total, capacity, occ, hit, listOf, headOf, turned, shifted, joined, livePts, lowestFree, freeFrom}
 use Rattle.step.specs.State.{taskQueue, State, findRow, putRow, noQueue, queueIn, withQueue, pswsOf, processesOf}
 use Rattle.step.specs.Owned.{Own, owner, ownIn, own}
-use Rattle.step.specs.Act.{createdPsw, Change, changeOf, fateIn, createdIn, faultIn, headPsw, trappedRow, act}
+use Rattle.step.specs.Act.{createdPsw, Change, changeOf, fateIn, createdIn, faultIn, headPsw, trappedRow, act, requeued}
 use Rattle.step.specs.Laws.Occurrences.{occ-rot, occ-rest, occ-snoc, hit-differ, joined-once, rot, rest, head-to, Distinct, Heads, Free, free-spec, psws-set, psws-rot, psws-rest, psws-head, psws-other, psws-go, psws-join}
 use Rattle.step.specs.Laws.Queues.{Shaped, heads, turned-list, shifted-list, joined-list, turned-shaped, shifted-shaped, joined-shaped, turned-len, occ-set, occ-get, occ-two, len-get}
 use Rattle.step.specs.Laws.Rows.{find-task, find-put-same, find-put-other}
@@ -129,7 +131,8 @@ module _ (table : ProcessTable) (t : ℕ) (tidy : Tidy table) (low : 1 ≤ t) (h
     unfolding headPsw
     wide-head p = length-set (table .psw) _ p ∙ tidy .wide
 
-    pub others-head : (p : ℕ) (l : List ℕ) → ((x : ℕ) → occ x (listOf (taskQueue table t)) + occ x l ≤ occ x (livePts (table .queues))) → pswsOf (headPsw table t p) l ≡ pswsOf (table .psw) l
+    pub others-head : (p : ℕ) (l : List ℕ) → ((x : ℕ) → occ x (listOf (taskQueue table t)) + occ x l ≤ occ x (livePts (table .queues)))
+        → pswsOf (headPsw table t p) l ≡ pswsOf (table .psw) l
     unfolding headPsw
     others-head p l h =
         psws-other (table .psw) (listOf (taskQueue table t)) l (headOf (taskQueue table t)) p front (λ x. omega (arith, h x, tidy .once x))
@@ -223,7 +226,8 @@ module _ (table : ProcessTable) (t : ℕ) (tidy : Tidy table) (low : 1 ≤ t) (h
         after-turn = sym (own-moved (turned (taskQueue table t)) (headPsw table t p) flag) ∙ own-go p flag
 
     -- a process joins behind the turned queue, and behind the queue as it is
-    pub moved-created : (p new : ℕ) → length (livePts (table .queues)) < 64 → Moved table t (joined (turned (taskQueue table t)) (lowestFree (table .queues))) (set (headPsw table t p) (lowestFree (table .queues)) new)
+    pub moved-created : (p new : ℕ) → length (livePts (table .queues)) < 64
+        → Moved table t (joined (turned (taskQueue table t)) (lowestFree (table .queues))) (set (headPsw table t p) (lowestFree (table .queues)) new)
     unfolding lowestFree queueIn
     moved-created p new k =
         moved-join (turned (taskQueue table t)) p (lowestFree (table .queues)) new (turned-shaped (taskQueue table t) mine)
@@ -232,13 +236,20 @@ module _ (table : ProcessTable) (t : ℕ) (tidy : Tidy table) (low : 1 ≤ t) (h
         (λ x. omega (arith, ap (occ x) (turned-list (taskQueue table t) mine), occ-rot x (listOf (taskQueue table t))))
 
     own-created : (p new flag : ℕ) → length (livePts (table .queues)) < 64
-        → processesOf (record { psw = set (headPsw table t p) (lowestFree (table .queues)) new; queues = withQueue (table .queues) t (joined (turned (taskQueue table t)) (lowestFree (table .queues))); flag = flag }) t
+        → processesOf
+        (record {
+          psw = set (headPsw table t p) (lowestFree (table .queues)) new;
+          queues = withQueue (table .queues) t (joined (turned (taskQueue table t)) (lowestFree (table .queues)));
+          flag = flag;
+        })
+        t
         ≡ rot (head-to p (processesOf table t)) ++ (new ∷ [])
     unfolding lowestFree queueIn
     own-created p new flag k =
         own-join p (lowestFree (table .queues)) new flag (omega (arith, len-get (table .queues) (t - 1) index)) (free-spec 64 (livePts (table .queues)) k)
 
-    pub moved-fault : (p new : ℕ) → length (livePts (table .queues)) < 64 → Moved table t (joined (taskQueue table t) (lowestFree (table .queues))) (set (headPsw table t p) (lowestFree (table .queues)) new)
+    pub moved-fault : (p new : ℕ) → length (livePts (table .queues)) < 64
+        → Moved table t (joined (taskQueue table t) (lowestFree (table .queues))) (set (headPsw table t p) (lowestFree (table .queues)) new)
     unfolding lowestFree queueIn
     moved-fault p new k =
         moved-join (taskQueue table t) p (lowestFree (table .queues)) new mine
@@ -253,54 +264,48 @@ record Good (table : ProcessTable) (r : Row) (d : Decision) (c : Change) : Type 
   others : (u : ℕ) → r .task ≢ u → 1 ≤ u → u ≤ 7 → processesOf (c .table) u ≡ processesOf table u
 
 module _ (table : ProcessTable) (r : Row) (tidy : Tidy table) (low : 1 ≤ r .task) (high : r .task ≤ 7) (nonempty : taskQueue table (r .task) .len ≢ 0) where
+  -- the queue and the PSWs move, the row and the flag stay
+  good-moved : (d : Decision) (e : Ending) (q : Queue) (psw ps : List ℕ) → table .flag ≡ 0 → Moved table (r .task) q psw
+      → processesOf (requeued table r psw q (table .flag)) (r .task) ≡ ps → owner r ps ≡ local d (owner r (processesOf table (r .task)))
+      → Good table r d (record { row = r; table = requeued table r psw q (table .flag); ending = e })
+  good-moved d e q psw ps z m is own = record {
+    keeps = refl;
+    was = z;
+    tidy = tidy-moved table (r .task) tidy low high q psw (table .flag) m;
+    mine = ap (owner r) is ∙ own;
+    others = other-moved table (r .task) tidy low high q psw (table .flag) m;
+  }
+
   good-fate : (d : Decision) (f : Fate) → ((o : Own) → local d o ≡ owner (o .row) (localFate f (o .processes)))
       → fateIn table r f .table .flag ≡ 0 → Good table r d (fateIn table r f)
   unfolding fateIn createdIn createdPsw faultIn
   good-fate d (Continues p) e z =
-      let m : Moved table (r .task) (turned (taskQueue table (r .task))) (headPsw table (r .task) p) = moved-turn table (r .task) tidy low high nonempty (headPsw table (r .task) p) (wide-head table (r .task) tidy low high nonempty p) (others-head table (r .task) tidy low high nonempty p) in
-      record {
-        keeps = refl;
-        was = z;
-        tidy = tidy-moved table (r .task) tidy low high (turned (taskQueue table (r .task))) (headPsw table (r .task) p) (table .flag) m;
-        mine = ap (owner r) (own-go table (r .task) tidy low high nonempty p (table .flag)) ∙ sym (e (owner r (processesOf table (r .task))));
-        others = other-moved table (r .task) tidy low high (turned (taskQueue table (r .task))) (headPsw table (r .task) p) (table .flag) m;
-      }
+      good-moved d Executed (turned (taskQueue table (r .task))) (headPsw table (r .task) p) _ z
+      (moved-turn table (r .task) tidy low high nonempty (headPsw table (r .task) p)
+      (wide-head table (r .task) tidy low high nonempty p) (others-head table (r .task) tidy low high nonempty p))
+      (own-go table (r .task) tidy low high nonempty p (table .flag)) (sym (e (owner r (processesOf table (r .task)))))
   good-fate d Quits e z =
-      let m : Moved table (r .task) (shifted (taskQueue table (r .task))) (table .psw) = moved-shift table (r .task) tidy low high nonempty in
-      record {
-        keeps = refl;
-        was = z;
-        tidy = tidy-moved table (r .task) tidy low high (shifted (taskQueue table (r .task))) (table .psw) (table .flag) m;
-        mine = ap (owner r) (own-shift table (r .task) tidy low high nonempty (table .flag)) ∙ sym (e (owner r (processesOf table (r .task))));
-        others = other-moved table (r .task) tidy low high (shifted (taskQueue table (r .task))) (table .psw) (table .flag) m;
-      }
+      good-moved d Executed (shifted (taskQueue table (r .task))) (table .psw) _ z (moved-shift table (r .task) tidy low high nonempty)
+      (own-shift table (r .task) tidy low high nonempty (table .flag)) (sym (e (owner r (processesOf table (r .task)))))
   good-fate d (Creates p new) e z = go (ltb (suc (length (livePts (table .queues)))) total) (λ k. ltb-true (suc (length (livePts (table .queues)))) total k) z
     where
       go : (b : Bool) → (b ≡ true → suc (length (livePts (table .queues))) < total)
           → cond b (createdIn table r p new) (faultIn table r p new) .table .flag ≡ 0
           → Good table r d (cond b (createdIn table r p new) (faultIn table r p new))
       go true k z =
-          let m : Moved table (r .task) (joined (turned (taskQueue table (r .task))) (lowestFree (table .queues))) (set (headPsw table (r .task) p) (lowestFree (table .queues)) new) = moved-created table (r .task) tidy low high nonempty p new (omega (arith, k refl)) in
-          record {
-            keeps = refl;
-            was = z;
-            tidy = tidy-moved table (r .task) tidy low high (joined (turned (taskQueue table (r .task))) (lowestFree (table .queues))) (set (headPsw table (r .task) p) (lowestFree (table .queues)) new) (table .flag) m;
-            mine = ap (owner r) (own-created table (r .task) tidy low high nonempty p new (table .flag) (omega (arith, k refl))) ∙ sym (e (owner r (processesOf table (r .task))));
-            others = other-moved table (r .task) tidy low high (joined (turned (taskQueue table (r .task))) (lowestFree (table .queues))) (set (headPsw table (r .task) p) (lowestFree (table .queues)) new) (table .flag) m;
-          }
+          good-moved d Executed (joined (turned (taskQueue table (r .task))) (lowestFree (table .queues)))
+          (set (headPsw table (r .task) p) (lowestFree (table .queues)) new) _ z
+          (moved-created table (r .task) tidy low high nonempty p new (omega (arith, k refl)))
+          (own-created table (r .task) tidy low high nonempty p new (table .flag) (omega (arith, k refl)))
+          (sym (e (owner r (processesOf table (r .task)))))
       go false k z = absurd (omega arith)
 
   good : (d : Decision) → changeOf table r d .table .flag ≡ 0 → Good table r d (changeOf table r d)
   unfolding changeOf local trappedRow
   good (Waits w) z =
-      let m : Moved table (r .task) (turned (taskQueue table (r .task))) (table .psw) = moved-turn table (r .task) tidy low high nonempty (table .psw) (tidy .wide) (λ l h. refl) in
-      record {
-        keeps = refl;
-        was = z;
-        tidy = tidy-moved table (r .task) tidy low high (turned (taskQueue table (r .task))) (table .psw) (table .flag) m;
-        mine = ap (owner r) (own-turn table (r .task) tidy low high nonempty (table .flag));
-        others = other-moved table (r .task) tidy low high (turned (taskQueue table (r .task))) (table .psw) (table .flag) m;
-      }
+      good-moved (Waits w) Waved (turned (taskQueue table (r .task))) (table .psw) _ z
+      (moved-turn table (r .task) tidy low high nonempty (table .psw) (tidy .wide) (λ l h. refl))
+      (own-turn table (r .task) tidy low high nonempty (table .flag)) refl
   good (Traps k p) z = record {
     keeps = refl;
     was = z;
@@ -343,7 +348,9 @@ module _ (s : State) (t : ℕ) (r : Row) (inv : Inv s) (at : findRow t (s .rows)
   unfolding own act
   own-act =
       ap (ownIn (changeOf (s .table) r d .table) t) find-act
-      ∙ ap some (subst (λ (x : ℕ). owner (changeOf (s .table) r d .row) (processesOf (changeOf (s .table) r d .table) x) ≡ local d (owner r (processesOf (s .table) x))) task-t (facts .mine))
+      ∙ ap some
+      (subst (λ (x : ℕ). owner (changeOf (s .table) r d .row) (processesOf (changeOf (s .table) r d .table) x) ≡ local d (owner r (processesOf (s .table) x)))
+      task-t (facts .mine))
 
   pub own-act-other : (u : ℕ) → t ≢ u → own u (act s r d .state) ≡ own u s
   unfolding own act

@@ -79,7 +79,8 @@ module _ (decide : Environment → Decision) where
   }
 
   -- a step of a task outside A changes nothing that A sees
-  pub step-outside : (A : ℕ → Bool) (u : ℕ) (s : State) → A u ≡ false → Inv s → Apart A s → stepBy decide u s .state .table .flag ≡ 0 → Agree A s (stepBy decide u s .state)
+  pub step-outside : (A : ℕ → Bool) (u : ℕ) (s : State) → A u ≡ false → Inv s → Apart A s → stepBy decide u s .state .table .flag ≡ 0
+      → Agree A s (stepBy decide u s .state)
   step-outside A u s out inv k z = record {
     owns = λ t m. sym (own-step-other decide u t s (λ e. true≢false (sym m ∙ ap A (sym e) ∙ out)) inv z);
     constants = λ a. ap (λ (l : List ℕ). constantAt l a) (sym (constants-step decide u s));
@@ -96,7 +97,9 @@ module _ (decide : Environment → Decision) where
       psw = p;
       flag = flags i;
       code = λ a. seen-same (programWindow r) (s .program) (s′ .program) (g .code t m (fixed r) e) a i;
-      cell = λ o. visible-same (registerWindow r) (s .registers) (s′ .registers) (s .constants) (s′ .constants) (g .cells registerTags t m (fixed r) e) (g .cells registerWords t m (fixed r) e) (g .constants) o i;
+      cell = λ o.
+          visible-same (registerWindow r) (s .registers) (s′ .registers) (s .constants) (s′ .constants)
+          (g .cells registerTags t m (fixed r) e) (g .cells registerWords t m (fixed r) e) (g .constants) o i;
       datum = λ a. record {
         tag = seen-same (dataWindow r) (s .dataWords .tags) (s′ .dataWords .tags) (g .cells dataTags t m (fixed r) e) a i;
         word = seen-same (dataWindow r) (s .dataWords .words) (s′ .dataWords .words) (g .cells dataValues t m (fixed r) e) a i;

@@ -169,7 +169,8 @@ module _ (decide : Environment → Decision) where
   hitsIn m (some d) none a x = x
   hitsIn m (some d) (some o) a x = hits (takenIn m) (windowIn m (o .row)) (writesIn m d) a x
 
-  pub list-step : (m : Part) (t : ℕ) (s : State) (a : ℕ) → getElem? (listIn m (stepBy decide t s .state)) a ≡ hitsIn m (decided s (own t s)) (own t s) a (getElem? (listIn m s) a)
+  pub list-step : (m : Part) (t : ℕ) (s : State) (a : ℕ)
+      → getElem? (listIn m (stepBy decide t s .state)) a ≡ hitsIn m (decided s (own t s)) (own t s) a (getElem? (listIn m s) a)
   list-step m t s a =
       elim (steps t s) [
         | idles e n ↦

@@ -12,6 +12,7 @@ use Rattle.window.specs.declared.Window.{Window}
 use Rattle.window.specs.declared.Place.{Place}
 use Rattle.window.specs.declared.Place.the-variants.{At, Violation}
 use Rattle.window.specs.Windows.{windowOf, inside, placeIn, meets}
+use Rattle.word.specs.Laws.Conjunctions.{also, both}
 use Rattle.word.specs.Laws.Bools.{Le?, below, above, le?, and-left, and-right, and-both}
 
 -- a real address in a window, as an order
@@ -96,9 +97,8 @@ unfolding meets
 meeting v w a e f =
     let i : In v a = in-of v a e in
     let j : In w a = in-of w a f in
-    and-both (leb (v .first) (v .last) && leb (w .first) (w .last)) (leb (v .first) (w .last) && leb (w .first) (v .last))
-    (and-both (leb (v .first) (v .last)) (leb (w .first) (w .last)) (le-leb (v .first) (v .last) (omega arith)) (le-leb (w .first) (w .last) (omega arith)))
-    (and-both (leb (v .first) (w .last)) (leb (w .first) (v .last)) (le-leb (v .first) (w .last) (omega arith)) (le-leb (w .first) (v .last) (omega arith)))
+    also (also (le-leb (v .first) (v .last) (omega arith)) (le-leb (w .first) (w .last) (omega arith)))
+    (also (le-leb (v .first) (w .last) (omega arith)) (le-leb (w .first) (v .last) (omega arith)))
 
 -- a test of four orders, taken apart
 pub record Crossed (v w : Window) : Type 0 where
@@ -110,14 +110,8 @@ pub record Crossed (v w : Window) : Type 0 where
 pub crossed : (v w : Window) → meets v w ≡ true → Crossed v w
 unfolding meets
 crossed v w e =
-    let p : leb (v .first) (v .last) && leb (w .first) (w .last) ≡ true = and-left (leb (v .first) (v .last) && leb (w .first) (w .last)) (leb (v .first) (w .last) && leb (w .first) (v .last)) e in
-    let q : leb (v .first) (w .last) && leb (w .first) (v .last) ≡ true = and-right (leb (v .first) (v .last) && leb (w .first) (w .last)) (leb (v .first) (w .last) && leb (w .first) (v .last)) e in
-    record {
-      own = leb-true (v .first) (v .last) (and-left (leb (v .first) (v .last)) (leb (w .first) (w .last)) p);
-      other = leb-true (w .first) (w .last) (and-right (leb (v .first) (v .last)) (leb (w .first) (w .last)) p);
-      low = leb-true (v .first) (w .last) (and-left (leb (v .first) (w .last)) (leb (w .first) (v .last)) q);
-      high = leb-true (w .first) (v .last) (and-right (leb (v .first) (w .last)) (leb (w .first) (v .last)) q);
-    }
+    let parts : _ = both (both (leb-true (v .first) (v .last)) (leb-true (w .first) (w .last))) (both (leb-true (v .first) (w .last)) (leb-true (w .first) (v .last))) e in
+    record { own = parts .0 .0; other = parts .0 .1; low = parts .1 .0; high = parts .1 .1 }
 
 pub met : (v w : Window) → meets v w ≡ true → (a : ℕ) × In v a × In w a
 met v w e =
