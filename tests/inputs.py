@@ -15,8 +15,8 @@ from emulator import Cell, Process, Psw, Row, State, WORD, constant_field, instr
 
 ZERO_CONSTANT = 100                 # displacement past every constant, so that it reads as zero
 PLAIN_CODES = {operation[0]: code for code, operation in emulator.OPERATIONS.items()}
-TRAP_WORDS = ('unlisted', 'digit', 'privileged', 'simulated', 'svc', 'unused', 'access', 'destination', 'window',
-              'bytes', 'data access')
+TRAP_WORDS = ('unlisted', 'digit', 'privileged', 'privileged', 'simulated', 'svc', 'svc', 'unused', 'access',
+              'destination', 'window', 'bytes', 'data access')
 # Operations of the source that document 01 does not list, or lists with other low digits.
 UNLISTED_CODES = (0x711E, 0x7112, 0x610F, 0x4C00, 0x9C02, 0xB871, 0x7300, 0x7201, 0x7142, 0x7970, 0x7973, 0x1971,
                   0x6C20, 0x7C40, 0xBC80, 0xFCE2, 0x0001, 0xFFFF)
@@ -266,7 +266,8 @@ def random_state(rng):
 def damaged_state(rng, state, schedule):
     """Spoil a state or schedule so that its image is refused as a whole, or its run."""
     row = rng.choice(state.rows)
-    kind = rng.choice(('register window', 'program window', 'data window', 'pt', 'flag', 'schedule', 'order'))
+    kind = rng.choice(('register window', 'program window', 'data window', 'pt', 'pt', 'flag', 'order',
+                       'schedule', 'schedule', 'schedule'))
     if kind == 'register window':
         row.rb, row.rl = 0, len(state.registers) // 2
     elif kind == 'program window':

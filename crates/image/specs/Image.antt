@@ -1,5 +1,5 @@
 -- The image: sections in fixed order, each after its count; what its fields are as a state; reading and writing.
-use Prim.Native.Nat.{ℕ, zero, suc, _+_, _-_, _^_}
+use Prim.Native.Nat.{ℕ, zero, suc, _-_, _^_}
 use mathlib.Core.Bool.{Bool, true, cond, _&&_}
 use mathlib.Core.List.{List, [], _∷_, _++_, map}
 use lib.ListN.{length, getD, set, replicate}
@@ -9,7 +9,6 @@ use Rattle.window.specs.declared.Row.{Row}
 use Rattle.window.specs.declared.Cell.{Cell}
 use Rattle.window.specs.Memories.{Memory, memory, cell, tagOf, wordOf}
 use Rattle.step.specs.declared.Queue.{Queue}
-use Rattle.step.specs.declared.ProcessTable.{ProcessTable}
 use Rattle.step.specs.Queues.{capacity, listOf}
 use Rattle.step.specs.State.{State}
 use Rattle.window.specs.Sound.{bits, tagSound, stateSound}

@@ -1,7 +1,7 @@
 -- What each 16-bit code stands for.
 use Prim.Native.Nat.{ℕ, _/_, _%_}
-use mathlib.Core.Bool.{Bool, cond}
-use mathlib.Core.List.{List, [], _∷_, _++_, map}
+use mathlib.Core.Bool.{cond}
+use mathlib.Core.List.{List, [], _∷_, map}
 use lib.Dec.{eqb, ltb}
 use Rattle.word.specs.declared.Vector.the-variants.{Mov, Clr, One, Not, Eor, Eqv, Nand, Nor, Or}
 use Rattle.word.specs.declared.Bit.the-variants.{Bitclr, Bitset, Encode0, Encode1}

@@ -1,4 +1,4 @@
--- The checks of a step in their order, on the state before the step.
+-- The checks of a step in their order, on the state before the step. A definition stands below those that it uses, so check 1 stands last.
 use Prim.Native.Nat.{ℕ}
 use mathlib.Core.Bool.{Bool, cond, _||_}
 use Rattle.word.specs.Fields.{pcOf, nextOf, instructionOf}
@@ -16,7 +16,6 @@ use Rattle.operand.specs.Access.{waitsOf, maskedOf}
 use Rattle.operation.specs.declared.Operation.{Operation}
 use Rattle.operation.specs.declared.Code.{Code}
 use Rattle.operation.specs.declared.Code.the-variants.{Privileged, Simulated, Svc, Listed, Illegal}
-use Rattle.operation.specs.declared.Roles.{Roles}
 use Rattle.operation.specs.declared.Site.{Site}
 use Rattle.operation.specs.declared.Sites.{Sites}
 use Rattle.operation.specs.declared.Trap.the-variants as trap

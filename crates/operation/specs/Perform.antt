@@ -1,7 +1,7 @@
 -- What an instruction decides once its operands are found, full or empty as they must be, and unmasked: checks 7 and 8, and the results.
 use Prim.Native.Nat.{ℕ, _+_, _*_, _/_, _%_, _^_}
-use mathlib.Core.Bool.{Bool, cond, not, _||_}
-use lib.Dec.{eqb, leb}
+use mathlib.Core.Bool.{Bool, cond, not, _&&_, _||_}
+use lib.Dec.{eqb}
 use Rattle.word.specs.Fields.{ciOf, riOf, utmOf, pcOf, pswOf, nextOf}
 use Rattle.word.specs.Vectors.{vectorOf}
 use Rattle.word.specs.Bits.{bitOf}
@@ -9,7 +9,6 @@ use Rattle.word.specs.Integers.{integerOf}
 use Rattle.word.specs.Tests.{holdsOf}
 use Rattle.word.specs.declared.Instruction.{Instruction}
 use Rattle.word.specs.declared.Outcome.{Outcome}
-use Rattle.window.specs.declared.Cell.{Cell}
 use Rattle.window.specs.declared.Place.{Place}
 use Rattle.window.specs.declared.Place.the-variants.{At, Violation}
 use Rattle.window.specs.declared.Write.{Write}
@@ -21,12 +20,10 @@ use Rattle.operation.specs.declared.Operation.{Operation}
 use Rattle.operation.specs.declared.Operation.the-variants as operation
 use Rattle.operation.specs.declared.Site.{Site}
 use Rattle.operation.specs.declared.Sites.{Sites}
-use Rattle.operation.specs.declared.Trap.{Trap}
 use Rattle.operation.specs.declared.Trap.the-variants as trap
 use Rattle.operation.specs.declared.Wait.the-variants.{Data, Create}
 use Rattle.operation.specs.declared.Fate.{Fate}
 use Rattle.operation.specs.declared.Fate.the-variants.{Continues, Quits, Creates}
-use Rattle.operation.specs.declared.Effects.{Effects}
 use Rattle.operation.specs.declared.Decision.{Decision}
 use Rattle.operation.specs.declared.Decision.the-variants.{Waits, Traps, Executes}
 use Rattle.operation.specs.Roles.{bOf, sacOf, dacOf}
@@ -102,19 +99,28 @@ indirectOf s = s .second .cell .word % 2 ^ 32
 unfoldable pub indexedOf : Sites → ℕ
 indexedOf s = (s .second .cell .word + s .third .cell .word) % 2 ^ 32
 
--- the load of the data word at the real word address a: SAC 1 and 2 wait until full, 2 sets it empty
+-- the data state of a load is unmet: SAC 1 and 2 wait until full
+unfoldable pub loadWaits : (low state : ℕ) → Bool
+loadWaits low state = not (eqb (sacOf low) 0) && eqb state 0
+
+-- the data word that a load leaves: SAC 2 sets it empty
+unfoldable pub loadLeaves : (low a word : ℕ) → Write
+loadLeaves low a word = cond (eqb (sacOf low) 2) (Put a (cell 0 word)) Nothing
+
+-- the load of the data word at the real word address a
 unfoldable pub loadWord : Environment → Sites → (low a : ℕ) → Decision
 loadWord v s low a =
-    cond (not (eqb (sacOf low) 0))
-    (cond (eqb (v .datum a .tag) 0) (Waits Data)
-    (executed s (resultIn (s .first) (plain (v .datum a .word))) (cond (eqb (sacOf low) 2) (Put a (cell 0 (v .datum a .word))) Nothing) (Continues (nextOf (v .psw)))))
-    (stepping v s (plain (v .datum a .word)))
+    cond (loadWaits low (v .datum a .tag)) (Waits Data)
+    (executed s (resultIn (s .first) (plain (v .datum a .word))) (loadLeaves low a (v .datum a .word)) (Continues (nextOf (v .psw))))
 
--- the store of a word there: DAC 2 waits until empty; a store leaves full
+-- the data state of a store is unmet: DAC 2 waits until empty
+unfoldable pub storeWaits : (low state : ℕ) → Bool
+storeWaits low state = eqb (dacOf low) 2 && not (eqb state 0)
+
+-- the store of a word there; a store leaves full
 unfoldable pub storeWord : Environment → Sites → (low word a : ℕ) → Decision
 storeWord v s low word a =
-    cond (eqb (dacOf low) 2)
-    (cond (eqb (v .datum a .tag) 0) (executed s Nothing (Put a (cell 1 word)) (Continues (nextOf (v .psw)))) (Waits Data))
+    cond (storeWaits low (v .datum a .tag)) (Waits Data)
     (executed s Nothing (Put a (cell 1 word)) (Continues (nextOf (v .psw))))
 
 -- check 7 of the byte address e: a protection violation is 14; then B = 1, or low three address bits not zero, gives 1C. The rest is

@@ -1,7 +1,7 @@
 -- The fields of each operation, as on its page; unused fields are zero.
 use Prim.Native.Nat.{ℕ, _/_, _%_}
-use mathlib.Core.Bool.{Bool, true, false, _&&_, _||_, not}
-use lib.Dec.{eqb, leb}
+use mathlib.Core.Bool.{Bool, false, _||_, not}
+use lib.Dec.{eqb}
 use Rattle.word.specs.declared.Instruction.{Instruction}
 use Rattle.word.specs.declared.Vector.{Vector}
 use Rattle.word.specs.declared.Vector.the-variants.{Mov, Clr, One, Not, Eor, Eqv, Nand, Nor, Or}

@@ -1,13 +1,13 @@
 -- The batch program: standard input as bytes, standard output as bytes.
 use Prim.Native.Nat.{ℕ, zero, suc, _+_, _/_, _%_}
-use mathlib.Core.Bool.{Bool, true, cond}
+use mathlib.Core.Bool.{true, cond}
 use mathlib.Core.List.{List, [], _∷_, _++_}
 use lib.Dec.{eqb, ltb}
 use lib.ListN.{length}
 use Rattle.word.specs.Fields.{pcOf}
 use Rattle.window.specs.declared.Row.{Row}
 use Rattle.step.specs.declared.ProcessTable.{ProcessTable}
-use Rattle.step.specs.State.{State, processesOf}
+use Rattle.step.specs.State.{processesOf}
 use Rattle.step.specs.Step.{noTrap}
 use Rattle.step.specs.Soundness.{every}
 use Rattle.run.specs.declared.Counts.{Counts}
@@ -16,7 +16,7 @@ use Rattle.run.specs.declared.Refusal.the-variants.{Item, Input}
 use Rattle.run.specs.Refusals.{numberOf, itemSound}
 use Rattle.run.specs.Run.{Ran, run}
 use Rattle.image.specs.Codec.{Codec, Result, refused, accepted, num}
-use Rattle.image.specs.Image.{plain, alike, Image, stateOf, Decoded, bad, good, decode}
+use Rattle.image.specs.Image.{plain, alike, stateOf, Decoded, bad, good, decode}
 
 -- ---- characters: '0' is 48, 'A' 65, space 32, '-' 45, newline 10
 

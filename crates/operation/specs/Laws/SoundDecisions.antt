@@ -38,10 +38,10 @@ use Rattle.operation.specs.declared.Effects.{Effects}
 use Rattle.operation.specs.declared.Decision.{Decision}
 use Rattle.operation.specs.declared.Decision.the-variants.{Waits, Traps, Executes}
 use Rattle.operation.specs.Codes.{codeOf}
-use Rattle.operation.specs.Roles.{svcRoles, illegalFields, illegalInstruction, bOf, sacOf, dacOf}
+use Rattle.operation.specs.Roles.{svcRoles, illegalFields, illegalInstruction, bOf, sacOf}
 use Rattle.operation.specs.Environment.{Environment}
 use Rattle.operation.specs.Perform.{leftOf, executed, resultIn, plain, stepping, testOf, branched, called, created}
-use Rattle.operation.specs.Perform.{indirectOf, indexedOf, loadWord, storeWord, dataAt}
+use Rattle.operation.specs.Perform.{indirectOf, indexedOf, loadWaits, loadLeaves, loadWord, storeWaits, storeWord, dataAt}
 use Rattle.operation.specs.Perform.{performBranch, performCall, performCreate, performQuit, performLoad, performStore, perform}
 use Rattle.operation.specs.Decide.{siteOf, sitesWait, sitesMasked, decideFound, foundThird, foundSecond, foundFirst}
 use Rattle.operation.specs.Decide.{decideOperands, decideCode, decideFetched, decide}
@@ -180,21 +180,17 @@ module _ (v : Environment) (h : SoundEnvironment v) where
     quit-sound c = executed-sound _ _ _ tt tt (either (SoundFate (v .flag)) (testOf v s c) tt (next-sound (v .psw)))
 
     load-sound : (low a : ℕ) → SoundDecision (v .flag) (loadWord v s low a)
-    unfolding loadWord stateSound
+    unfolding loadWord loadLeaves stateSound
     load-sound low a =
         let w : wordSound (v .datum a .word) ≡ true = h .dataWords a in
-        either (SoundDecision (v .flag)) (not (eqb (sacOf low) 0))
-        (either (SoundDecision (v .flag)) (eqb (v .datum a .tag) 0) tt
+        either (SoundDecision (v .flag)) (loadWaits low (v .datum a .tag)) tt
         (executed-sound _ _ _ (result-sound (s .first) _ (plain-sound _ w))
-        (either (SoundWrite stateSound) (eqb (sacOf low) 2) (refl, w) tt) (next-sound (v .psw))))
-        (stepping-sound _ (plain-sound _ w))
+        (either (SoundWrite stateSound) (eqb (sacOf low) 2) (refl, w) tt) (next-sound (v .psw)))
 
     store-sound : (low word a : ℕ) → wordSound word ≡ true → SoundDecision (v .flag) (storeWord v s low word a)
     unfolding storeWord stateSound
     store-sound low word a w =
-        let put : SoundDecision (v .flag) (executed s Nothing (Put a (cell 1 word)) (Continues (nextOf (v .psw)))) =
-        executed-sound _ _ _ tt (refl, w) (next-sound (v .psw)) in
-        either (SoundDecision (v .flag)) (eqb (dacOf low) 2) (either (SoundDecision (v .flag)) (eqb (v .datum a .tag) 0) put tt) put
+        either (SoundDecision (v .flag)) (storeWaits low (v .datum a .tag)) tt (executed-sound _ _ _ tt (refl, w) (next-sound (v .psw)))
 
     data-sound : (low e : ℕ) (access : ℕ → Decision) (p : Place) → ((a : ℕ) → SoundDecision (v .flag) (access a))
         → SoundDecision (v .flag) (dataAt v low e access p)

@@ -1,7 +1,7 @@
 -- The test that a task's register and data windows meet no other task's.
 use mathlib.Core.Path.{_≡_, refl, sym, ap, _∙_, subst}
 use mathlib.Core.Logic.{_≢_}
-use mathlib.Core.Bool.{Bool, true, false, cond, not, _&&_, _||_}
+use mathlib.Core.Bool.{Bool, true, false, not, _&&_, _||_}
 use mathlib.Core.Option.{Option, none, some}
 use mathlib.Core.List.{List, [], _∷_}
 use Prim.Native.Nat.{ℕ}
@@ -12,7 +12,7 @@ use Rattle.word.specs.Laws.Conjunctions.{both}
 use Rattle.window.specs.declared.Row.{Row}
 use Rattle.window.specs.Windows.{meets, registerWindow, dataWindow}
 use Rattle.step.specs.State.{State, findRow}
-use Rattle.step.specs.Laws.Rows.{Found, here, there, found, some-inj, none-some, find-task}
+use Rattle.step.specs.Laws.Rows.{here, there, found, none-some, find-task}
 use Rattle.run.specs.Compared.{Alone}
 
 -- the windows of two rows do not meet

@@ -1,20 +1,18 @@
 -- Isolation of a set of tasks over two whole runs, from what is compared of each task. For any instruction set.
 use mathlib.Core.Path.{_≡_, refl, sym, ap, ap₂, _∙_, subst, subst₂}
-use mathlib.Core.Logic.{_≢_}
-use mathlib.Core.Bool.{Bool, true, false, cond}
+use mathlib.Core.Bool.{Bool, true, false}
 use mathlib.Core.Option.{Option, none, some}
 use mathlib.Core.List.{List, [], _∷_}
 use Prim.Native.Nat.{ℕ, zero, suc, _+_, _-_, _≤_, _<_}
 use native.Mathlib.Nat.{zero-add, suc-add, le-of-suc-le-suc, not-suc-le-zero}
 use native.Mathlib.Omega.{arith}
-use lib.ListN.{length, getElem?, take, drop, replicate}
-use lib.Seq.{slice}
+use lib.ListN.{getElem?, take, drop, replicate}
 use lib.Dec.{eqb, leb}
 use borrow.Author.Tests.{eq-eqb, eqb-true, eqb-false}
 use Rattle.word.specs.Laws.Bools.{Le?, below, above, le?, clash}
 use Rattle.window.specs.declared.Row.{Row}
 use Rattle.window.specs.declared.Window.{Window}
-use Rattle.window.specs.Windows.{inside, meets, registerWindow, programWindow, dataWindow}
+use Rattle.window.specs.Windows.{inside, meets, programWindow}
 use Rattle.window.specs.Laws.Windows.{In, in-of, of-in, meeting}
 use Rattle.window.specs.Memories.{Memory, memory}
 use Rattle.operation.specs.Environment.{Environment}
@@ -23,7 +21,7 @@ use Rattle.operation.specs.Decide.{decide}
 use Rattle.step.specs.Queues.{occ, hit}
 use Rattle.step.specs.Laws.Occurrences.{occ-nil, occ-cons, hit-same, hit-differ}
 use Rattle.step.specs.State.{State, findRow}
-use Rattle.step.specs.Owned.{Own, ownIn, own}
+use Rattle.step.specs.Owned.{ownIn, own}
 use Rattle.step.specs.Laws.Rows.{some-inj, none-some}
 use Rattle.step.specs.Laws.Act.{fixed, Inv}
 use Rattle.step.specs.Laws.Step.{Part, registerTags, registerWords, dataTags, dataValues, listIn, windowIn, window-fixed, fixedOf, fixedAt}
@@ -32,7 +30,7 @@ use Rattle.step.specs.Laws.Agreement as agreement
 use Rattle.run.specs.declared.Counts.{Counts}
 use Rattle.run.specs.Run.{noCounts, runBy, run}
 use Rattle.run.specs.Laws.Run.{after, run-after}
-use Rattle.run.specs.Laws.RunAgreement.{only, only-nil, only-in, only-out, Ready, runs-agree}
+use Rattle.run.specs.Laws.RunAgreement.{only, only-nil, only-in, only-out, runs-agree}
 use Rattle.run.specs.Compared.{cut, memoryIn, Compared, SameProgram, SameConstants, Clear, Apart, Alone}
 
 -- ---- a part cut out of a list, and its places

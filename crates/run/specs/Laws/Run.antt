@@ -13,7 +13,7 @@ use Rattle.step.specs.State.{State}
 use Rattle.step.specs.Step.{stepBy}
 use Rattle.step.specs.Laws.Step.{step-flag}
 use Rattle.run.specs.declared.Counts.{Counts}
-use Rattle.run.specs.Run.{counted, noCounts, Ran, runBy, run}
+use Rattle.run.specs.Run.{counted, noCounts, runBy, run}
 
 -- executed + waved + trapped + idle
 abbrev pub sum : Counts → ℕ

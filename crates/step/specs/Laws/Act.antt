@@ -1,10 +1,10 @@
 -- One act of a task: what it does to its own share of the table, to another's, and to the invariant.
-use mathlib.Core.Path.{_≡_, refl, sym, ap, ap₂, _∙_, subst}
+use mathlib.Core.Path.{_≡_, refl, sym, ap, _∙_, subst}
 use mathlib.Core.Logic.{_≢_}
 use mathlib.Core.Bool.{Bool, true, false, cond}
 use mathlib.Core.Option.{Option, none, some}
 use mathlib.Core.List.{List, [], _∷_, _++_}
-use Prim.Native.Nat.{ℕ, zero, suc, _+_, _-_, _≤_, _<_}
+use Prim.Native.Nat.{ℕ, suc, _+_, _-_, _≤_, _<_}
 use native.Mathlib.Omega.{arith}
 use lib.ListN.{length, getD, set, length-set}
 use lib.Seq.{getD-set-same, getD-set-other}
@@ -12,7 +12,6 @@ use lib.Dec.{eqb, ltb}
 use borrow.Author.Tests.{ltb-true}
 use Rattle.word.specs.Laws.Bools.{Eq?, same, differ, eq?}
 use Rattle.window.specs.declared.Row.{Row}
-use Rattle.operation.specs.declared.Trap.{Trap}
 use Rattle.operation.specs.declared.Fate.{Fate}
 use Rattle.operation.specs.declared.Fate.the-variants.{Continues, Quits, Creates}
 use Rattle.operation.specs.declared.Decision.{Decision}
@@ -21,7 +20,7 @@ use Rattle.step.specs.declared.Queue.{Queue}
 use Rattle.step.specs.declared.ProcessTable.{ProcessTable}
 use Rattle.step.specs.declared.Ending.{Ending}
 use Rattle.step.specs.declared.Ending.the-variants.{Executed, Waved}
-use Rattle.step.specs.Queues.{total, capacity, occ, hit, listOf, headOf, turned, shifted, joined, livePts, lowestFree, freeFrom}
+use Rattle.step.specs.Queues.{total, occ, listOf, headOf, turned, shifted, joined, livePts, lowestFree}
 use Rattle.step.specs.State.{taskQueue, State, findRow, putRow, noQueue, queueIn, withQueue, pswsOf, processesOf}
 use Rattle.step.specs.Owned.{Own, owner, ownIn, own}
 use Rattle.step.specs.Act.{createdPsw, Change, changeOf, fateIn, createdIn, faultIn, headPsw, trappedRow, act, requeued}

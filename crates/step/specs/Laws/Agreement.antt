@@ -1,6 +1,5 @@
 -- Two states that agree on a set of tasks, and one step in each. For any instruction set.
 use mathlib.Core.Path.{_≡_, refl, sym, ap, ap₂, _∙_, subst}
-use mathlib.Core.Logic.{_≢_}
 use mathlib.Core.Bool.{Bool, true, false, cond, true≢false}
 use mathlib.Core.Option.{Option, none, some}
 use mathlib.Core.List.{List, [], _∷_}
@@ -10,9 +9,8 @@ use lib.Dec.{eqb}
 use Rattle.word.specs.Laws.Bools.{Eq?, same, differ, eq?}
 use Rattle.window.specs.declared.Row.{Row}
 use Rattle.window.specs.declared.Window.{Window}
-use Rattle.window.specs.declared.Cell.{Cell}
 use Rattle.window.specs.Windows.{inside, registerWindow, programWindow, dataWindow}
-use Rattle.window.specs.Memories.{Memory, seen, cellIn, constantAt}
+use Rattle.window.specs.Memories.{Memory, cellIn, constantAt}
 use Rattle.window.specs.Laws.Memories.{seen-same}
 use Rattle.operand.specs.declared.Operand.{Operand}
 use Rattle.operand.specs.declared.Operand.the-variants.{Register, Constant, Absent}
@@ -23,7 +21,7 @@ use Rattle.step.specs.State.{State, environment}
 use Rattle.step.specs.Step.{noTrap, headDecides, rowDecides, stepBy}
 use Rattle.step.specs.Owned.{Own, own}
 use Rattle.step.specs.Laws.Act.{fixed, Inv}
-use Rattle.step.specs.Laws.Step.{Part, registerTags, registerWords, dataTags, dataValues, listIn, windowIn, window-fixed, fixedOf, fixedAt, decided, localIn, hitsIn, list-step, own-step, own-step-other, fixed-step, constants-step, program-step, step-outside-window}
+use Rattle.step.specs.Laws.Step.{Part, registerTags, registerWords, dataTags, dataValues, listIn, windowIn, fixedOf, fixedAt, decided, localIn, hitsIn, list-step, own-step, own-step-other, fixed-step, constants-step, program-step, step-outside-window}
 
 -- s and s′ agree on the tasks of A, place by place
 pub record Agree (A : ℕ → Bool) (s s′ : State) : Type 0 where

@@ -3,7 +3,7 @@ use mathlib.Core.Path.{_≡_, refl, sym, ap, ap₂, _∙_, subst}
 use mathlib.Core.Logic.{_≢_}
 use mathlib.Core.Bool.{Bool, true, false, cond}
 use mathlib.Core.Option.{Option, none, some}
-use mathlib.Core.List.{List, [], _∷_}
+use mathlib.Core.List.{List, []}
 use Prim.Native.Nat.{ℕ, zero, suc}
 use native.Mathlib.Omega.{arith}
 use lib.ListN.{length, getElem?}
@@ -20,10 +20,10 @@ use Rattle.operation.specs.Environment.{Environment}
 use Rattle.operation.specs.declared.Decision.{Decision}
 use Rattle.step.specs.declared.Queue.{Queue}
 use Rattle.step.specs.Queues.{ring, listOf}
-use Rattle.step.specs.State.{taskQueue, State, findRow, pswsOf, processesOf, environment}
+use Rattle.step.specs.State.{taskQueue, State, findRow, pswsOf, processesOf}
 use Rattle.step.specs.Act.{act, registerWrites, dataWrites}
 use Rattle.step.specs.Step.{noTrap, headDecides, rowDecides, acted, stepRow, stepBy}
-use Rattle.step.specs.Laws.Rows.{some-inj, none-some}
+use Rattle.step.specs.Laws.Rows.{none-some}
 use Rattle.step.specs.Owned.{Own, owner, ownIn, own}
 use Rattle.step.specs.Laws.Act.{fixed, Inv, local, own-act, own-act-other, act-inv, local-fixed, flag-back}
 
