@@ -1,9 +1,9 @@
 -- The calls of the library: what each refuses, and in which order. The first that applies is returned, with nothing else.
 use Prim.Native.Nat.{ℕ}
-use mathlib.Core.Bool.{Bool, cond, _&&_}
+use mathlib.Core.Bool.{Bool, cond, not, _&&_}
 use mathlib.Core.Option.{Option, none, some}
 use mathlib.Core.List.{List}
-use lib.Dec.{leb}
+use lib.Dec.{leb, ltb}
 use lib.ListN.{length}
 use Rattle.step.specs.State.{State}
 use Rattle.step.specs.Soundness.{sound}
@@ -34,7 +34,7 @@ fits room i =
 
 unfoldable pub roomRefusal : Room → Decoded → Option Refusal
 roomRefusal room (bad e) = some e
-roomRefusal room (good i) = cond (fits room i) none (some refusal.Buffer)
+roomRefusal room (good i) = cond (not (fits room i)) (some refusal.Buffer) none
 
 -- reading refuses by 1 to 6, then by 7
 unfoldable pub readRefusal : Room → List ℕ → Option Refusal
@@ -42,8 +42,8 @@ readRefusal room bytes = roomRefusal room (decode bytes)
 
 -- a run refuses by 8, then 9, then 10
 unfoldable pub runRefusal : State → (schedule : List ℕ) → Option Refusal
-runRefusal s schedule = cond (sound s) (scheduleRefusal schedule) (some refusal.State)
+runRefusal s schedule = cond (not (sound s)) (some refusal.State) (scheduleRefusal schedule)
 
 -- writing into a buffer of `room` bytes refuses by 8, then 7
 unfoldable pub writeRefusal : State → (room : ℕ) → Option Refusal
-writeRefusal s room = cond (sound s) (cond (leb (length (encode s)) room) none (some refusal.Buffer)) (some refusal.State)
+writeRefusal s room = cond (not (sound s)) (some refusal.State) (cond (ltb room (length (encode s))) (some refusal.Buffer) none)

@@ -1,6 +1,6 @@
 -- The image: sections in fixed order, each after its count; what its fields are as a state; reading and writing.
 use Prim.Native.Nat.{ℕ, zero, suc, _-_, _^_}
-use mathlib.Core.Bool.{Bool, true, cond, _&&_}
+use mathlib.Core.Bool.{Bool, true, cond, not, _&&_}
 use mathlib.Core.List.{List, [], _∷_, _++_, map}
 use lib.ListN.{length, getD, set, replicate}
 use lib.Dec.{leb, eqb}
@@ -221,9 +221,9 @@ unfoldable pub closed : Result Image → Decoded
 closed (refused e) = bad e
 closed (accepted i (x ∷ r)) = bad LeftOver
 closed (accepted i []) =
-    cond (windowsSound (length (i .registers)) (length (i .program)) (length (i .dataWords)) (i .rows))
-    (cond (distinct (map ptOf (i .processes)) && roomSound (length (i .processes)) (i .flag)) (good i) (bad Processes))
-    (bad Window)
+    cond (not (windowsSound (length (i .registers)) (length (i .program)) (length (i .dataWords)) (i .rows))) (bad Window)
+    (cond (not (distinct (map ptOf (i .processes)) && roomSound (length (i .processes)) (i .flag))) (bad Processes)
+    (good i))
 
 -- reading an image: refusals 1 to 3 in byte order, then 4, 5 and 6
 unfoldable pub decode : List ℕ → Decoded

@@ -1,6 +1,6 @@
 -- The batch program: standard input as bytes, standard output as bytes.
 use Prim.Native.Nat.{ℕ, zero, suc, _+_, _/_, _%_}
-use mathlib.Core.Bool.{true, cond}
+use mathlib.Core.Bool.{true, cond, not}
 use mathlib.Core.List.{List, [], _∷_, _++_}
 use lib.Dec.{eqb, ltb}
 use lib.ListN.{length}
@@ -97,7 +97,7 @@ scheduleCodec = plain itemCodec alike 2 65535 tt
 -- the program reads its whole input before it runs, so 10 comes last
 unfoldable pub outputRead : (schedule : List ℕ) → Decoded → List ℕ
 outputRead schedule (bad e) = refusalLine e
-outputRead schedule (good i) = cond (every itemSound schedule) (reportOf (run schedule (stateOf i))) (refusalLine Item)
+outputRead schedule (good i) = cond (not (every itemSound schedule)) (refusalLine Item) (reportOf (run schedule (stateOf i)))
 
 unfoldable pub outputScheduled : Result (List ℕ) → List ℕ
 outputScheduled (refused e) = refusalLine e

@@ -1,6 +1,6 @@
 -- The numbers of the refusals, and when a schedule is accepted.
 use Prim.Native.Nat.{ℕ}
-use mathlib.Core.Bool.{Bool, true, false, cond, _&&_}
+use mathlib.Core.Bool.{Bool, true, false, cond, not, _&&_}
 use mathlib.Core.Option.{Option, none, some}
 use mathlib.Core.List.{List}
 use lib.Dec.{leb, ltb}
@@ -42,7 +42,8 @@ itemSound t = leb 1 t && leb t 7
 unfoldable pub scheduleRefusal : List ℕ → Option Refusal
 scheduleRefusal schedule =
     cond (ltb 65535 (length schedule)) (some ListLength)
-    (cond (every itemSound schedule) none (some Item))
+    (cond (not (every itemSound schedule)) (some Item)
+    none)
 
 unfoldable pub accepts : Option Refusal → Bool
 accepts none = true

@@ -1,7 +1,7 @@
 -- Reading accepts only sound states.
 use Prim.Native.Nat.{ℕ, zero, suc, _≤_}
 use mathlib.Core.Path.{_≡_, refl, ap, _∙_, subst}
-use mathlib.Core.Bool.{Bool, true, false, cond, _&&_, _||_}
+use mathlib.Core.Bool.{Bool, true, false, cond, _&&_, _||_, not}
 use mathlib.Core.List.{List, [], _∷_, map}
 use native.Mathlib.Omega.{arith}
 use lib.ListN.{length, length-map}
@@ -42,7 +42,7 @@ closed-good (accepted j []) i h = go _ _ refl refl h
   where
     go : (w p : Bool) → windowsSound (length (j .registers)) (length (j .program)) (length (j .dataWords)) (j .rows) ≡ w
         → distinct (map ptOf (j .processes)) && roomSound (length (j .processes)) (j .flag) ≡ p
-        → cond w (cond p (good j) (bad Processes)) (bad Window) ≡ good i → (accepted j [] ≡ accepted i []) × Closed i
+        → cond (not w) (bad Window) (cond (not p) (bad Processes) (good j)) ≡ good i → (accepted j [] ≡ accepted i []) × Closed i
     go false p a b k = let z : _≡_ {A = ℕ} 0 1 = cc in absurd (omega arith)
     go true false a b k = let z : _≡_ {A = ℕ} 0 1 = cc in absurd (omega arith)
     go true true a b k =
