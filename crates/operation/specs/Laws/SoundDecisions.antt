@@ -167,12 +167,17 @@ module _ (v : Environment) (h : SoundEnvironment v) where
         executed-sound _ _ _ (result-sound (s .first) _ (plain-sound _ next-word)) tt
         (either (λ (x : ℕ). pswSound x ≡ true) (testOf v s c) (psw-sound _ _ _ _) (next-sound (v .psw)))
 
+    -- a process is created with the flag down
+    created-sound : (act : ℕ) → eqb (v .flag) 0 ≡ true
+        → SoundDecision (v .flag) (executed s Nothing Nothing (Creates (nextOf (v .psw)) (created act (v .psw) (s .second .cell .word))))
+    unfolding created
+    created-sound act e = executed-sound _ _ _ tt tt (eqb-true (v .flag) 0 e, next-sound (v .psw), psw-sound _ _ _ _)
+
     create-sound : (c act : ℕ) → SoundDecision (v .flag) (performCreate v s c act)
-    unfolding performCreate created
+    unfolding performCreate
     create-sound c act =
         either (SoundDecision (v .flag)) (testOf v s c)
-        (tested (SoundDecision (v .flag)) (eqb (v .flag) 0)
-        (λ e. executed-sound _ _ _ tt tt (eqb-true (v .flag) 0 e, next-sound (v .psw), psw-sound _ _ _ _)) tt)
+        (tested (SoundDecision (v .flag)) _ (λ e. created-sound act e) tt)
         (executed-sound _ _ _ tt tt (next-sound (v .psw)))
 
     quit-sound : (c : ℕ) → SoundDecision (v .flag) (performQuit v s c)
