@@ -79,14 +79,18 @@ unfoldable pub created : (act psw s1 : ℕ) → ℕ
 created act psw s1 =
     pswOf (taken act 8 (ciOf s1) (ciOf psw)) (taken act 4 (riOf s1) (riOf psw)) (taken act 2 (utmOf s1) (utmOf psw)) (taken act 1 (pcOf s1) (pcOf psw + 1))
 
--- check 8: a true CREATE with the create fault flag up is waved
+-- check 8: a true CREATE with the create fault flag up
+unfoldable pub createWaits : (holds : Bool) → (flag : ℕ) → Bool
+createWaits holds flag = holds && not (eqb flag 0)
+
+-- on a true test a process joins
+unfoldable pub createFate : (holds : Bool) → (act psw s1 : ℕ) → Fate
+createFate holds act psw s1 = cond holds (Creates (nextOf psw) (created act psw s1)) (Continues (nextOf psw))
+
 unfoldable pub performCreate : Environment → Sites → (c act : ℕ) → Decision
 performCreate v s c act =
-    cond (testOf v s c)
-    (cond (eqb (v .flag) 0)
-    (executed s Nothing Nothing (Creates (nextOf (v .psw)) (created act (v .psw) (s .second .cell .word))))
-    (Waits Create))
-    (executed s Nothing Nothing (Continues (nextOf (v .psw))))
+    cond (createWaits (testOf v s c) (v .flag)) (Waits Create)
+    (executed s Nothing Nothing (createFate (testOf v s c) act (v .psw) (s .second .cell .word)))
 
 -- QT: on a true test the process leaves
 unfoldable pub performQuit : Environment → Sites → (c : ℕ) → Decision

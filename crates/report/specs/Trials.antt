@@ -2,7 +2,7 @@
 use mathlib.Core.Path.{_≡_, refl}
 use mathlib.Core.Bool.{true}
 use mathlib.Core.List.{List, [], _∷_, _++_}
-use Prim.Native.Nat.{ℕ, zero, suc, _+_, _-_, _*_, _^_}
+use Prim.Native.Nat.{ℕ, zero, suc, _-_, _^_}
 use lib.ListN.{getD, replicate}
 use Rattle.word.specs.Integers.{integerOf}
 use Rattle.word.specs.declared.Integer.the-variants.{Dec, Mul}
@@ -16,7 +16,7 @@ use Rattle.operand.specs.declared.Role.the-variants.{Source}
 use Rattle.operand.specs.declared.Lookup.the-variants.{Violation}
 use Rattle.operand.specs.Field.{lookupOf}
 use Rattle.operation.specs.declared.Trap.the-variants.{CreateFault, Protection}
-use Rattle.operation.specs.Exclusions.{Excluded, excluded}
+use Rattle.operation.specs.Exclusions.{instruction, Excluded, excluded}
 use Rattle.step.specs.declared.Ending.the-variants.{Executed, Trapped}
 use Rattle.step.specs.State.{State}
 use Rattle.step.specs.Act.{Stepped}
@@ -43,9 +43,6 @@ machine live w s1 = record {
   program = w ∷ replicate 15 0;
   dataWords = memory (replicate 64 1) (replicate 63 0 ++ (99 ∷ []));
 }
-
-unfoldable pub instruction : (code first second third : ℕ) → ℕ
-instruction code first second third = code * 2 ^ 48 + first * 2 ^ 32 + second * 2 ^ 16 + third
 
 -- the register at a real address after a step of task 1
 unfoldable pub registerAfter : Stepped → ℕ → ℕ

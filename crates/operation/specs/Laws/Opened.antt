@@ -12,12 +12,12 @@ use Rattle.operand.specs.Access.{operandCell, visibleCell, sourceWaits, destina
 use Rattle.operation.specs.Codes.{find, privileged, simulated, listed, callOf, quitOf, accessing, families, familyOf, codeOf}
 use Rattle.operation.specs.Roles.{vectorRoles, bitRoles, integerRoles, rolesOf, svcRoles, illegalLoad, illegalStore, illegalAccess, illegalFields, illegalInstruction}
 use Rattle.operation.specs.Environment.{kindOf}
-use Rattle.operation.specs.Perform.{leftOf, executed, resultIn, stepping, testOf, branched, performBranch, called, performCall, created, performCreate, performQuit, indirectOf, indexedOf as perform-indexedOf, loadWaits, loadLeaves, loadWord, storeWaits, storeWord, dataAt, performLoad, performStore, perform}
+use Rattle.operation.specs.Perform.{leftOf, executed, resultIn, stepping, testOf, branched, performBranch, called, performCall, created, createWaits, createFate, performCreate, performQuit, indirectOf, indexedOf as perform-indexedOf, loadWaits, loadLeaves, loadWord, storeWaits, storeWord, dataAt, performLoad, performStore, perform}
 use Rattle.operation.specs.Decide.{siteOf, siteWaits, sitesWait, siteMasked, sitesMasked, decideFound, foundThird, foundSecond, foundFirst, decideOperands, decideCode, decideFetched, decide}
 use lib.Count.{leadingZeros, onesIn}
 use Prim.Native.Nat.{ℕ}
 
 -- naming this opens all definitions
 unfoldable pub opened : ℕ
-unfolding instructionOf ciOf riOf utmOf pcOf pswOf pswSound nextOf digitOf digitsBy vectorOf bitsetOf bitclrOf encode1Of encode0Of bitOf parityOf within addFits subFits qualityOf addOf subOf magnitudeOf mostOf mulFits mulOf integerOf tests holdsOf windowOf inside placeIn registerWindow programWindow byteWindow dataWindow bytePlace constantPlace meets cellAt constantAt seen cellIn stored storedOne storedAll written bits wordSound tagSound stateSound indexedOf constantOf accessOf illegalOf effectiveOf illegalField registerLookup sourceLookup destinationLookup lookupOf operandCell visibleCell sourceWaits destinationWaits waitsOf maskedOf emptying sourceLeft destinationTag destinationLeft find privileged simulated listed callOf quitOf accessing families familyOf codeOf vectorRoles bitRoles integerRoles rolesOf svcRoles illegalLoad illegalStore illegalAccess illegalFields illegalInstruction kindOf leftOf executed resultIn stepping testOf branched performBranch called performCall created performCreate performQuit indirectOf perform-indexedOf loadWaits loadLeaves loadWord storeWaits storeWord dataAt performLoad performStore perform siteOf siteWaits sitesWait siteMasked sitesMasked decideFound foundThird foundSecond foundFirst decideOperands decideCode decideFetched decide leadingZeros onesIn
+unfolding instructionOf ciOf riOf utmOf pcOf pswOf pswSound nextOf digitOf digitsBy vectorOf bitsetOf bitclrOf encode1Of encode0Of bitOf parityOf within addFits subFits qualityOf addOf subOf magnitudeOf mostOf mulFits mulOf integerOf tests holdsOf windowOf inside placeIn registerWindow programWindow byteWindow dataWindow bytePlace constantPlace meets cellAt constantAt seen cellIn stored storedOne storedAll written bits wordSound tagSound stateSound indexedOf constantOf accessOf illegalOf effectiveOf illegalField registerLookup sourceLookup destinationLookup lookupOf operandCell visibleCell sourceWaits destinationWaits waitsOf maskedOf emptying sourceLeft destinationTag destinationLeft find privileged simulated listed callOf quitOf accessing families familyOf codeOf vectorRoles bitRoles integerRoles rolesOf svcRoles illegalLoad illegalStore illegalAccess illegalFields illegalInstruction kindOf leftOf executed resultIn stepping testOf branched performBranch called performCall created createWaits createFate performCreate performQuit indirectOf perform-indexedOf loadWaits loadLeaves loadWord storeWaits storeWord dataAt performLoad performStore perform siteOf siteWaits sitesWait siteMasked sitesMasked decideFound foundThird foundSecond foundFirst decideOperands decideCode decideFetched decide leadingZeros onesIn
 opened = 0

@@ -1,6 +1,6 @@
 -- What a decision writes are sound cells and sound PSWs, where the environment is sound; and it creates only with the flag down.
 use mathlib.Core.Path.{_≡_, refl}
-use mathlib.Core.Bool.{Bool, true, false, cond, not, _||_}
+use mathlib.Core.Bool.{Bool, true, false, cond, not, _&&_, _||_}
 use Prim.Native.Nat.{ℕ, _+_, _*_, _/_, _%_, _^_, _≤_}
 use native.Mathlib.Omega.{arith}
 use lib.Dec.{eqb}
@@ -32,6 +32,7 @@ use Rattle.operation.specs.declared.Code.{Code}
 use Rattle.operation.specs.declared.Code.the-variants.{Privileged, Simulated, Svc, Listed, Illegal}
 use Rattle.operation.specs.declared.Site.{Site}
 use Rattle.operation.specs.declared.Sites.{Sites}
+use Rattle.operation.specs.declared.Wait.the-variants.{Create}
 use Rattle.operation.specs.declared.Fate.{Fate}
 use Rattle.operation.specs.declared.Fate.the-variants.{Continues, Quits, Creates}
 use Rattle.operation.specs.declared.Effects.{Effects}
@@ -40,7 +41,7 @@ use Rattle.operation.specs.declared.Decision.the-variants.{Waits, Traps,
 use Rattle.operation.specs.Codes.{codeOf}
 use Rattle.operation.specs.Roles.{svcRoles, illegalFields, illegalInstruction, bOf, sacOf}
 use Rattle.operation.specs.Environment.{Environment}
-use Rattle.operation.specs.Perform.{leftOf, executed, resultIn, plain, stepping, testOf, branched, called, created}
+use Rattle.operation.specs.Perform.{leftOf, executed, resultIn, plain, stepping, testOf, branched, called, created, createWaits, createFate}
 use Rattle.operation.specs.Perform.{indirectOf, indexedOf, loadWaits, loadLeaves, loadWord, storeWaits, storeWord, dataAt}
 use Rattle.operation.specs.Perform.{performBranch, performCall, performCreate, performQuit, performLoad, performStore, perform}
 use Rattle.operation.specs.Decide.{siteOf, sitesWait, sitesMasked, decideFound, foundThird, foundSecond, foundFirst}
@@ -168,17 +169,15 @@ module _ (v : Environment) (h : SoundEnvironment v) where
         (either (λ (x : ℕ). pswSound x ≡ true) (testOf v s c) (psw-sound _ _ _ _) (next-sound (v .psw)))
 
     -- a process is created with the flag down
-    created-sound : (act : ℕ) → eqb (v .flag) 0 ≡ true
-        → SoundDecision (v .flag) (executed s Nothing Nothing (Creates (nextOf (v .psw)) (created act (v .psw) (s .second .cell .word))))
-    unfolding created
-    created-sound act e = executed-sound _ _ _ tt tt (eqb-true (v .flag) 0 e, next-sound (v .psw), psw-sound _ _ _ _)
-
     create-sound : (c act : ℕ) → SoundDecision (v .flag) (performCreate v s c act)
-    unfolding performCreate
-    create-sound c act =
-        either (SoundDecision (v .flag)) (testOf v s c)
-        (tested (SoundDecision (v .flag)) _ (λ e. created-sound act e) tt)
-        (executed-sound _ _ _ tt tt (next-sound (v .psw)))
+    unfolding performCreate createWaits createFate created
+    create-sound c act = go (testOf v s c) (eqb (v .flag) 0) refl
+      where
+        go : (holds down : Bool) → eqb (v .flag) 0 ≡ down
+            → SoundDecision (v .flag) (cond (holds && not down) (Waits Create) (executed s Nothing Nothing (createFate holds act (v .psw) (s .second .cell .word))))
+        go true true e = executed-sound _ _ _ tt tt (eqb-true (v .flag) 0 e, next-sound (v .psw), psw-sound _ _ _ _)
+        go true false e = tt
+        go false down e = executed-sound _ _ _ tt tt (next-sound (v .psw))
 
     quit-sound : (c : ℕ) → SoundDecision (v .flag) (performQuit v s c)
     unfolding performQuit
