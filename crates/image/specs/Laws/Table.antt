@@ -5,7 +5,7 @@ use mathlib.Core.Logic.{_≢_}
 use mathlib.Core.Bool.{Bool, true, false, cond}
 use mathlib.Core.List.{List, [], _∷_, _++_, map}
 use native.Mathlib.Omega.{arith}
-use lib.ListN.{length, getD, set, take, drop, replicate, length-append, length-replicate, length-set}
+use lib.ListN.{length, getD, take, drop, replicate, length-append, length-replicate, length-set}
 use lib.Seq.{drop-cons, take-append-seam}
 use lib.Dec.{eqb}
 use borrow.Author.Tests.{eq-eqb, ne-eqb}
@@ -13,6 +13,7 @@ use Rattle.word.specs.Laws.Bools.{Eq?, same, differ, eq?, and-left, and-right, 
 use Rattle.step.specs.Queues.{ring, listOf, livePts}
 use Rattle.step.specs.State.{pswsOf}
 use Rattle.step.specs.Soundness.{every}
+use Rattle.step.specs.Laws.Every.{every-set, every-getD, every-map, every-of}
 use Rattle.image.specs.declared.Process.{Process}
 use Rattle.image.specs.Image.{ptOf, ptsOf, queueOf, queuesOf, pswTable}
 use Rattle.word.specs.Laws.Conjunctions.{also}
@@ -134,32 +135,16 @@ module _ (test : ℕ → Bool) where
   every-replicate zero v e = refl
   every-replicate (suc n) v e = also e (every-replicate n v e)
 
-  every-set : (l : List ℕ) (i v : ℕ) → every test l ≡ true → test v ≡ true → every test (set l i v) ≡ true
-  unfolding every
-  every-set [] i v h e = refl
-  every-set (x ∷ l) zero v h e = also e (and-right (test x) (every test l) h)
-  every-set (x ∷ l) (suc i) v h e =
-      also (and-left (test x) (every test l) h) (every-set l i v (and-right (test x) (every test l) h) e)
-
-  every-getD : (l : List ℕ) (i d : ℕ) → every test l ≡ true → test d ≡ true → test (getD l i d) ≡ true
-  unfolding every
-  every-getD [] i d h e = e
-  every-getD (x ∷ l) zero d h e = and-left (test x) (every test l) h
-  every-getD (x ∷ l) (suc i) d h e = every-getD l i d (and-right (test x) (every test l) h) e
-
-  every-map : (f : ℕ → ℕ) → ((x : ℕ) → test (f x) ≡ true) → (l : List ℕ) → every test (map f l) ≡ true
-  unfolding every
-  every-map f h [] = refl
-  every-map f h (x ∷ l) = also (h x) (every-map f h l)
-
   -- whatever the PSWs of the processes and zero pass, the PSWs of any PTs pass
   every-pswTable : (ps : List Process) → test 0 ≡ true → every test (map pswOf ps) ≡ true → every test (pswTable ps) ≡ true
   unfolding pswTable every
   every-pswTable [] z e = every-replicate 64 0 z
   every-pswTable (p ∷ ps) z e =
-      every-set (pswTable ps) (p .pt) (p .psw) (every-pswTable ps z (and-right (test (p .psw)) (every test (map pswOf ps)) e))
-      (and-left (test (p .psw)) (every test (map pswOf ps)) e)
+      every-set test (pswTable ps) (p .pt) (p .psw) (and-left (test (p .psw)) (every test (map pswOf ps)) e)
+      (every-pswTable ps z (and-right (test (p .psw)) (every test (map pswOf ps)) e))
 
   pub every-psw : (ps : List Process) (pts : List ℕ) → test 0 ≡ true → every test (map pswOf ps) ≡ true → every test (pswsOf (pswTable ps) pts) ≡ true
   unfolding pswsOf
-  every-psw ps pts z e = every-map (λ p. getD (pswTable ps) p 0) (λ p. every-getD (pswTable ps) p 0 (every-pswTable ps z e) z) pts
+  every-psw ps pts z e =
+      every-map test (λ p. getD (pswTable ps) p 0) pts
+      ∙ every-of (λ p. test (getD (pswTable ps) p 0)) pts (λ p n. every-getD test (pswTable ps) p z (every-pswTable ps z e))

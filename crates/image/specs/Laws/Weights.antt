@@ -7,7 +7,7 @@ use native.Mathlib.Omega.{arith}
 use lib.ListN.{length}
 use Rattle.step.specs.Queues.{hit, occ}
 use Rattle.step.specs.Soundness.{every, distinct}
-use Rattle.step.specs.Laws.Sound.{once-of, distinct-of}
+use Rattle.step.specs.Laws.Every.{once-of, distinct-of}
 
 unfoldable pub weigh : (ℕ → ℕ) → List ℕ → ℕ
 weigh f [] = 0

@@ -94,13 +94,10 @@ pub record SoundOutcome (r : Outcome) : Type 0 where
 plain-sound : (w : ℕ) → wordSound w ≡ true → SoundOutcome (plain w)
 plain-sound w h = record { word = h; quality = omega arith }
 
--- what holds of both arms of a test, of the first where the test holds
-tested : {A : Type 0} (P : A → Type 0) (b : Bool) {x y : A} → (b ≡ true → P x) → P y → P (cond b x y)
-tested P true p q = p refl
-tested P false p q = q
-
+-- what holds of both arms of a test
 either : {A : Type 0} (P : A → Type 0) (b : Bool) {x y : A} → P x → P y → P (cond b x y)
-either P b p q = tested P b (λ e. p) q
+either P true p q = p
+either P false p q = q
 
 emptying-sound : (o : Operand) (c : Cell) → tagSound (c .tag) ≡ true → wordSound (c .word) ≡ true → SoundWrite tagSound (emptying o c)
 unfolding emptying

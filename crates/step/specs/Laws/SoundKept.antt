@@ -24,10 +24,11 @@ use Rattle.step.specs.Step.{noTrap, headDecides, rowDecides, step}
 use Rattle.step.specs.Soundness.{every, listed, sound}
 use Rattle.step.specs.Laws.Rows.{put-row, find-task, some-inj, none-some}
 use Rattle.step.specs.Laws.Step.{idles, acts, steps, decided}
-use Rattle.step.specs.Laws.Sound.{SoundMemories, Sound, sound-parts, sound-whole, every-parts, found-listed, listed-range}
+use Rattle.step.specs.Laws.Sound.{SoundMemories, Sound, sound-parts, sound-whole, found-listed, listed-range}
 use Rattle.step.specs.Laws.RowsKept.{rows-put, listed-put, windows-put}
-use Rattle.step.specs.Laws.MemoriesKept.{words-parts, memory-parts, every-getD, every-seen, SoundWrites, done, more, written-sound}
+use Rattle.step.specs.Laws.MemoriesKept.{words-parts, memory-parts, every-seen, SoundWrites, done, more, written-sound}
 use Rattle.step.specs.Laws.TableKept.{table-rows, Ready, own-sound, change-sound}
+use Rattle.step.specs.Laws.Every.{every-parts, every-getD}
 
 -- ---- what a step reads
 
