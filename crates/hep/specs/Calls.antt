@@ -7,9 +7,9 @@ use lib.Dec.{leb, ltb}
 use lib.ListN.{length}
 use Rattle.step.specs.State.{State}
 use Rattle.step.specs.Soundness.{sound}
-use Rattle.run.specs.declared.Refusal.{Refusal}
-use Rattle.run.specs.declared.Refusal.the-variants as refusal
-use Rattle.run.specs.Refusals.{scheduleRefusal}
+use Rattle.refusal.specs.declared.Refusal.{Refusal}
+use Rattle.refusal.specs.declared.Refusal.the-variants as refusal
+use Rattle.run.specs.Schedule.{scheduleRefusal}
 use Rattle.image.specs.Image.{Image, Decoded, bad, good, decode, encode}
 
 -- the lengths of the buffers that reading fills; registers and data words have one for tags and one for words
@@ -34,7 +34,7 @@ fits room i =
 
 unfoldable pub roomRefusal : Room → Decoded → Option Refusal
 roomRefusal room (bad e) = some e
-roomRefusal room (good i) = cond (not (fits room i)) (some refusal.Buffer) none
+roomRefusal room (good i) = cond (not (fits room i)) (some refusal.ShortBuffer) none
 
 -- reading refuses by 1 to 6, then by 7
 unfoldable pub readRefusal : Room → List ℕ → Option Refusal
@@ -42,8 +42,8 @@ readRefusal room bytes = roomRefusal room (decode bytes)
 
 -- a run refuses by 8, then 9, then 10
 unfoldable pub runRefusal : State → (schedule : List ℕ) → Option Refusal
-runRefusal s schedule = cond (not (sound s)) (some refusal.State) (scheduleRefusal schedule)
+runRefusal s schedule = cond (not (sound s)) (some refusal.UnsoundState) (scheduleRefusal schedule)
 
 -- writing into a buffer of `room` bytes refuses by 8, then 7
 unfoldable pub writeRefusal : State → (room : ℕ) → Option Refusal
-writeRefusal s room = cond (not (sound s)) (some refusal.State) (cond (ltb room (length (encode s))) (some refusal.Buffer) none)
+writeRefusal s room = cond (not (sound s)) (some refusal.UnsoundState) (cond (ltb room (length (encode s))) (some refusal.ShortBuffer) none)

@@ -1,11 +1,11 @@
--- Formats: how the bytes of a value are read and written, and which values there are; and five ways to make a format.
+-- Formats: how the bytes of a value are read and written, and which values there are; and ways to make a format.
 use Prim.Native.Nat.{ℕ, zero, suc, _+_, _*_, _/_, _%_, _^_, _<_}
 use mathlib.Core.Bool.{Bool, true, cond, _&&_}
 use mathlib.Core.List.{List, [], _∷_, _++_}
 use lib.ListN.{length, take, drop}
 use lib.Dec.{ltb, leb}
-use Rattle.run.specs.declared.Refusal.{Refusal}
-use Rattle.run.specs.declared.Refusal.the-variants.{Short, Count}
+use Rattle.refusal.specs.declared.Refusal.{Refusal}
+use Rattle.refusal.specs.declared.Refusal.the-variants.{InputEnds, CountOverLimit}
 
 -- every element is a byte
 unfoldable pub Bytes : List ℕ → Type 0
@@ -46,14 +46,14 @@ pub record Codec (A : Type 0) : Type 0 where
 -- a number of w bytes: 1 where they are not all there, else e where the number is not good
 unfoldable pub num : (w : ℕ) (e : Refusal) (good : ℕ → Bool) → Codec ℕ
 num w e good = record {
-  dec = λ b. cond (ltb (length b) w) (refused Short) (cond (good (field w b)) (accepted (field w b) (drop w b)) (refused e));
+  dec = λ b. cond (ltb (length b) w) (refused InputEnds) (cond (good (field w b)) (accepted (field w b) (drop w b)) (refused e));
   enc = digits w;
   ok = λ v. ltb v (256 ^ w) && good v;
 }
 
 -- a count of w bytes: 2 where it is above `most`
 unfoldable pub count : (w most : ℕ) → Codec ℕ
-count w most = num w Count (λ n. leb n most)
+count w most = num w CountOverLimit (λ n. leb n most)
 
 -- one format, then another that may depend on the first value
 unfoldable pub seq : {A B : Type 0} → Codec A → (A → Codec B) → Codec (A × B)
@@ -93,3 +93,18 @@ module _ {H S A : Type 0} (head : Codec H) (c : S → Codec A) (next : S → A �
     enc = λ p. count w most .enc (length (p .1)) ++ (head .enc (p .0) ++ encMany c next s (p .1));
     ok = λ p. count w most .ok (length (p .1)) && (head .ok (p .0) && okMany c next s (p .1));
   }
+
+-- no bytes
+unfoldable pub noHeader : Codec (Unit {0})
+noHeader = record { dec = λ b. accepted tt b; enc = λ u. []; ok = λ u. true }
+
+-- a section with no header
+unfoldable pub listSection : {S A : Type 0} → (S → Codec A) → (S → A → S) → (w most : ℕ) → S → Codec (List A)
+listSection c next w most s = via (λ p. p .1) (λ xs. (tt, xs)) (section noHeader c next w most s)
+
+-- a section with no header whose values all have one format, whatever stands before them
+abbrev pub noState : {A : Type 0} → Unit {0} → A → Unit {0}
+noState u x = u
+
+unfoldable pub uniformSection : {A : Type 0} → Codec A → (w most : ℕ) → Codec (List A)
+uniformSection c w most = listSection (λ _. c) noState w most tt

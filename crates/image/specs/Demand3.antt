@@ -5,7 +5,7 @@ use mathlib.Core.List.{List}
 use Prim.Native.Nat.{ℕ}
 use Rattle.step.specs.Queues.{occ}
 use Rattle.step.specs.Laws.Sound.{inv-of}
-use Rattle.run.specs.Refusals.{scheduleSound}
+use Rattle.run.specs.Schedule.{scheduleSound}
 use Rattle.run.specs.Run.{run}
 use Rattle.run.specs.Compared.{Compared, SameProgram, SameConstants, Alone}
 use Rattle.run.specs.Laws.Isolation.{isolation}

@@ -12,11 +12,11 @@ use Rattle.step.specs.declared.Queue.{Queue}
 use Rattle.step.specs.Queues.{capacity, listOf}
 use Rattle.step.specs.State.{State}
 use Rattle.window.specs.Sound.{bits, tagSound, stateSound}
-use Rattle.step.specs.Soundness.{taskSound, kindSound, recordSound, ptSound, flagSound, listed, distinct, roomSound, windowsSound}
-use Rattle.run.specs.declared.Refusal.{Refusal}
-use Rattle.run.specs.declared.Refusal.the-variants.{TaskField, ProcessField, CellField, LeftOver, Window, Processes}
+use Rattle.step.specs.Soundness.{taskSound, kindSound, recordSound, ptSound, flagSound, hasRow, distinct, roomSound, windowsSound}
+use Rattle.refusal.specs.declared.Refusal.{Refusal}
+use Rattle.refusal.specs.declared.Refusal.the-variants.{TaskField, ProcessField, CellField, BytesLeftOver, WindowPastMemory, ProcessesClash}
 use Rattle.image.specs.declared.Process.{Process}
-use Rattle.image.specs.Codec.{Codec, Result, refused, accepted, num, seq, via, section}
+use Rattle.image.specs.Codec.{Codec, Result, refused, accepted, num, seq, via, section, listSection, uniformSection}
 
 -- the fields of an image
 pub record Image : Type 0 where
@@ -34,18 +34,9 @@ abbrev pub RowFields : Type 0
 RowFields = ℕ × (ℕ × (ℕ × (ℕ × (ℕ × (ℕ × (ℕ × (ℕ × (ℕ × ℕ))))))))
 
 abbrev pub toRow : RowFields → Row
-toRow x = record {
-  task = x .0;
-  cb = x .1 .0;
-  rb = x .1 .1 .0;
-  rl = x .1 .1 .1 .0;
-  pb = x .1 .1 .1 .1 .0;
-  pl = x .1 .1 .1 .1 .1 .0;
-  db = x .1 .1 .1 .1 .1 .1 .0;
-  dl = x .1 .1 .1 .1 .1 .1 .1 .0;
-  kind = x .1 .1 .1 .1 .1 .1 .1 .1 .0;
-  psw = x .1 .1 .1 .1 .1 .1 .1 .1 .1;
-}
+toRow fields =
+    let (task, (cb, (rb, (rl, (pb, (pl, (db, (dl, (kind, psw))))))))) = fields in
+    record { task = task; cb = cb; rb = rb; rl = rl; pb = pb; pl = pl; db = db; dl = dl; kind = kind; psw = psw }
 
 abbrev pub fromRow : Row → RowFields
 fromRow r = (r .task, (r .cb, (r .rb, (r .rl, (r .pb, (r .pl, (r .db, (r .dl, (r .kind, r .psw)))))))))
@@ -54,39 +45,41 @@ fromRow r = (r .task, (r .cb, (r .rb, (r .rl, (r .pb, (r .pl, (r .db, (r .dl, (r
 unfoldable pub rowCodec : (before : ℕ) → Codec Row
 rowCodec before =
     via toRow fromRow
-    (seq (num 1 TaskField (taskSound before))
-    (λ _. seq (num 2 TaskField (bits 12))
-    (λ _. seq (num 2 TaskField (bits 10))
-    (λ _. seq (num 2 TaskField (bits 10))
-    (λ _. seq (num 2 TaskField (bits 16))
-    (λ _. seq (num 2 TaskField (bits 16))
-    (λ _. seq (num 4 TaskField (bits 24))
-    (λ _. seq (num 4 TaskField (bits 24))
-    (λ _. seq (num 1 TaskField kindSound)
-    (λ kind. num 8 TaskField (recordSound kind)))))))))))
-
--- a section with no header
-unfoldable pub noHeader : Codec (Unit {0})
-noHeader = record { dec = λ b. accepted tt b; enc = λ u. []; ok = λ u. true }
-
-unfoldable pub plain : {S A : Type 0} → (S → Codec A) → (S → A → S) → (w most : ℕ) → S → Codec (List A)
-plain c next w most s = via (λ p. p .1) (λ xs. (tt, xs)) (section noHeader c next w most s)
+    (seq (num 1 TaskField (taskSound before)) (λ task.
+    seq (num 2 TaskField (bits 12)) (λ cb.
+    seq (num 2 TaskField (bits 10)) (λ rb.
+    seq (num 2 TaskField (bits 10)) (λ rl.
+    seq (num 2 TaskField (bits 16)) (λ pb.
+    seq (num 2 TaskField (bits 16)) (λ pl.
+    seq (num 4 TaskField (bits 24)) (λ db.
+    seq (num 4 TaskField (bits 24)) (λ dl.
+    seq (num 1 TaskField kindSound) (λ kind.
+    num 8 TaskField (recordSound kind)))))))))))
 
 abbrev pub rowTask : ℕ → Row → ℕ
 rowTask before r = r .task
 
 unfoldable pub tasksCodec : Codec (List Row)
-tasksCodec = plain rowCodec rowTask 1 7 0
+tasksCodec = listSection rowCodec rowTask 1 7 0
 
 -- ---- processes: count 1 (to 64), flag 1 (0 or 1); PT 1, task 1, PSW 8, by ascending task, then queue order
+
+abbrev pub ProcessFields : Type 0
+ProcessFields = ℕ × (ℕ × ℕ)
+
+abbrev pub toProcess : ProcessFields → Process
+toProcess fields = let (pt, (task, psw)) = fields in record { pt = pt; task = task; psw = psw }
+
+abbrev pub fromProcess : Process → ProcessFields
+fromProcess p = (p .pt, (p .task, p .psw))
 
 -- a process of a listed task, after one of task `before`
 unfoldable pub processCodec : List Row → (before : ℕ) → Codec Process
 processCodec rows before =
-    via (λ x. record { pt = x .0; task = x .1 .0; psw = x .1 .1 }) (λ p. (p .pt, (p .task, p .psw)))
-    (seq (num 1 ProcessField ptSound)
-    (λ _. seq (num 1 ProcessField (λ t. leb before t && listed t rows))
-    (λ _. num 8 ProcessField pswSound)))
+    via toProcess fromProcess
+    (seq (num 1 ProcessField ptSound) (λ pt.
+    seq (num 1 ProcessField (λ t. leb before t && hasRow t rows)) (λ task.
+    num 8 ProcessField pswSound)))
 
 abbrev pub processTask : ℕ → Process → ℕ
 processTask before p = p .task
@@ -98,20 +91,28 @@ processesCodec rows = section (num 1 ProcessField flagSound) (processCodec rows)
 -- ---- constants: count 2 (to 4,096), words. Registers: count 2 (to 2,048); tag 1, word. Program: count 4 (to 2^20), words. Data: count 4
 -- (to 2^20); state 1, word. Words are 8 bytes
 
-abbrev pub alike : {A : Type 0} → Unit {0} → A → Unit {0}
-alike u x = u
-
-unfoldable pub wordCodec : Unit {0} → Codec ℕ
-wordCodec u = num 8 CellField (λ _. true)
+-- a word: any 8 bytes
+unfoldable pub wordCodec : Codec ℕ
+wordCodec = num 8 CellField (λ _. true)
 
 unfoldable pub wordsCodec : (w most : ℕ) → Codec (List ℕ)
-wordsCodec w most = plain wordCodec alike w most tt
+wordsCodec w most = uniformSection wordCodec w most
 
-unfoldable pub cellCodec : (ℕ → Bool) → Unit {0} → Codec Cell
-cellCodec tag u = via (λ x. cell (x .0) (x .1)) (λ c. (c .tag, c .word)) (seq (num 1 CellField tag) (λ _. wordCodec tt))
+abbrev pub CellFields : Type 0
+CellFields = ℕ × ℕ
 
-unfoldable pub cellsCodec : (ℕ → Bool) → (w most : ℕ) → Codec (List Cell)
-cellsCodec tag w most = plain (cellCodec tag) alike w most tt
+abbrev pub toCell : CellFields → Cell
+toCell fields = let (tag, word) = fields in cell tag word
+
+abbrev pub fromCell : Cell → CellFields
+fromCell c = (c .tag, c .word)
+
+-- a tag or state, and a word
+unfoldable pub cellCodec : (good : ℕ → Bool) → Codec Cell
+cellCodec good = via toCell fromCell (seq (num 1 CellField good) (λ tag. wordCodec))
+
+unfoldable pub cellsCodec : (good : ℕ → Bool) → (w most : ℕ) → Codec (List Cell)
+cellsCodec good w most = uniformSection (cellCodec good) w most
 
 -- ---- the whole
 
@@ -119,15 +120,17 @@ abbrev pub ImageFields : Type 0
 ImageFields = List Row × ((ℕ × List Process) × (List ℕ × (List Cell × (List ℕ × List Cell))))
 
 abbrev pub toImage : ImageFields → Image
-toImage x = record {
-  rows = x .0;
-  flag = x .1 .0 .0;
-  processes = x .1 .0 .1;
-  constants = x .1 .1 .0;
-  registers = x .1 .1 .1 .0;
-  program = x .1 .1 .1 .1 .0;
-  dataWords = x .1 .1 .1 .1 .1;
-}
+toImage fields =
+    let (rows, ((flag, processes), (constants, (registers, (program, dataWords))))) = fields in
+    record {
+      rows = rows;
+      flag = flag;
+      processes = processes;
+      constants = constants;
+      registers = registers;
+      program = program;
+      dataWords = dataWords;
+    }
 
 abbrev pub fromImage : Image → ImageFields
 fromImage i = (i .rows, ((i .flag, i .processes), (i .constants, (i .registers, (i .program, i .dataWords)))))
@@ -135,12 +138,12 @@ fromImage i = (i .rows, ((i .flag, i .processes), (i .constants, (i .registers, 
 unfoldable pub imageCodec : Codec Image
 imageCodec =
     via toImage fromImage
-    (seq tasksCodec
-    (λ rows. seq (processesCodec rows)
-    (λ _. seq (wordsCodec 2 4096)
-    (λ _. seq (cellsCodec tagSound 2 2048)
-    (λ _. seq (wordsCodec 4 (2 ^ 20))
-    (λ _. cellsCodec stateSound 4 (2 ^ 20)))))))
+    (seq tasksCodec (λ rows.
+    seq (processesCodec rows) (λ processes.
+    seq (wordsCodec 2 4096) (λ constants.
+    seq (cellsCodec tagSound 2 2048) (λ registers.
+    seq (wordsCodec 4 (2 ^ 20)) (λ program.
+    cellsCodec stateSound 4 (2 ^ 20)))))))
 
 -- ---- the image as a state
 
@@ -217,17 +220,17 @@ pub data Decoded : Type 0 where
   good : Image → Decoded
 
 -- after the last section: 4 bytes left over, 5 a window that isn't empty ends past its memory, 6 a PT twice or 64 processes with flag 0
-unfoldable pub closed : Result Image → Decoded
-closed (refused e) = bad e
-closed (accepted i (x ∷ r)) = bad LeftOver
-closed (accepted i []) =
-    cond (not (windowsSound (length (i .registers)) (length (i .program)) (length (i .dataWords)) (i .rows))) (bad Window)
-    (cond (not (distinct (map ptOf (i .processes)) && roomSound (length (i .processes)) (i .flag))) (bad Processes)
+unfoldable pub afterSections : Result Image → Decoded
+afterSections (refused e) = bad e
+afterSections (accepted i (x ∷ r)) = bad BytesLeftOver
+afterSections (accepted i []) =
+    cond (not (windowsSound (length (i .registers)) (length (i .program)) (length (i .dataWords)) (i .rows))) (bad WindowPastMemory)
+    (cond (not (distinct (map ptOf (i .processes)) && roomSound (length (i .processes)) (i .flag))) (bad ProcessesClash)
     (good i))
 
 -- reading an image: refusals 1 to 3 in byte order, then 4, 5 and 6
 unfoldable pub decode : List ℕ → Decoded
-decode b = closed (imageCodec .dec b)
+decode b = afterSections (imageCodec .dec b)
 
 -- the bytes of a state's image
 unfoldable pub encode : State → List ℕ

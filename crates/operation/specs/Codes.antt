@@ -9,7 +9,7 @@ use Rattle.word.specs.declared.Integer.the-variants.{Add, Sub, Inc, Dec, Mul}
 use Rattle.operation.specs.declared.Operation.{Operation}
 use Rattle.operation.specs.declared.Operation.the-variants.{Nop, Vector, Bit, Integer, Branch, Call, Create, Quit, LoadIndirect, LoadIndexed, StoreIndirect, StoreIndexed}
 use Rattle.operation.specs.declared.Code.{Code}
-use Rattle.operation.specs.declared.Code.the-variants.{Privileged, Simulated, Svc, Listed, Illegal}
+use Rattle.operation.specs.declared.Code.the-variants.{Privileged, Simulated, Svc, Listed, Unlisted}
 
 -- a key and what it stands for
 pub record Line : Type 0 where
@@ -36,8 +36,8 @@ unfoldable pub simulated : List ℕ
 simulated = 0x7200 ∷ 0x7F00 ∷ 0x610A ∷ 0x6108 ∷ []
 
 -- the codes that stand for one operation, and SVC
-unfoldable pub listed : List Line
-listed =
+unfoldable pub singleCodes : List Line
+singleCodes =
     line 0x0000 (Listed Nop) ∷
     line 0x611F (Listed (Vector Mov)) ∷
     line 0x411C (Listed (Vector Clr)) ∷
@@ -62,14 +62,14 @@ listed =
 
 -- CALL 79 C 1, QT 19 C 0: the last digit is fixed
 unfoldable pub callOf : ℕ → Code
-callOf low = cond (eqb (low % 16) 1) (Listed (Call (low / 16))) Illegal
+callOf low = cond (eqb (low % 16) 1) (Listed (Call (low / 16))) Unlisted
 
 unfoldable pub quitOf : ℕ → Code
-quitOf low = cond (eqb (low % 16) 0) (Listed (Quit (low / 16))) Illegal
+quitOf low = cond (eqb (low % 16) 0) (Listed (Quit (low / 16))) Unlisted
 
 -- the low five code bits are B, SAC, DAC; the bits C, N and R before them are zero
-unfoldable pub accessing : Operation → ℕ → Code
-accessing op low = cond (ltb low 32) (Listed op) Illegal
+unfoldable pub dataCodeOf : Operation → ℕ → Code
+dataCodeOf op low = cond (ltb low 32) (Listed op) Unlisted
 
 -- the codes whose right eight bits, low, say more: B 38 C and the left digit of P, CREATE 39 C ACT, CALL, QT, LODI, LODX, STOI, STOX
 unfoldable pub families : ℕ → List Line
@@ -78,18 +78,22 @@ families low =
     line 0x39 (Listed (Create (low / 16) (low % 16))) ∷
     line 0x79 (callOf low) ∷
     line 0x19 (quitOf low) ∷
-    line 0x6C (accessing (LoadIndirect low) low) ∷
-    line 0x7C (accessing (LoadIndexed low) low) ∷
-    line 0xBC (accessing (StoreIndirect low) low) ∷
-    line 0xFC (accessing (StoreIndexed low) low) ∷
+    line 0x6C (dataCodeOf (LoadIndirect low) low) ∷
+    line 0x7C (dataCodeOf (LoadIndexed low) low) ∷
+    line 0xBC (dataCodeOf (StoreIndirect low) low) ∷
+    line 0xFC (dataCodeOf (StoreIndexed low) low) ∷
     []
 
 -- any other code is illegal
 unfoldable pub familyOf : ℕ → Code
-familyOf code = find (families (code % 256)) (code / 256) Illegal
+familyOf code = find (families (code % 256)) (code / 256) Unlisted
 
-unfoldable pub codeOf : ℕ → Code
-codeOf code =
+-- the meaning of a code that stands for itself, else d
+unfoldable pub singleOf : ℕ → Code → Code
+singleOf code d =
     find (map (λ k. line k Privileged) privileged) code
     (find (map (λ k. line k Simulated) simulated) code
-    (find listed code (familyOf code)))
+    (find singleCodes code d))
+
+unfoldable pub codeOf : ℕ → Code
+codeOf code = singleOf code (familyOf code)

@@ -14,10 +14,11 @@ use Rattle.operand.specs.declared.Lookup.the-variants as lookup
 use Rattle.operand.specs.Field.{accessOf, lookupOf}
 use Rattle.operand.specs.Access.{waitsOf, maskedOf}
 use Rattle.operation.specs.declared.Operation.{Operation}
+use Rattle.operation.specs.declared.Roles.{Roles}
 use Rattle.operation.specs.declared.Code.{Code}
-use Rattle.operation.specs.declared.Code.the-variants.{Privileged, Simulated, Svc, Listed, Illegal}
-use Rattle.operation.specs.declared.Site.{Site}
-use Rattle.operation.specs.declared.Sites.{Sites}
+use Rattle.operation.specs.declared.Code.the-variants.{Privileged, Simulated, Svc, Listed, Unlisted}
+use Rattle.operation.specs.declared.FoundOperand.{FoundOperand}
+use Rattle.operation.specs.declared.FoundOperands.{FoundOperands}
 use Rattle.operation.specs.declared.Trap.the-variants as trap
 use Rattle.operation.specs.declared.Wait.the-variants.{Access}
 use Rattle.operation.specs.declared.Decision.{Decision}
@@ -28,72 +29,73 @@ use Rattle.operation.specs.Environment.{Environment}
 use Rattle.operation.specs.Perform.{perform}
 
 -- a field with the operand that it names
-unfoldable pub siteOf : Environment → Role → (f : ℕ) → Operand → Site
-siteOf v role f o = record { role = role; access = accessOf f; operand = o; cell = v .cell o }
+unfoldable pub foundOperand : Environment → Role → (f : ℕ) → Operand → FoundOperand
+foundOperand v role f o = record { role = role; access = accessOf f; operand = o; cell = v .cell o }
 
 -- 5. an access test unmet: waved
-unfoldable pub siteWaits : Site → Bool
-siteWaits s = waitsOf (s .role) (s .access) (s .cell .tag)
+unfoldable pub operandWaits : FoundOperand → Bool
+operandWaits s = waitsOf (s .role) (s .access) (s .cell .tag)
 
-unfoldable pub sitesWait : Sites → Bool
-sitesWait s = siteWaits (s .first) || (siteWaits (s .second) || siteWaits (s .third))
+unfoldable pub operandsWait : FoundOperands → Bool
+operandsWait s = operandWaits (s .first) || (operandWaits (s .second) || operandWaits (s .third))
 
 -- 6. UTM bit q set, q the quality of a source: 1E
-unfoldable pub siteMasked : (psw : ℕ) → Site → Bool
-siteMasked psw s = maskedOf (s .role) psw (s .cell .tag)
+unfoldable pub operandMasked : (psw : ℕ) → FoundOperand → Bool
+operandMasked psw s = maskedOf (s .role) psw (s .cell .tag)
 
-unfoldable pub sitesMasked : (psw : ℕ) → Sites → Bool
-sitesMasked psw s = siteMasked psw (s .first) || (siteMasked psw (s .second) || siteMasked psw (s .third))
+unfoldable pub operandsMasked : (psw : ℕ) → FoundOperands → Bool
+operandsMasked psw s = operandMasked psw (s .first) || (operandMasked psw (s .second) || operandMasked psw (s .third))
 
 -- checks 5 and 6; then 7, 8 and the execution
-unfoldable pub decideFound : Operation → Environment → Instruction → Sites → Decision
+unfoldable pub decideFound : Operation → Environment → Instruction → FoundOperands → Decision
 decideFound op v i s =
-    cond (sitesWait s) (Waits Access)
-    (cond (sitesMasked (v .psw) s) (Traps trap.DataException (v .psw))
+    cond (operandsWait s) (Waits Access)
+    (cond (operandsMasked (v .psw) s) (Traps trap.DataException (v .psw))
     (perform op v i s))
 
--- 4. a constant as destination, or any operand outside its window: 14
-unfoldable pub foundThird : Operation → Environment → Instruction → Operand → Operand → Lookup → Decision
-foundThird op v i a b (Found c) =
-    decideFound op v i (record {
-      first = siteOf v (rolesOf op .first) (i .first) a;
-      second = siteOf v (rolesOf op .second) (i .second) b;
-      third = siteOf v (rolesOf op .third) (i .third) c;
-    })
-foundThird op v i a b lookup.Violation = Traps trap.Protection (v .psw)
+-- the operands that the three fields name, the fields having the roles r
+unfoldable pub foundOperands : Roles → Environment → Instruction → (a b c : Operand) → FoundOperands
+foundOperands r v i a b c = record {
+  first = foundOperand v (r .first) (i .first) a;
+  second = foundOperand v (r .second) (i .second) b;
+  third = foundOperand v (r .third) (i .third) c;
+}
 
-unfoldable pub foundSecond : Operation → Environment → Instruction → Operand → Lookup → Lookup → Decision
-foundSecond op v i a (Found b) third = foundThird op v i a b third
-foundSecond op v i a lookup.Violation third = Traps trap.Protection (v .psw)
-
-unfoldable pub foundFirst : Operation → Environment → Instruction → Lookup → Lookup → Lookup → Decision
-foundFirst op v i (Found a) second third = foundSecond op v i a second third
-foundFirst op v i lookup.Violation second third = Traps trap.Protection (v .psw)
+-- 4. a constant as destination, or any operand outside its window: 14. Of each, its lookup answers a violation
+unfoldable pub decideLookups : Roles → Operation → Environment → Instruction → (first second third : Lookup) → Decision
+decideLookups r op v i (Found a) (Found b) (Found c) = decideFound op v i (foundOperands r v i a b c)
+decideLookups r op v i (Found a) (Found b) lookup.Violation = Traps trap.ProtectionViolation (v .psw)
+decideLookups r op v i (Found a) lookup.Violation third = Traps trap.ProtectionViolation (v .psw)
+decideLookups r op v i lookup.Violation second third = Traps trap.ProtectionViolation (v .psw)
 
 -- where a field of the instruction leads
 abbrev pub fieldLookup : Environment → Role → (f : ℕ) → Lookup
 fieldLookup v role f = lookupOf role (v .row) (v .psw) f
 
-unfoldable pub decideOperands : Operation → Environment → Instruction → Decision
-decideOperands op v i =
-    foundFirst op v i
-    (fieldLookup v (rolesOf op .first) (i .first))
-    (fieldLookup v (rolesOf op .second) (i .second))
-    (fieldLookup v (rolesOf op .third) (i .third))
+unfoldable pub decideOperands : Roles → Operation → Environment → Instruction → Decision
+decideOperands r op v i =
+    decideLookups r op v i
+    (fieldLookup v (r .first) (i .first))
+    (fieldLookup v (r .second) (i .second))
+    (fieldLookup v (r .third) (i .third))
+
+-- an operation whose fields have the roles r
+unfoldable pub decideListed : Roles → Operation → Environment → Instruction → Decision
+decideListed r op v i = cond (illegalInstruction r op i) (Traps trap.IllegalInstruction (v .psw)) (decideOperands r op v i)
 
 -- 2. a code on a page marked privileged: 16; a code that is simulated: 1C; any other code not listed, illegal AC, SAC or DAC, or a
 -- nonzero unused field: 12. 3. SVC: 1A, with PC past the instruction
 unfoldable pub decideCode : Code → Environment → Instruction → Decision
-decideCode Privileged v i = Traps trap.Privileged (v .psw)
-decideCode Simulated v i = Traps trap.Simulated (v .psw)
-decideCode Illegal v i = Traps trap.Illegal (v .psw)
-decideCode Svc v i = cond (illegalFields svcRoles i) (Traps trap.Illegal (v .psw)) (Traps trap.Supervisor (nextOf (v .psw)))
-decideCode (Listed op) v i = cond (illegalInstruction op i) (Traps trap.Illegal (v .psw)) (decideOperands op v i)
+decideCode Privileged v i = Traps trap.PrivilegedInstruction (v .psw)
+decideCode Simulated v i = Traps trap.SimulatedInstruction (v .psw)
+decideCode Unlisted v i = Traps trap.IllegalInstruction (v .psw)
+decideCode Svc v i = cond (illegalFields svcRoles i) (Traps trap.IllegalInstruction (v .psw)) (Traps trap.SupervisorCall (nextOf (v .psw)))
+decideCode (Listed op) v i = decideListed (rolesOf op) op v i
 
 -- 1. PC outside the program window: 14
 unfoldable pub decideFetched : Environment → Place → Decision
-decideFetched v (At a) = let i : Instruction = instructionOf (v .code a) in decideCode (codeOf (i .code)) v i
-decideFetched v Violation = Traps trap.Protection (v .psw)
+decideFetched v (At a) = let i : Instruction = instructionOf (v .programWord a) in decideCode (codeOf (i .code)) v i
+decideFetched v Violation = Traps trap.ProtectionViolation (v .psw)
 
 unfoldable pub decide : Environment → Decision
 decide v = decideFetched v (placeIn (programWindow (v .row)) (pcOf (v .psw)))

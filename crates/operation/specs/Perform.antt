@@ -9,6 +9,7 @@ use Rattle.word.specs.Integers.{integerOf}
 use Rattle.word.specs.Tests.{holdsOf}
 use Rattle.word.specs.declared.Instruction.{Instruction}
 use Rattle.word.specs.declared.Outcome.{Outcome}
+use Rattle.window.specs.declared.Cell.{Cell}
 use Rattle.window.specs.declared.Place.{Place}
 use Rattle.window.specs.declared.Place.the-variants.{At, Violation}
 use Rattle.window.specs.declared.Write.{Write}
@@ -18,9 +19,11 @@ use Rattle.window.specs.Memories.{cell}
 use Rattle.operand.specs.Access.{sourceLeft, destinationLeft}
 use Rattle.operation.specs.declared.Operation.{Operation}
 use Rattle.operation.specs.declared.Operation.the-variants as operation
-use Rattle.operation.specs.declared.Site.{Site}
-use Rattle.operation.specs.declared.Sites.{Sites}
+use Rattle.operation.specs.declared.FoundOperand.{FoundOperand}
+use Rattle.operation.specs.declared.FoundOperands.{FoundOperands}
 use Rattle.operation.specs.declared.Trap.the-variants as trap
+use Rattle.operation.specs.declared.Reach.{Reach}
+use Rattle.operation.specs.declared.Reach.the-variants.{Reaches, Stops}
 use Rattle.operation.specs.declared.Wait.the-variants.{Data, Create}
 use Rattle.operation.specs.declared.Fate.{Fate}
 use Rattle.operation.specs.declared.Fate.the-variants.{Continues, Quits, Creates}
@@ -30,35 +33,35 @@ use Rattle.operation.specs.Roles.{bOf, sacOf, dacOf}
 use Rattle.operation.specs.Environment.{Environment}
 
 -- what a field is left with as a source
-unfoldable pub leftOf : Site → Write
+unfoldable pub leftOf : FoundOperand → Write
 leftOf s = sourceLeft (s .role) (s .access) (s .operand) (s .cell)
 
 -- sources are set empty first, then the destination is written
-unfoldable pub executed : Sites → (destination datum : Write) → Fate → Decision
+unfoldable pub executed : FoundOperands → (destination datum : Write) → Fate → Decision
 executed s destination datum fate =
     Executes (record { first = leftOf (s .first); second = leftOf (s .second); third = leftOf (s .third); destination = destination; datum = datum; fate = fate })
 
 -- the first field as a destination that gets a result
-unfoldable pub resultIn : Site → Outcome → Write
+unfoldable pub resultIn : FoundOperand → Outcome → Write
 resultIn s r = destinationLeft (s .access) (s .operand) (r .word) (r .quality)
 
 -- a result with quality 0
-abbrev pub plain : ℕ → Outcome
-plain w = record { word = w; quality = 0 }
+abbrev pub quality0 : ℕ → Outcome
+quality0 w = record { word = w; quality = 0 }
 
 -- an operation that ends with PC + 1
-unfoldable pub stepping : Environment → Sites → Outcome → Decision
-stepping v s r = executed s (resultIn (s .first) r) Nothing (Continues (nextOf (v .psw)))
+unfoldable pub performResult : Environment → FoundOperands → Outcome → Decision
+performResult v s r = executed s (resultIn (s .first) r) Nothing (Continues (nextOf (v .psw)))
 
 -- test C on S2, the third field, and the running PSW
-unfoldable pub testOf : Environment → Sites → (c : ℕ) → Bool
+unfoldable pub testOf : Environment → FoundOperands → (c : ℕ) → Bool
 testOf v s c = holdsOf c (s .third .cell .word) (s .third .cell .tag) (v .psw)
 
 -- B: PC = P, then CI, RI, UTM and PC each get S1's field added
 unfoldable pub branched : (psw p s1 : ℕ) → ℕ
 branched psw p s1 = pswOf (ciOf psw + ciOf s1) (riOf psw + riOf s1) (utmOf psw + utmOf s1) (p + pcOf s1)
 
-unfoldable pub performBranch : Environment → Sites → (c p : ℕ) → Decision
+unfoldable pub performBranch : Environment → FoundOperands → (c p : ℕ) → Decision
 performBranch v s c p =
     executed s Nothing Nothing (Continues (cond (testOf v s c) (branched (v .psw) p (s .second .cell .word)) (nextOf (v .psw))))
 
@@ -66,9 +69,9 @@ performBranch v s c p =
 unfoldable pub called : (psw s1 : ℕ) → ℕ
 called psw s1 = pswOf (ciOf psw) (riOf psw) (utmOf psw) (pcOf s1)
 
-unfoldable pub performCall : Environment → Sites → (c : ℕ) → Decision
+unfoldable pub performCall : Environment → FoundOperands → (c : ℕ) → Decision
 performCall v s c =
-    executed s (resultIn (s .first) (plain (nextOf (v .psw)))) Nothing
+    executed s (resultIn (s .first) (quality0 (nextOf (v .psw)))) Nothing
     (Continues (cond (testOf v s c) (called (v .psw) (s .second .cell .word)) (nextOf (v .psw))))
 
 -- CREATE: the creator's PSW at PC + 1, where ACT bits 8, 4, 2, 1 take CI, RI, UTM, PC from S1
@@ -87,21 +90,21 @@ createWaits holds flag = holds && not (eqb flag 0)
 unfoldable pub createFate : (holds : Bool) → (act psw s1 : ℕ) → Fate
 createFate holds act psw s1 = cond holds (Creates (nextOf psw) (created act psw s1)) (Continues (nextOf psw))
 
-unfoldable pub performCreate : Environment → Sites → (c act : ℕ) → Decision
+unfoldable pub performCreate : Environment → FoundOperands → (c act : ℕ) → Decision
 performCreate v s c act =
     cond (createWaits (testOf v s c) (v .flag)) (Waits Create)
     (executed s Nothing Nothing (createFate (testOf v s c) act (v .psw) (s .second .cell .word)))
 
 -- QT: on a true test the process leaves
-unfoldable pub performQuit : Environment → Sites → (c : ℕ) → Decision
+unfoldable pub performQuit : Environment → FoundOperands → (c : ℕ) → Decision
 performQuit v s c = executed s Nothing Nothing (cond (testOf v s c) Quits (Continues (nextOf (v .psw))))
 
 -- the byte address: the low 32 bits of S1, for the X forms plus S2 modulo 2^32
-unfoldable pub indirectOf : Sites → ℕ
-indirectOf s = s .second .cell .word % 2 ^ 32
+unfoldable pub indirectAddress : FoundOperands → ℕ
+indirectAddress s = s .second .cell .word % 2 ^ 32
 
-unfoldable pub indexedOf : Sites → ℕ
-indexedOf s = (s .second .cell .word + s .third .cell .word) % 2 ^ 32
+unfoldable pub indexedAddress : FoundOperands → ℕ
+indexedAddress s = (s .second .cell .word + s .third .cell .word) % 2 ^ 32
 
 -- the data state of a load is unmet: SAC 1 and 2 wait until full
 unfoldable pub loadWaits : (low state : ℕ) → Bool
@@ -111,44 +114,52 @@ loadWaits low state = not (eqb (sacOf low) 0) && eqb state 0
 unfoldable pub loadLeaves : (low a word : ℕ) → Write
 loadLeaves low a word = cond (eqb (sacOf low) 2) (Put a (cell 0 word)) Nothing
 
--- the load of the data word at the real word address a
-unfoldable pub loadWord : Environment → Sites → (low a : ℕ) → Decision
-loadWord v s low a =
-    cond (loadWaits low (v .datum a .tag)) (Waits Data)
-    (executed s (resultIn (s .first) (plain (v .datum a .word))) (loadLeaves low a (v .datum a .word)) (Continues (nextOf (v .psw))))
+-- the load of the data word k at the real word address a
+unfoldable pub loadWord : (psw : ℕ) → FoundOperands → (low a : ℕ) → (k : Cell) → Decision
+loadWord psw s low a k =
+    cond (loadWaits low (k .tag)) (Waits Data)
+    (executed s (resultIn (s .first) (quality0 (k .word))) (loadLeaves low a (k .word)) (Continues (nextOf psw)))
 
 -- the data state of a store is unmet: DAC 2 waits until empty
 unfoldable pub storeWaits : (low state : ℕ) → Bool
 storeWaits low state = eqb (dacOf low) 2 && not (eqb state 0)
 
--- the store of a word there; a store leaves full
-unfoldable pub storeWord : Environment → Sites → (low word a : ℕ) → Decision
-storeWord v s low word a =
-    cond (storeWaits low (v .datum a .tag)) (Waits Data)
-    (executed s Nothing (Put a (cell 1 word)) (Continues (nextOf (v .psw))))
+-- the store of a word over the data word k; a store leaves full
+unfoldable pub storeWord : (psw : ℕ) → FoundOperands → (low word a : ℕ) → (k : Cell) → Decision
+storeWord psw s low word a k =
+    cond (storeWaits low (k .tag)) (Waits Data)
+    (executed s Nothing (Put a (cell 1 word)) (Continues (nextOf psw)))
 
--- check 7 of the byte address e: a protection violation is 14; then B = 1, or low three address bits not zero, gives 1C. The rest is
--- for the word at the real address
-unfoldable pub dataAt : Environment → (low e : ℕ) → (ℕ → Decision) → Place → Decision
-dataAt v low e access (At a) = cond (eqb (bOf low) 1 || not (eqb (e % 8) 0)) (Traps trap.Simulated (v .psw)) (access (a / 8))
-dataAt v low e access Violation = Traps trap.Protection (v .psw)
+-- check 7 of the byte address e, by its place: a protection violation is 14; then B = 1, or low three address bits not zero, gives 1C;
+-- else the word at its real address
+unfoldable pub wordPlace : (low e : ℕ) → Place → Reach
+wordPlace low e (At a) = cond (eqb (bOf low) 1 || not (eqb (e % 8) 0)) (Stops trap.SimulatedInstruction) (Reaches (a / 8))
+wordPlace low e Violation = Stops trap.ProtectionViolation
 
-unfoldable pub performLoad : Environment → Sites → (low e : ℕ) → Decision
-performLoad v s low e = dataAt v low e (loadWord v s low) (bytePlace (v .row) e)
+unfoldable pub loadFrom : Environment → FoundOperands → (low : ℕ) → Reach → Decision
+loadFrom v s low (Reaches a) = loadWord (v .psw) s low a (v .datum a)
+loadFrom v s low (Stops k) = Traps k (v .psw)
 
-unfoldable pub performStore : Environment → Sites → (low word e : ℕ) → Decision
-performStore v s low word e = dataAt v low e (storeWord v s low word) (bytePlace (v .row) e)
+unfoldable pub performLoad : Environment → FoundOperands → (low e : ℕ) → Decision
+performLoad v s low e = loadFrom v s low (wordPlace low e (bytePlace (v .row) e))
 
-unfoldable pub perform : Operation → Environment → Instruction → Sites → Decision
+unfoldable pub storeTo : Environment → FoundOperands → (low word : ℕ) → Reach → Decision
+storeTo v s low word (Reaches a) = storeWord (v .psw) s low word a (v .datum a)
+storeTo v s low word (Stops k) = Traps k (v .psw)
+
+unfoldable pub performStore : Environment → FoundOperands → (low word e : ℕ) → Decision
+performStore v s low word e = storeTo v s low word (wordPlace low e (bytePlace (v .row) e))
+
+unfoldable pub perform : Operation → Environment → Instruction → FoundOperands → Decision
 perform operation.Nop v i s = executed s Nothing Nothing (Continues (nextOf (v .psw)))
-perform (operation.Vector op) v i s = stepping v s (plain (vectorOf op (s .second .cell .word) (s .third .cell .word)))
-perform (operation.Bit op) v i s = stepping v s (plain (bitOf op (s .second .cell .word) (s .third .cell .word)))
-perform (operation.Integer op) v i s = stepping v s (integerOf op (s .second .cell .word) (s .third .cell .word))
+perform (operation.Vector op) v i s = performResult v s (quality0 (vectorOf op (s .second .cell .word) (s .third .cell .word)))
+perform (operation.Bit op) v i s = performResult v s (quality0 (bitOf op (s .second .cell .word) (s .third .cell .word)))
+perform (operation.Integer op) v i s = performResult v s (integerOf op (s .second .cell .word) (s .third .cell .word))
 perform (operation.Branch c p) v i s = performBranch v s c (p * 2 ^ 16 + i .first)
 perform (operation.Call c) v i s = performCall v s c
 perform (operation.Create c act) v i s = performCreate v s c act
 perform (operation.Quit c) v i s = performQuit v s c
-perform (operation.LoadIndirect low) v i s = performLoad v s low (indirectOf s)
-perform (operation.LoadIndexed low) v i s = performLoad v s low (indexedOf s)
-perform (operation.StoreIndirect low) v i s = performStore v s low (s .third .cell .word) (indirectOf s)
-perform (operation.StoreIndexed low) v i s = performStore v s low (s .first .cell .word) (indexedOf s)
+perform (operation.LoadIndirect low) v i s = performLoad v s low (indirectAddress s)
+perform (operation.LoadIndexed low) v i s = performLoad v s low (indexedAddress s)
+perform (operation.StoreIndirect low) v i s = performStore v s low (s .third .cell .word) (indirectAddress s)
+perform (operation.StoreIndexed low) v i s = performStore v s low (s .first .cell .word) (indexedAddress s)

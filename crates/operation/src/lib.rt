@@ -29,7 +29,7 @@ pub enum Code {
     Simulated,
     Svc,
     Listed(Operation),
-    Illegal,
+    Unlisted,
 }
 
 // The roles of the three fields after the code.
@@ -40,27 +40,27 @@ pub struct Roles {
 }
 
 // A field that was looked up: its role, access code and place, and the cell there before the step.
-pub struct Site {
+pub struct FoundOperand {
     pub role: Role,
     pub access: u8,
     pub operand: Operand,
     pub cell: Cell,
 }
 
-pub struct Sites {
-    pub first: Site,
-    pub second: Site,
-    pub third: Site,
+pub struct FoundOperands {
+    pub first: FoundOperand,
+    pub second: FoundOperand,
+    pub third: FoundOperand,
 }
 
 // Why a step traps.
 pub enum Trap {
     CreateFault,
-    Illegal,
-    Protection,
-    Privileged,
-    Supervisor,
-    Simulated,
+    IllegalInstruction,
+    ProtectionViolation,
+    PrivilegedInstruction,
+    SupervisorCall,
+    SimulatedInstruction,
     DataException,
 }
 
@@ -69,6 +69,12 @@ pub enum Wait {
     Access,
     Data,
     Create,
+}
+
+// A data word that may be reached, by real address, or why the step traps.
+pub enum Reach {
+    Reaches(usize),
+    Stops(Trap),
 }
 
 // What becomes of the process: it goes on with a PSW, it leaves, or it goes on and a process with the second PSW joins.

@@ -11,7 +11,7 @@ use borrow.Author.Tests.{ltb-true}
 use Rattle.word.specs.Laws.Bools.{and-left, and-right}
 use Rattle.step.specs.Soundness.{every}
 use Rattle.window.specs.declared.Row.{Row}
-use Rattle.window.specs.Windows.{registerWindow, programWindow, dataWindow}
+use Rattle.window.specs.Windows.{registerWindow, programWindow, dataWordWindow}
 use Rattle.step.specs.State.{State, findRow}
 use Rattle.step.specs.Owned.{own}
 use Rattle.step.specs.Laws.Rows.{some-inj}
@@ -91,12 +91,12 @@ row = record { task = 1; cb = 0; rb = 0; rl = 0; pb = 0; pl = 0; db = 1; dl = 0;
 -- what is compared of a task, at its row
 compared-at : (t : ℕ) (s s′ : State) (r : Row) → findRow t (s .rows) ≡ some r → own t s ≡ own t s′
     → memoryIn (registerWindow r) (s .registers) ≡ memoryIn (registerWindow r) (s′ .registers)
-    → memoryIn (dataWindow r) (s .dataWords) ≡ memoryIn (dataWindow r) (s′ .dataWords)
+    → memoryIn (dataWordWindow r) (s .dataWords) ≡ memoryIn (dataWordWindow r) (s′ .dataWords)
     → Compared t s s′
 compared-at t s s′ r e o g d = record {
   owned = o;
   registers = λ x f. subst (λ (y : Row). memoryIn (registerWindow y) (s .registers) ≡ memoryIn (registerWindow y) (s′ .registers)) (some-inj r x (sym e ∙ f)) g;
-  dataWords = λ x f. subst (λ (y : Row). memoryIn (dataWindow y) (s .dataWords) ≡ memoryIn (dataWindow y) (s′ .dataWords)) (some-inj r x (sym e ∙ f)) d;
+  dataWords = λ x f. subst (λ (y : Row). memoryIn (dataWordWindow y) (s .dataWords) ≡ memoryIn (dataWordWindow y) (s′ .dataWords)) (some-inj r x (sym e ∙ f)) d;
 }
 
 program-at : (t : ℕ) (s s′ : State) (r : Row) → findRow t (s .rows) ≡ some r

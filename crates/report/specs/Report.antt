@@ -1,6 +1,7 @@
 -- The batch program: standard input as bytes, standard output as bytes.
 use Prim.Native.Nat.{ℕ, zero, suc, _+_, _/_, _%_}
-use mathlib.Core.Bool.{true, cond, not}
+use mathlib.Core.Bool.{true, cond}
+use mathlib.Core.Option.{Option, none, some}
 use mathlib.Core.List.{List, [], _∷_, _++_}
 use lib.Dec.{eqb, ltb}
 use lib.ListN.{length}
@@ -9,14 +10,14 @@ use Rattle.window.specs.declared.Row.{Row}
 use Rattle.step.specs.declared.ProcessTable.{ProcessTable}
 use Rattle.step.specs.State.{processesOf}
 use Rattle.step.specs.Step.{noTrap}
-use Rattle.step.specs.Soundness.{every}
 use Rattle.run.specs.declared.Counts.{Counts}
-use Rattle.run.specs.declared.Refusal.{Refusal}
-use Rattle.run.specs.declared.Refusal.the-variants.{Item, Input}
-use Rattle.run.specs.Refusals.{numberOf, itemSound}
+use Rattle.refusal.specs.declared.Refusal.{Refusal}
+use Rattle.refusal.specs.declared.Refusal.the-variants.{ItemOutOfRange, InputTooLong}
+use Rattle.refusal.specs.Numbers.{numberOf}
+use Rattle.run.specs.Schedule.{scheduleRefusal}
 use Rattle.run.specs.Run.{Ran, run}
-use Rattle.image.specs.Codec.{Codec, Result, refused, accepted, num}
-use Rattle.image.specs.Image.{plain, alike, stateOf, Decoded, bad, good, decode}
+use Rattle.image.specs.Codec.{Codec, Result, refused, accepted, num, uniformSection}
+use Rattle.image.specs.Image.{Image, stateOf, Decoded, bad, good, decode}
 
 -- ---- characters: '0' is 48, 'A' 65, space 32, '-' 45, newline 10
 
@@ -88,16 +89,20 @@ refusalLine e = (82 ∷ decimal (numberOf e)) ++ newline
 
 -- ---- the input: schedule count (2 bytes), items (1 each), image
 
-unfoldable pub itemCodec : Unit {0} → Codec ℕ
-itemCodec u = num 1 Item (λ _. true)
+unfoldable pub itemCodec : Codec ℕ
+itemCodec = num 1 ItemOutOfRange (λ _. true)
 
 unfoldable pub scheduleCodec : Codec (List ℕ)
-scheduleCodec = plain itemCodec alike 2 65535 tt
+scheduleCodec = uniformSection itemCodec 2 65535
+
+unfoldable pub outputRun : Option Refusal → (schedule : List ℕ) → Image → List ℕ
+outputRun (some e) schedule i = refusalLine e
+outputRun none schedule i = reportOf (run schedule (stateOf i))
 
 -- the program reads its whole input before it runs, so 10 comes last
 unfoldable pub outputRead : (schedule : List ℕ) → Decoded → List ℕ
 outputRead schedule (bad e) = refusalLine e
-outputRead schedule (good i) = cond (not (every itemSound schedule)) (refusalLine Item) (reportOf (run schedule (stateOf i)))
+outputRead schedule (good i) = outputRun (scheduleRefusal schedule) schedule i
 
 unfoldable pub outputScheduled : Result (List ℕ) → List ℕ
 outputScheduled (refused e) = refusalLine e
@@ -105,4 +110,4 @@ outputScheduled (accepted schedule image) = outputRead schedule (decode image)
 
 -- the output of the batch program; 11 where the input is over 65,536 bytes
 unfoldable pub outputOf : List ℕ → List ℕ
-outputOf input = cond (ltb 65536 (length input)) (refusalLine Input) (outputScheduled (scheduleCodec .dec input))
+outputOf input = cond (ltb 65536 (length input)) (refusalLine InputTooLong) (outputScheduled (scheduleCodec .dec input))

@@ -15,8 +15,8 @@ use Rattle.window.specs.Memories.{memory}
 use Rattle.operand.specs.declared.Role.the-variants.{Source}
 use Rattle.operand.specs.declared.Lookup.the-variants.{Violation}
 use Rattle.operand.specs.Field.{lookupOf}
-use Rattle.operation.specs.declared.Trap.the-variants.{CreateFault, Protection}
-use Rattle.operation.specs.Exclusions.{instruction, Excluded, excluded}
+use Rattle.operation.specs.declared.Trap.the-variants.{CreateFault, ProtectionViolation}
+use Rattle.operation.specs.Exclusions.{instructionWord, Excluded, excluded}
 use Rattle.step.specs.declared.Ending.the-variants.{Executed, Trapped}
 use Rattle.step.specs.State.{State}
 use Rattle.step.specs.Act.{Stepped}
@@ -26,17 +26,17 @@ use Rattle.report.specs.Report.{outputOf}
 use Rattle.report.specs.Laws.Opened.{opened}
 
 -- CB 4095, RB 3, RL 3, DB 1, DL 1: registers 6 and 7, data words 32 to 63
-unfoldable pub row : Row
-row = record { task = 1; cb = 4095; rb = 3; rl = 3; pb = 0; pl = 0; db = 1; dl = 1; kind = 255; psw = 0 }
+unfoldable pub trialRow : Row
+trialRow = record { task = 1; cb = 4095; rb = 3; rl = 3; pb = 0; pl = 0; db = 1; dl = 1; kind = 255; psw = 0 }
 
 unfoldable pub upTo : ℕ → List ℕ
 upTo zero = []
 upTo (suc n) = upTo n ++ (n ∷ [])
 
 -- task 1 with `live` processes, one instruction, constant 0 with word 77, register 7 with word s1, and data word 63 with word 99
-unfoldable pub machine : (live instruction s1 : ℕ) → State
+unfoldable pub machine : (live w s1 : ℕ) → State
 machine live w s1 = record {
-  rows = row ∷ [];
+  rows = trialRow ∷ [];
   table = record { psw = replicate 64 0; queues = queueOf (upTo live) ∷ replicate 6 (queueOf []); flag = 0 };
   constants = 77 ∷ [];
   registers = memory (replicate 8 0) (replicate 7 0 ++ (s1 ∷ []));
@@ -50,7 +50,7 @@ registerAfter x a = getD (x .state .registers .words) a 0
 
 -- CREATE always, ACT 0, S1 and S2 constants
 unfoldable pub create : ℕ
-create = instruction 0x3970 0 0x4000 0x4000
+create = instructionWord 0x3970 0 0x4000 0x4000
 
 pub record Starred : Type 0 where
   -- DEC 0: -1, quality 0. DEC 5: 4, quality 1. DEC -2^63: 2^63-1, quality 4
@@ -65,13 +65,13 @@ pub record Starred : Type 0 where
   pub encode-0 : bitOf Encode1 0 0 ≡ 2 ^ 63
   pub bitset-64 : bitOf Bitset 0 64 ≡ 2 ^ 63
   -- RB 3, RL 3: displacement 1 reaches register 7 (MOV of it to register 6), 2 traps
-  pub register-1 : registerAfter (step 1 (machine 1 (instruction 0x611F 0 1 0) 5)) 6 ≡ 5
-  pub register-2 : step 1 (machine 1 (instruction 0x611F 0 2 0) 5) .ending ≡ Trapped Protection 0
+  pub register-1 : registerAfter (step 1 (machine 1 (instructionWord 0x611F 0 1 0) 5)) 6 ≡ 5
+  pub register-2 : step 1 (machine 1 (instructionWord 0x611F 0 2 0) 5) .ending ≡ Trapped ProtectionViolation 0
   -- DB 1, DL 1: hex F8 reaches byte 504, the data word 63; hex 100 traps
-  pub data-F8 : registerAfter (step 1 (machine 1 (instruction 0x6C00 0 1 0) 0xF8)) 6 ≡ 99
-  pub data-100 : step 1 (machine 1 (instruction 0x6C00 0 1 0) 0x100) .ending ≡ Trapped Protection 0
+  pub data-F8 : registerAfter (step 1 (machine 1 (instructionWord 0x6C00 0 1 0) 0xF8)) 6 ≡ 99
+  pub data-100 : step 1 (machine 1 (instructionWord 0x6C00 0 1 0) 0x100) .ending ≡ Trapped ProtectionViolation 0
   -- CB 4095: displacement 2 reads constant 0
-  pub constant-2 : registerAfter (step 1 (machine 1 (instruction 0x611F 0 0x4002 0) 5)) 6 ≡ 77
+  pub constant-2 : registerAfter (step 1 (machine 1 (instructionWord 0x611F 0 0x4002 0) 5)) 6 ≡ 77
   -- test E of 0 holds
   pub even-0 : holdsOf 14 0 0 0 ≡ true
   -- create at 62 live: no fault, at 63: fault
@@ -83,7 +83,7 @@ pub record Starred : Type 0 where
   pub index : lookupOf Source (record { task = 1; cb = 0; rb = 0; rl = 1023; pb = 0; pl = 0; db = 0; dl = 0; kind = 255; psw = 0 }) (pswOf 0 2047 0 0) 0x8001 ≡ Violation
 
 pub starred : Starred
-unfolding opened row upTo machine instruction registerAfter create
+unfolding opened trialRow upTo machine instructionWord registerAfter create
 starred = record {
   dec-0 = refl;
   dec-5 = refl;

@@ -8,7 +8,7 @@ use Prim.Native.Nat.{ℕ, suc}
 use lib.Seq.{slice}
 use Rattle.window.specs.declared.Row.{Row}
 use Rattle.window.specs.declared.Window.{Window}
-use Rattle.window.specs.Windows.{meets, registerWindow, programWindow, dataWindow}
+use Rattle.window.specs.Windows.{meets, registerWindow, programWindow, dataWordWindow}
 use Rattle.window.specs.Memories.{Memory, memory, constantAt}
 use Rattle.step.specs.State.{State, findRow}
 use Rattle.step.specs.Owned.{own}
@@ -27,7 +27,7 @@ pub record Compared (t : ℕ) (s s′ : State) : Type 0 where
   -- registers with word, state and quality, each at its place in the window
   pub registers : (r : Row) → findRow t (s .rows) ≡ some r → memoryIn (registerWindow r) (s .registers) ≡ memoryIn (registerWindow r) (s′ .registers)
   -- data words with word and state, each at its place in the window
-  pub dataWords : (r : Row) → findRow t (s .rows) ≡ some r → memoryIn (dataWindow r) (s .dataWords) ≡ memoryIn (dataWindow r) (s′ .dataWords)
+  pub dataWords : (r : Row) → findRow t (s .rows) ≡ some r → memoryIn (dataWordWindow r) (s .dataWords) ≡ memoryIn (dataWordWindow r) (s′ .dataWords)
 
 -- the program words of task t are equal
 abbrev pub SameProgram : ℕ → State → State → Type 0
@@ -40,7 +40,7 @@ SameConstants s s′ = (a : ℕ) → constantAt (s .constants) a ≡ constantAt 
 -- no register window and no data window of task t meets one of task u
 pub record Clear (t u : ℕ) (s : State) : Type 0 where
   pub registers : (r x : Row) → findRow t (s .rows) ≡ some r → findRow u (s .rows) ≡ some x → meets (registerWindow r) (registerWindow x) ≡ false
-  pub dataWords : (r x : Row) → findRow t (s .rows) ≡ some r → findRow u (s .rows) ≡ some x → meets (dataWindow r) (dataWindow x) ≡ false
+  pub dataWords : (r x : Row) → findRow t (s .rows) ≡ some r → findRow u (s .rows) ≡ some x → meets (dataWordWindow r) (dataWordWindow x) ≡ false
 
 -- the register and data windows of the tasks of A meet none of a task outside A
 abbrev pub Apart : (ℕ → Bool) → State → Type 0

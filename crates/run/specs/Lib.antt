@@ -1,4 +1,4 @@
 pub mod Run
-pub mod Refusals
+pub mod Schedule
 pub mod Compared
 pub mod Laws

@@ -9,8 +9,8 @@ use lib.ListN.{length, take, drop}
 use lib.Seq.{length-take-le}
 use lib.Dec.{ltb, leb}
 use borrow.Author.Tests.{ltb-false, lt-ltb}
-use Rattle.run.specs.declared.Refusal.{Refusal}
-use Rattle.run.specs.declared.Refusal.the-variants.{Short, Count}
+use Rattle.refusal.specs.declared.Refusal.{Refusal}
+use Rattle.refusal.specs.declared.Refusal.the-variants.{InputEnds, CountOverLimit}
 use Rattle.image.specs.Codec.{Bytes, Result, refused, accepted, bind, number, field, Codec, num, count, seq, via, decMany, okMany, section}
 use Rattle.word.specs.Laws.Conjunctions.{also}
 
@@ -51,7 +51,7 @@ field-lt w b hb l = rw l at (rw zero-add at (number-lt 0 0 (take w b) (bytes-tak
 
 module _ (w : ℕ) (e : Refusal) (good : ℕ → Bool) where
   num-passes : (b : List ℕ) (short fine : Bool) → Bytes b → ltb (length b) w ≡ short → good (field w b) ≡ fine → (a : ℕ) (r : List ℕ)
-      → cond short (refused Short) (cond fine (accepted (field w b) (drop w b)) (refused e)) ≡ accepted a r → (ltb a (256 ^ w) && good a ≡ true) × Bytes r
+      → cond short (refused InputEnds) (cond fine (accepted (field w b) (drop w b)) (refused e)) ≡ accepted a r → (ltb a (256 ^ w) && good a ≡ true) × Bytes r
   num-passes b true fine hb s g a r h = let z : _≡_ {A = ℕ} 0 1 = cc in absurd (omega arith)
   num-passes b false false hb s g a r h = let z : _≡_ {A = ℕ} 0 1 = cc in absurd (omega arith)
   num-passes b false true hb s g a r h =
@@ -66,7 +66,7 @@ module _ (w : ℕ) (e : Refusal) (good : ℕ → Bool) where
 
 pub count-tested : (w most : ℕ) → Tested (count w most)
 unfolding count
-count-tested w most = num-tested w Count (λ n. leb n most)
+count-tested w most = num-tested w CountOverLimit (λ n. leb n most)
 
 -- ---- one format after another, and the same fields as other values
 

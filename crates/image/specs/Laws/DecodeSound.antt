@@ -12,10 +12,10 @@ use Rattle.window.specs.declared.Row.{Row}
 use Rattle.window.specs.Memories.{wordOf}
 use Rattle.word.specs.Laws.Bools.{and-left, and-right, or-right}
 use Rattle.step.specs.Queues.{livePts}
-use Rattle.step.specs.Soundness.{every, distinct, rowsSound, listed, windowsSound, queueShaped, queuesSound, ptSound, roomSound}
+use Rattle.step.specs.Soundness.{every, distinct, rowsSound, hasRow, windowsSound, queueShaped, queuesSound, ptSound, roomSound}
 use Rattle.step.specs.Soundness.{processesSound, tableSound, memoriesSound, sound}
-use Rattle.step.specs.Laws.Sound.{listed-range}
-use Rattle.run.specs.declared.Refusal.the-variants.{Window, Processes}
+use Rattle.step.specs.Laws.Sound.{hasRow-range}
+use Rattle.refusal.specs.declared.Refusal.the-variants.{WindowPastMemory, ProcessesClash}
 use Rattle.image.specs.declared.Process.{Process}
 use Rattle.image.specs.Codec.{Bytes, Result, refused, accepted}
 use Rattle.image.specs.Laws.Formats.{image-tested}
@@ -24,48 +24,48 @@ use Rattle.image.specs.Laws.Passed.{PassedAll, PassedImage, image-passes
 use Rattle.image.specs.Laws.Weights.{Permuted, permuted-length, permuted-every, permuted-distinct}
 use Rattle.image.specs.Laws.Table.{length-queueOf, length-ptsOf, livePts-queuesOf, length-queuesOf, ptsFrom-all, ptsOf-none, length-pswTable}
 use Rattle.image.specs.Laws.Table.{every-psw}
-use Rattle.image.specs.Image.{Image, good, bad, ptOf, ptsOf, queueOf, queuesOf, pswTable, memoryOf, stateOf, closed, decode, imageCodec}
+use Rattle.image.specs.Image.{Image, good, bad, ptOf, ptsOf, queueOf, queuesOf, pswTable, memoryOf, stateOf, afterSections, decode, imageCodec}
 
 -- ---- the tests after the last section
 
-pub record Closed (i : Image) : Type 0 where
+pub record PassedAfter (i : Image) : Type 0 where
   pub windows : windowsSound (length (i .registers)) (length (i .program)) (length (i .dataWords)) (i .rows) ≡ true
   pub once : distinct (map ptOf (i .processes)) ≡ true
   pub room : roomSound (length (i .processes)) (i .flag) ≡ true
 
 -- what is read leaves nothing and passes these tests
-pub closed-good : (x : Result Image) (i : Image) → closed x ≡ good i → (x ≡ accepted i []) × Closed i
-unfolding closed
-closed-good (refused e) i h = let z : _≡_ {A = ℕ} 0 1 = cc in absurd (omega arith)
-closed-good (accepted j (x ∷ r)) i h = let z : _≡_ {A = ℕ} 0 1 = cc in absurd (omega arith)
-closed-good (accepted j []) i h = go _ _ refl refl h
+pub after-good : (x : Result Image) (i : Image) → afterSections x ≡ good i → (x ≡ accepted i []) × PassedAfter i
+unfolding afterSections
+after-good (refused e) i h = let z : _≡_ {A = ℕ} 0 1 = cc in absurd (omega arith)
+after-good (accepted j (x ∷ r)) i h = let z : _≡_ {A = ℕ} 0 1 = cc in absurd (omega arith)
+after-good (accepted j []) i h = go _ _ refl refl h
   where
     go : (w p : Bool) → windowsSound (length (j .registers)) (length (j .program)) (length (j .dataWords)) (j .rows) ≡ w
         → distinct (map ptOf (j .processes)) && roomSound (length (j .processes)) (j .flag) ≡ p
-        → cond (not w) (bad Window) (cond (not p) (bad Processes) (good j)) ≡ good i → (accepted j [] ≡ accepted i []) × Closed i
+        → cond (not w) (bad WindowPastMemory) (cond (not p) (bad ProcessesClash) (good j)) ≡ good i → (accepted j [] ≡ accepted i []) × PassedAfter i
     go false p a b k = let z : _≡_ {A = ℕ} 0 1 = cc in absurd (omega arith)
     go true false a b k = let z : _≡_ {A = ℕ} 0 1 = cc in absurd (omega arith)
     go true true a b k =
         let e : j ≡ i = cc in
         let d = distinct (map ptOf (j .processes)) in
         let r = roomSound (length (j .processes)) (j .flag) in
-        (ap (λ (y : Image). accepted y []) e, subst Closed e (record { windows = a; once = and-left d r b; room = and-right d r b }))
+        (ap (λ (y : Image). accepted y []) e, subst PassedAfter e (record { windows = a; once = and-left d r b; room = and-right d r b }))
 
 -- ---- the process table
 
 -- each queue is in its array, and that of a task with no row is empty
-queues-sound : (rows : List Row) (n t : ℕ) (ps : List Process) → length ps ≤ 64 → every (λ u. listed u rows) (map taskOf ps) ≡ true
+queues-sound : (rows : List Row) (n t : ℕ) (ps : List Process) → length ps ≤ 64 → every (λ u. hasRow u rows) (map taskOf ps) ≡ true
     → queuesSound rows t (queuesOf n t ps) ≡ true
 unfolding queuesSound queuesOf queueShaped queueOf
 queues-sound rows zero t ps few e = refl
 queues-sound rows (suc n) t ps few e =
     let k : length (ptsOf t ps) ≤ 64 = omega (arith, length-ptsOf t ps) in
     let shaped : queueShaped (queueOf (ptsOf t ps)) ≡ true = also (eq-eqb _ 64 (length-queueOf (ptsOf t ps) k)) (le-leb (length (ptsOf t ps)) 64 k) in
-    also (also shaped (go (listed t rows) refl)) (queues-sound rows n (suc t) ps few e)
+    also (also shaped (go (hasRow t rows) refl)) (queues-sound rows n (suc t) ps few e)
   where
-    go : (b : Bool) → listed t rows ≡ b → eqb (length (ptsOf t ps)) 0 || b ≡ true
+    go : (b : Bool) → hasRow t rows ≡ b → eqb (length (ptsOf t ps)) 0 || b ≡ true
     go true q = or-right (eqb (length (ptsOf t ps)) 0) true refl
-    go false q = rw (ptsOf-none (λ u. listed u rows) t ps e q)
+    go false q = rw (ptsOf-none (λ u. hasRow u rows) t ps e q)
 
 zero-psw : pswSound 0 ≡ true
 unfolding pswSound
@@ -76,7 +76,7 @@ module _ (rows : List Row) (flag : ℕ) (ps : List Process) (ordered : rowsSound
   pub live-pts : Permuted (livePts (queuesOf 7 1 ps)) (map ptOf ps)
   live-pts =
       rw (livePts-queuesOf 7 1 ps (passed .few))
-      (ptsFrom-all 7 1 (λ t. listed t rows) (λ t e. let k = listed-range 0 t rows ordered e in (k .0, omega (arith, k .1))) ps (passed .tasks))
+      (ptsFrom-all 7 1 (λ t. hasRow t rows) (λ t e. let k = hasRow-range 0 t rows ordered e in (k .0, omega (arith, k .1))) ps (passed .tasks))
 
   table-sound : distinct (map ptOf ps) ≡ true → roomSound (length ps) flag ≡ true
       → tableSound rows (record { psw = pswTable ps; queues = queuesOf 7 1 ps; flag = flag }) ≡ true
@@ -91,7 +91,7 @@ module _ (rows : List Row) (flag : ℕ) (ps : List Process) (ordered : rowsSound
 
 -- ---- the state
 
-pub state-sound : (i : Image) → PassedImage i → Closed i → sound (stateOf i) ≡ true
+pub state-sound : (i : Image) → PassedImage i → PassedAfter i → sound (stateOf i) ≡ true
 unfolding sound memoriesSound stateOf memoryOf
 state-sound i p c =
     also (also (p .rows) (table-sound (i .rows) (i .flag) (i .processes) (p .rows) (p .processes) (c .once) (c .room)))
@@ -101,5 +101,5 @@ state-sound i p c =
 pub decode-sound : (b : List ℕ) → Bytes b → (i : Image) → decode b ≡ good i → sound (stateOf i) ≡ true
 unfolding decode
 decode-sound b hb i h =
-    let u = closed-good (imageCodec .dec b) i h in
+    let u = after-good (imageCodec .dec b) i h in
     state-sound i (image-passes i (image-tested .passes b hb i [] (u .0) .0)) (u .1)

@@ -7,19 +7,23 @@ use Rattle.word.specs.Fields.{pswSound}
 use Rattle.window.specs.declared.Row.{Row}
 use Rattle.window.specs.Sound.{bits, tagSound, stateSound}
 use Rattle.step.specs.Soundness.{taskSound, kindSound, recordSound, ptSound, flagSound}
-use Rattle.run.specs.declared.Refusal.the-variants.{TaskField, ProcessField, CellField}
-use Rattle.image.specs.Codec.{Codec}
+use Rattle.refusal.specs.declared.Refusal.the-variants.{TaskField, ProcessField, CellField}
+use Rattle.image.specs.Codec.{Codec, noHeader, listSection, noState, uniformSection}
 use Rattle.image.specs.Laws.Codec.{Tested, num-tested, seq-tested, via-tested, section-tested}
-use Rattle.image.specs.Image.{rowCodec, toRow, fromRow, rowTask, noHeader, plain, tasksCodec, processCodec, processTask, processesCodec, wordCodec}
-use Rattle.image.specs.Image.{wordsCodec, cellCodec, cellsCodec, alike, imageCodec, toImage, fromImage}
+use Rattle.image.specs.Image.{rowCodec, toRow, fromRow, rowTask, tasksCodec, processCodec, toProcess, fromProcess, processTask, processesCodec}
+use Rattle.image.specs.Image.{wordCodec, wordsCodec, cellCodec, toCell, fromCell, cellsCodec, imageCodec, toImage, fromImage}
 
 noHeader-tested : Tested noHeader
 unfolding noHeader
 noHeader-tested = record { passes = λ b hb a r h. let q : b ≡ r = cc in (refl, rw (← q) hb) }
 
-pub plain-tested : {S A : Type 0} {c : S → Codec A} (next : S → A → S) → ((s : S) → Tested (c s)) → (w most : ℕ) (s : S) → Tested (plain c next w most s)
-unfolding plain
-plain-tested next tc w most s = via-tested (λ p. p .1) (λ xs. (tt, xs)) (λ p. refl) (section-tested next tc noHeader-tested w most s)
+pub listSection-tested : {S A : Type 0} {c : S → Codec A} (next : S → A → S) → ((s : S) → Tested (c s)) → (w most : ℕ) (s : S) → Tested (listSection c next w most s)
+unfolding listSection
+listSection-tested next tc w most s = via-tested (λ p. p .1) (λ xs. (tt, xs)) (λ p. refl) (section-tested next tc noHeader-tested w most s)
+
+uniform-tested : {A : Type 0} {c : Codec A} → Tested c → (w most : ℕ) → Tested (uniformSection c w most)
+unfolding uniformSection
+uniform-tested tc w most = listSection-tested noState (λ _. tc) w most tt
 
 pub row-tested : (before : ℕ) → Tested (rowCodec before)
 unfolding rowCodec
@@ -39,30 +43,30 @@ row-tested before =
 pub process-tested : (rows : List Row) (before : ℕ) → Tested (processCodec rows before)
 unfolding processCodec
 process-tested rows before =
-    via-tested _ _ (λ x. refl)
+    via-tested toProcess fromProcess (λ x. refl)
     (seq-tested (num-tested 1 ProcessField ptSound)
     (λ _. seq-tested (num-tested 1 ProcessField _)
     (λ _. num-tested 8 ProcessField pswSound)))
 
-word-tested : (u : Unit {0}) → Tested (wordCodec u)
+word-tested : Tested wordCodec
 unfolding wordCodec
-word-tested u = num-tested 8 CellField (λ _. true)
+word-tested = num-tested 8 CellField (λ _. true)
 
-cell-tested : (tag : ℕ → Bool) (u : Unit {0}) → Tested (cellCodec tag u)
+cell-tested : (good : ℕ → Bool) → Tested (cellCodec good)
 unfolding cellCodec
-cell-tested tag u = via-tested _ _ (λ x. refl) (seq-tested (num-tested 1 CellField tag) (λ _. word-tested tt))
+cell-tested good = via-tested toCell fromCell (λ x. refl) (seq-tested (num-tested 1 CellField good) (λ _. word-tested))
 
 words-tested : (w most : ℕ) → Tested (wordsCodec w most)
 unfolding wordsCodec
-words-tested w most = plain-tested alike word-tested w most tt
+words-tested w most = uniform-tested word-tested w most
 
-cells-tested : (tag : ℕ → Bool) (w most : ℕ) → Tested (cellsCodec tag w most)
+cells-tested : (good : ℕ → Bool) (w most : ℕ) → Tested (cellsCodec good w most)
 unfolding cellsCodec
-cells-tested tag w most = plain-tested alike (cell-tested tag) w most tt
+cells-tested good w most = uniform-tested (cell-tested good) w most
 
 tasks-tested : Tested tasksCodec
 unfolding tasksCodec
-tasks-tested = plain-tested rowTask row-tested 1 7 0
+tasks-tested = listSection-tested rowTask row-tested 1 7 0
 
 processes-tested : (rows : List Row) → Tested (processesCodec rows)
 unfolding processesCodec

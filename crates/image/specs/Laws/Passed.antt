@@ -12,14 +12,14 @@ use Rattle.window.specs.declared.Cell.{Cell}
 use Rattle.window.specs.Sound.{bits, wordSound, tagSound, stateSound}
 use Rattle.window.specs.Memories.{tagOf, wordOf}
 use Rattle.word.specs.Laws.Bools.{and-left, and-right}
-use Rattle.step.specs.Soundness.{every, taskSound, kindSound, recordSound, basesSound, rowSound, rowsSound, ptSound, flagSound, listed, wordsSound}
+use Rattle.step.specs.Soundness.{every, taskSound, kindSound, recordSound, basesSound, rowSound, rowsSound, ptSound, flagSound, hasRow, wordsSound}
 use Rattle.step.specs.Soundness.{memorySound}
-use Rattle.run.specs.declared.Refusal.{Refusal}
-use Rattle.run.specs.declared.Refusal.the-variants.{Count, TaskField, ProcessField, CellField}
+use Rattle.refusal.specs.declared.Refusal.{Refusal}
+use Rattle.refusal.specs.declared.Refusal.the-variants.{CountOverLimit, TaskField, ProcessField, CellField}
 use Rattle.image.specs.declared.Process.{Process}
-use Rattle.image.specs.Codec.{Codec, num, count, seq, via, okMany, section}
-use Rattle.image.specs.Image.{Image, rowCodec, rowTask, noHeader, plain, tasksCodec, processCodec, processTask, processesCodec, wordCodec}
-use Rattle.image.specs.Image.{wordsCodec, cellCodec, cellsCodec, alike, imageCodec, ptOf, memoryOf}
+use Rattle.image.specs.Codec.{Codec, num, count, seq, via, okMany, section, noHeader, listSection, noState, uniformSection}
+use Rattle.image.specs.Image.{Image, rowCodec, rowTask, tasksCodec, processCodec, processTask, processesCodec, wordCodec}
+use Rattle.image.specs.Image.{wordsCodec, cellCodec, cellsCodec, imageCodec, ptOf, memoryOf}
 use Rattle.word.specs.Laws.Conjunctions.{also, both, and-map, and-assoc}
 
 -- ---- values
@@ -55,18 +55,18 @@ module _ {S A : Type 0} (c : S → Codec A) (next : S → A → S) (f : A → �
   many-every s [] h = refl
   many-every s (x ∷ xs) h = and-map (each s x) (many-every (next s x) xs) h
 
-word-sound : (v : ℕ) → wordCodec tt .ok v ≡ true → wordSound v ≡ true
+word-sound : (v : ℕ) → wordCodec .ok v ≡ true → wordSound v ≡ true
 unfolding wordCodec num wordSound bits
 word-sound v h = and-left (ltb v (2 ^ 64)) true h
 
-cell-sound : (tag : ℕ → Bool) (c : Cell) → cellCodec tag tt .ok c ≡ true → (tag (c .tag) ≡ true) × (wordSound (c .word) ≡ true)
+cell-sound : (tag : ℕ → Bool) (c : Cell) → cellCodec tag .ok c ≡ true → (tag (c .tag) ≡ true) × (wordSound (c .word) ≡ true)
 unfolding cellCodec via seq
 cell-sound tag c = both (num-good 1 CellField tag (c .tag)) (word-sound (c .word))
 
 -- what a process passes
 record Passed (rows : List Row) (p : Process) : Type 0 where
   pt : ptSound (p .pt) ≡ true
-  task : listed (p .task) rows ≡ true
+  task : hasRow (p .task) rows ≡ true
   psw : pswSound (p .psw) ≡ true
 
 process-sound : (rows : List Row) (before : ℕ) (p : Process) → processCodec rows before .ok p ≡ true → Passed rows p
@@ -74,7 +74,7 @@ unfolding processCodec via seq
 process-sound rows before p h =
     let u =
     both (num-good 1 ProcessField ptSound (p .pt))
-    (both (λ e. and-right (leb before (p .task)) (listed (p .task) rows) (num-good 1 ProcessField (λ t. leb before t && listed t rows) (p .task) e))
+    (both (λ e. and-right (leb before (p .task)) (hasRow (p .task) rows) (num-good 1 ProcessField (λ t. leb before t && hasRow t rows) (p .task) e))
     (num-good 8 ProcessField pswSound (p .psw))) h in
     record { pt = u .0; task = u .1 .0; psw = u .1 .1 }
 
@@ -84,29 +84,29 @@ module _ {H S A : Type 0} (head : Codec H) (c : S → Codec A) (next : S → A �
   section-parts : {P Q : Type 0} (w most : ℕ) (s : S) (h : H) (xs : List A) → (head .ok h ≡ true → P) → (okMany c next s xs ≡ true → Q)
       → section head c next w most s .ok (h, xs) ≡ true → (length xs ≤ most) × (P × Q)
   unfolding section count
-  section-parts w most s h xs p q = both (λ e. leb-true (length xs) most (num-good w Count (λ n. leb n most) (length xs) e)) (both p q)
+  section-parts w most s h xs p q = both (λ e. leb-true (length xs) most (num-good w CountOverLimit (λ n. leb n most) (length xs) e)) (both p q)
 
 module _ {S A : Type 0} (c : S → Codec A) (next : S → A → S) where
-  plain-parts : {P : Type 0} (w most : ℕ) (s : S) (xs : List A) → (okMany c next s xs ≡ true → P) → plain c next w most s .ok xs ≡ true → (length xs ≤ most) × P
-  unfolding plain via
-  plain-parts w most s xs p h = let u = section-parts noHeader c next w most s tt xs (λ e. e) p h in (u .0, u .1 .1)
+  listSection-parts : {P : Type 0} (w most : ℕ) (s : S) (xs : List A) → (okMany c next s xs ≡ true → P) → listSection c next w most s .ok xs ≡ true → (length xs ≤ most) × P
+  unfolding listSection via
+  listSection-parts w most s xs p h = let u = section-parts noHeader c next w most s tt xs (λ e. e) p h in (u .0, u .1 .1)
 
 tasks-sound : (rs : List Row) → tasksCodec .ok rs ≡ true → rowsSound 0 rs ≡ true
 unfolding tasksCodec
-tasks-sound rs h = plain-parts rowCodec rowTask 1 7 0 rs (rows-sound 0 rs) h .1
+tasks-sound rs h = listSection-parts rowCodec rowTask 1 7 0 rs (rows-sound 0 rs) h .1
 
 words-sound : (w most : ℕ) (l : List ℕ) → wordsCodec w most .ok l ≡ true → wordsSound most l ≡ true
-unfolding wordsCodec wordsSound
+unfolding wordsCodec uniformSection wordsSound
 words-sound w most l h =
-    let u = plain-parts wordCodec alike w most tt l (many-every wordCodec alike (λ x. x) wordSound (λ s. word-sound) tt l) h in
+    let u = listSection-parts (λ _. wordCodec) noState w most tt l (many-every (λ _. wordCodec) noState (λ x. x) wordSound (λ s. word-sound) tt l) h in
     also (le-leb (length l) most (u .0)) (rw map-id at (u .1))
 
 cells-sound : (tag : ℕ → Bool) (w most : ℕ) (l : List Cell) → cellsCodec tag w most .ok l ≡ true → memorySound most tag (memoryOf l) ≡ true
-unfolding cellsCodec memorySound wordsSound memoryOf
+unfolding cellsCodec uniformSection memorySound wordsSound memoryOf
 cells-sound tag w most l h =
-    let u = plain-parts (cellCodec tag) alike w most tt l (λ e. e) h in
-    let tags = many-every (cellCodec tag) alike tagOf tag (λ s c e. cell-sound tag c e .0) tt l (u .1) in
-    let words = many-every (cellCodec tag) alike wordOf wordSound (λ s c e. cell-sound tag c e .1) tt l (u .1) in
+    let u = listSection-parts (λ _. cellCodec tag) noState w most tt l (λ e. e) h in
+    let tags = many-every (λ _. cellCodec tag) noState tagOf tag (λ s c e. cell-sound tag c e .0) tt l (u .1) in
+    let words = many-every (λ _. cellCodec tag) noState wordOf wordSound (λ s c e. cell-sound tag c e .1) tt l (u .1) in
     let few : length (map wordOf l) ≤ most = rw length-map (u .0) in
     also (eq-eqb (length (map tagOf l)) (length (map wordOf l)) (length-map l tagOf ∙ sym (length-map l wordOf)))
     (also tags (also (le-leb (length (map wordOf l)) most few) words))
@@ -122,7 +122,7 @@ pub record PassedAll (rows : List Row) (f : ℕ) (ps : List Process) : Type 0 wh
   pub few : length ps ≤ 64
   pub flag : flagSound f ≡ true
   pub pts : every ptSound (map ptOf ps) ≡ true
-  pub tasks : every (λ t. listed t rows) (map taskOf ps) ≡ true
+  pub tasks : every (λ t. hasRow t rows) (map taskOf ps) ≡ true
   pub psws : every pswSound (map pswOf ps) ≡ true
 
 processes-sound : (rows : List Row) (flag : ℕ) (ps : List Process) → processesCodec rows .ok (flag, ps) ≡ true → PassedAll rows flag ps
@@ -135,7 +135,7 @@ processes-sound rows flag ps h =
       few = u .0;
       flag = u .1 .0;
       pts = many ptOf ptSound (λ p e. e .pt);
-      tasks = many taskOf (λ t. listed t rows) (λ p e. e .task);
+      tasks = many taskOf (λ t. hasRow t rows) (λ p e. e .task);
       psws = many pswOf pswSound (λ p e. e .psw);
     }
 

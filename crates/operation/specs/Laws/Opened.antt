@@ -4,20 +4,20 @@ use Rattle.word.specs.Vectors.{digitOf, digitsBy, vectorOf}
 use Rattle.word.specs.Bits.{bitsetOf, bitclrOf, encode1Of, encode0Of, bitOf, parityOf}
 use Rattle.word.specs.Integers.{within, addFits, subFits, qualityOf, addOf, subOf, magnitudeOf, mostOf, mulFits, mulOf, integerOf}
 use Rattle.word.specs.Tests.{tests, holdsOf}
-use Rattle.window.specs.Windows.{windowOf, inside, placeIn, registerWindow, programWindow, byteWindow, dataWindow, bytePlace, constantPlace, meets}
+use Rattle.window.specs.Windows.{windowOf, inside, placeIn, registerWindow, programWindow, dataWindow, dataWordWindow, bytePlace, constantPlace, meets}
 use Rattle.window.specs.Memories.{cellAt, constantAt, seen, cellIn, stored, storedOne, storedAll, written}
 use Rattle.window.specs.Sound.{bits, wordSound, tagSound, stateSound}
 use Rattle.operand.specs.Field.{indexedOf, constantOf, accessOf, illegalOf, effectiveOf, illegalField, registerLookup, sourceLookup, destinationLookup, lookupOf}
 use Rattle.operand.specs.Access.{operandCell, visibleCell, sourceWaits, destinationWaits, waitsOf, maskedOf, emptying, sourceLeft, destinationTag, destinationLeft}
-use Rattle.operation.specs.Codes.{find, privileged, simulated, listed, callOf, quitOf, accessing, families, familyOf, codeOf}
+use Rattle.operation.specs.Codes.{find, privileged, simulated, singleCodes, callOf, quitOf, dataCodeOf, families, familyOf, singleOf, codeOf}
 use Rattle.operation.specs.Roles.{vectorRoles, bitRoles, integerRoles, rolesOf, svcRoles, illegalLoad, illegalStore, illegalAccess, illegalFields, illegalInstruction}
-use Rattle.operation.specs.Environment.{kindOf}
-use Rattle.operation.specs.Perform.{leftOf, executed, resultIn, stepping, testOf, branched, performBranch, called, performCall, created, createWaits, createFate, performCreate, performQuit, indirectOf, indexedOf as perform-indexedOf, loadWaits, loadLeaves, loadWord, storeWaits, storeWord, dataAt, performLoad, performStore, perform}
-use Rattle.operation.specs.Decide.{siteOf, siteWaits, sitesWait, siteMasked, sitesMasked, decideFound, foundThird, foundSecond, foundFirst, decideOperands, decideCode, decideFetched, decide}
+use Rattle.operation.specs.Environment.{environmentOf, kindOf}
+use Rattle.operation.specs.Perform.{leftOf, executed, resultIn, performResult, testOf, branched, performBranch, called, performCall, created, createWaits, createFate, performCreate, performQuit, indirectAddress, indexedAddress, loadWaits, loadLeaves, loadWord, storeWaits, storeWord, wordPlace, loadFrom, performLoad, storeTo, performStore, perform}
+use Rattle.operation.specs.Decide.{foundOperand, operandWaits, operandsWait, operandMasked, operandsMasked, decideFound, foundOperands, decideLookups, decideOperands, decideListed, decideCode, decideFetched, decide}
 use lib.Count.{leadingZeros, onesIn}
 use Prim.Native.Nat.{ℕ}
 
 -- naming this opens all definitions
 unfoldable pub opened : ℕ
-unfolding instructionOf ciOf riOf utmOf pcOf pswOf pswSound nextOf digitOf digitsBy vectorOf bitsetOf bitclrOf encode1Of encode0Of bitOf parityOf within addFits subFits qualityOf addOf subOf magnitudeOf mostOf mulFits mulOf integerOf tests holdsOf windowOf inside placeIn registerWindow programWindow byteWindow dataWindow bytePlace constantPlace meets cellAt constantAt seen cellIn stored storedOne storedAll written bits wordSound tagSound stateSound indexedOf constantOf accessOf illegalOf effectiveOf illegalField registerLookup sourceLookup destinationLookup lookupOf operandCell visibleCell sourceWaits destinationWaits waitsOf maskedOf emptying sourceLeft destinationTag destinationLeft find privileged simulated listed callOf quitOf accessing families familyOf codeOf vectorRoles bitRoles integerRoles rolesOf svcRoles illegalLoad illegalStore illegalAccess illegalFields illegalInstruction kindOf leftOf executed resultIn stepping testOf branched performBranch called performCall created createWaits createFate performCreate performQuit indirectOf perform-indexedOf loadWaits loadLeaves loadWord storeWaits storeWord dataAt performLoad performStore perform siteOf siteWaits sitesWait siteMasked sitesMasked decideFound foundThird foundSecond foundFirst decideOperands decideCode decideFetched decide leadingZeros onesIn
+unfolding instructionOf ciOf riOf utmOf pcOf pswOf pswSound nextOf digitOf digitsBy vectorOf bitsetOf bitclrOf encode1Of encode0Of bitOf parityOf within addFits subFits qualityOf addOf subOf magnitudeOf mostOf mulFits mulOf integerOf tests holdsOf windowOf inside placeIn registerWindow programWindow dataWindow dataWordWindow bytePlace constantPlace meets cellAt constantAt seen cellIn stored storedOne storedAll written bits wordSound tagSound stateSound indexedOf constantOf accessOf illegalOf effectiveOf illegalField registerLookup sourceLookup destinationLookup lookupOf operandCell visibleCell sourceWaits destinationWaits waitsOf maskedOf emptying sourceLeft destinationTag destinationLeft find privileged simulated singleCodes callOf quitOf dataCodeOf families familyOf singleOf codeOf vectorRoles bitRoles integerRoles rolesOf svcRoles illegalLoad illegalStore illegalAccess illegalFields illegalInstruction environmentOf kindOf leftOf executed resultIn performResult testOf branched performBranch called performCall created createWaits createFate performCreate performQuit indirectAddress indexedAddress loadWaits loadLeaves loadWord storeWaits storeWord wordPlace loadFrom performLoad storeTo performStore perform foundOperand operandWaits operandsWait operandMasked operandsMasked decideFound foundOperands decideLookups decideOperands decideListed decideCode decideFetched decide leadingZeros onesIn
 opened = 0

@@ -26,12 +26,17 @@ use Rattle.operand.specs.declared.Lookup.{Lookup}
 use Rattle.operand.specs.declared.Lookup.the-variants.{Found}
 use Rattle.operand.specs.declared.Lookup.the-variants as lookup
 use Rattle.operand.specs.Access.{emptying, sourceLeft, destinationTag, destinationLeft}
+use Rattle.operation.specs.declared.Roles.{Roles}
+use Rattle.operation.specs.declared.Trap.{Trap}
+use Rattle.operation.specs.declared.Trap.the-variants as trap
+use Rattle.operation.specs.declared.Reach.{Reach}
+use Rattle.operation.specs.declared.Reach.the-variants.{Reaches, Stops}
 use Rattle.operation.specs.declared.Operation.{Operation}
 use Rattle.operation.specs.declared.Operation.the-variants as operation
 use Rattle.operation.specs.declared.Code.{Code}
-use Rattle.operation.specs.declared.Code.the-variants.{Privileged, Simulated, Svc, Listed, Illegal}
-use Rattle.operation.specs.declared.Site.{Site}
-use Rattle.operation.specs.declared.Sites.{Sites}
+use Rattle.operation.specs.declared.Code.the-variants.{Privileged, Simulated, Svc, Listed, Unlisted}
+use Rattle.operation.specs.declared.FoundOperand.{FoundOperand}
+use Rattle.operation.specs.declared.FoundOperands.{FoundOperands}
 use Rattle.operation.specs.declared.Wait.the-variants.{Create}
 use Rattle.operation.specs.declared.Fate.{Fate}
 use Rattle.operation.specs.declared.Fate.the-variants.{Continues, Quits, Creates}
@@ -39,13 +44,13 @@ use Rattle.operation.specs.declared.Effects.{Effects}
 use Rattle.operation.specs.declared.Decision.{Decision}
 use Rattle.operation.specs.declared.Decision.the-variants.{Waits, Traps, Executes}
 use Rattle.operation.specs.Codes.{codeOf}
-use Rattle.operation.specs.Roles.{svcRoles, illegalFields, illegalInstruction, bOf, sacOf}
+use Rattle.operation.specs.Roles.{rolesOf, svcRoles, illegalFields, illegalInstruction, bOf, sacOf}
 use Rattle.operation.specs.Environment.{Environment}
-use Rattle.operation.specs.Perform.{leftOf, executed, resultIn, plain, stepping, testOf, branched, called, created, createWaits, createFate}
-use Rattle.operation.specs.Perform.{indirectOf, indexedOf, loadWaits, loadLeaves, loadWord, storeWaits, storeWord, dataAt}
+use Rattle.operation.specs.Perform.{leftOf, executed, resultIn, quality0, performResult, testOf, branched, called, created, createWaits, createFate}
+use Rattle.operation.specs.Perform.{indirectAddress, indexedAddress, loadWaits, loadLeaves, loadWord, storeWaits, storeWord, wordPlace, loadFrom, storeTo}
 use Rattle.operation.specs.Perform.{performBranch, performCall, performCreate, performQuit, performLoad, performStore, perform}
-use Rattle.operation.specs.Decide.{siteOf, sitesWait, sitesMasked, decideFound, foundThird, foundSecond, foundFirst}
-use Rattle.operation.specs.Decide.{decideOperands, decideCode, decideFetched, decide}
+use Rattle.operation.specs.Decide.{foundOperand, operandsWait, operandsMasked, decideFound, foundOperands, decideLookups}
+use Rattle.operation.specs.Decide.{decideOperands, decideListed, decideCode, decideFetched, decide}
 
 -- what a task sees is sound
 pub record SoundEnvironment (v : Environment) : Type 0 where
@@ -78,21 +83,21 @@ SoundDecision flag (Traps k p) = pswSound p ≡ true
 SoundDecision flag (Executes e) = SoundEffects flag e
 
 -- a looked up field whose cell is sound
-pub record SoundSite (s : Site) : Type 0 where
+pub record SoundOperand (s : FoundOperand) : Type 0 where
   pub tag : tagSound (s .cell .tag) ≡ true
   pub word : wordSound (s .cell .word) ≡ true
 
-pub record SoundSites (s : Sites) : Type 0 where
-  pub first : SoundSite (s .first)
-  pub second : SoundSite (s .second)
-  pub third : SoundSite (s .third)
+pub record SoundOperands (s : FoundOperands) : Type 0 where
+  pub first : SoundOperand (s .first)
+  pub second : SoundOperand (s .second)
+  pub third : SoundOperand (s .third)
 
 pub record SoundOutcome (r : Outcome) : Type 0 where
   pub word : wordSound (r .word) ≡ true
   pub quality : r .quality ≤ 6
 
-plain-sound : (w : ℕ) → wordSound w ≡ true → SoundOutcome (plain w)
-plain-sound w h = record { word = h; quality = omega arith }
+quality0-sound : (w : ℕ) → wordSound w ≡ true → SoundOutcome (quality0 w)
+quality0-sound w h = record { word = h; quality = omega arith }
 
 -- what holds of both arms of a test
 either : {A : Type 0} (P : A → Type 0) (b : Bool) {x y : A} → P x → P y → P (cond b x y)
@@ -124,11 +129,11 @@ destination-sound ac (Register a) w q h k = (tag-sound ac q k, h)
 destination-sound ac (Constant a) w q h k = tt
 destination-sound ac Absent w q h k = tt
 
-result-sound : (s : Site) (r : Outcome) → SoundOutcome r → SoundWrite tagSound (resultIn s r)
+result-sound : (s : FoundOperand) (r : Outcome) → SoundOutcome r → SoundWrite tagSound (resultIn s r)
 unfolding resultIn
 result-sound s r h = destination-sound (s .access) (s .operand) (r .word) (r .quality) (h .word) (h .quality)
 
-left-sound : (s : Site) → SoundSite s → SoundWrite tagSound (leftOf s)
+left-sound : (s : FoundOperand) → SoundOperand s → SoundWrite tagSound (leftOf s)
 unfolding leftOf
 left-sound s h = source-sound (s .role) (s .access) (s .operand) (s .cell) (h .tag) (h .word)
 
@@ -137,7 +142,7 @@ module _ (v : Environment) (h : SoundEnvironment v) where
   next-word : wordSound (nextOf (v .psw)) ≡ true
   next-word = word-sound _ (psw-word _ (next-sound (v .psw)))
 
-  module _ (s : Sites) (k : SoundSites s) where
+  module _ (s : FoundOperands) (k : SoundOperands s) where
     executed-sound : (destination datum : Write) (fate : Fate) → SoundWrite tagSound destination → SoundWrite stateSound datum → SoundFate (v .flag) fate
         → SoundDecision (v .flag) (executed s destination datum fate)
     unfolding executed
@@ -150,9 +155,9 @@ module _ (v : Environment) (h : SoundEnvironment v) where
       fate = r;
     }
 
-    stepping-sound : (r : Outcome) → SoundOutcome r → SoundDecision (v .flag) (stepping v s r)
-    unfolding stepping
-    stepping-sound r o = executed-sound _ _ _ (result-sound (s .first) r o) tt (next-sound (v .psw))
+    perform-result-sound : (r : Outcome) → SoundOutcome r → SoundDecision (v .flag) (performResult v s r)
+    unfolding performResult
+    perform-result-sound r o = executed-sound _ _ _ (result-sound (s .first) r o) tt (next-sound (v .psw))
 
     branch-sound : (c p : ℕ) → SoundDecision (v .flag) (performBranch v s c p)
     unfolding performBranch branched
@@ -162,7 +167,7 @@ module _ (v : Environment) (h : SoundEnvironment v) where
     call-sound : (c : ℕ) → SoundDecision (v .flag) (performCall v s c)
     unfolding performCall called
     call-sound c =
-        executed-sound _ _ _ (result-sound (s .first) _ (plain-sound _ next-word)) tt
+        executed-sound _ _ _ (result-sound (s .first) _ (quality0-sound _ next-word)) tt
         (either (λ (x : ℕ). pswSound x ≡ true) (testOf v s c) (psw-sound _ _ _ _) (next-sound (v .psw)))
 
     -- a process is created with the flag down
@@ -180,87 +185,80 @@ module _ (v : Environment) (h : SoundEnvironment v) where
     unfolding performQuit
     quit-sound c = executed-sound _ _ _ tt tt (either (SoundFate (v .flag)) (testOf v s c) tt (next-sound (v .psw)))
 
-    load-sound : (low a : ℕ) → SoundDecision (v .flag) (loadWord v s low a)
+    load-sound : (low a : ℕ) → SoundDecision (v .flag) (loadWord (v .psw) s low a (v .datum a))
     unfolding loadWord loadLeaves stateSound
     load-sound low a =
         let w : wordSound (v .datum a .word) ≡ true = h .dataWords a in
         either (SoundDecision (v .flag)) (loadWaits low (v .datum a .tag)) tt
-        (executed-sound _ _ _ (result-sound (s .first) _ (plain-sound _ w))
+        (executed-sound _ _ _ (result-sound (s .first) _ (quality0-sound _ w))
         (either (SoundWrite stateSound) (eqb (sacOf low) 2) (refl, w) tt) (next-sound (v .psw)))
 
-    store-sound : (low word a : ℕ) → wordSound word ≡ true → SoundDecision (v .flag) (storeWord v s low word a)
+    store-sound : (low word a : ℕ) → wordSound word ≡ true → SoundDecision (v .flag) (storeWord (v .psw) s low word a (v .datum a))
     unfolding storeWord stateSound
     store-sound low word a w =
         either (SoundDecision (v .flag)) (storeWaits low (v .datum a .tag)) tt (executed-sound _ _ _ tt (refl, w) (next-sound (v .psw)))
 
-    data-sound : (low e : ℕ) (access : ℕ → Decision) (p : Place) → ((a : ℕ) → SoundDecision (v .flag) (access a))
-        → SoundDecision (v .flag) (dataAt v low e access p)
-    unfolding dataAt
-    data-sound low e access (At a) f = either (SoundDecision (v .flag)) (eqb (bOf low) 1 || not (eqb (e % 8) 0)) (h .psw) (f (a / 8))
-    data-sound low e access Violation f = h .psw
+    place-sound : (P : Reach → Type 0) (low e : ℕ) (p : Place) → ((a : ℕ) → P (Reaches a)) → ((k : Trap) → P (Stops k)) → P (wordPlace low e p)
+    unfolding wordPlace
+    place-sound P low e (At a) f g = either P (eqb (bOf low) 1 || not (eqb (e % 8) 0)) (g trap.SimulatedInstruction) (f (a / 8))
+    place-sound P low e Violation f g = g trap.ProtectionViolation
 
     perform-load : (low e : ℕ) → SoundDecision (v .flag) (performLoad v s low e)
-    unfolding performLoad
-    perform-load low e = data-sound low e (loadWord v s low) (bytePlace (v .row) e) (load-sound low)
+    unfolding performLoad loadFrom
+    perform-load low e = place-sound (λ r. SoundDecision (v .flag) (loadFrom v s low r)) low e (bytePlace (v .row) e) (load-sound low) (λ k. h .psw)
 
     perform-store : (low word e : ℕ) → wordSound word ≡ true → SoundDecision (v .flag) (performStore v s low word e)
-    unfolding performStore
-    perform-store low word e w = data-sound low e (storeWord v s low word) (bytePlace (v .row) e) (λ a. store-sound low word a w)
+    unfolding performStore storeTo
+    perform-store low word e w =
+        place-sound (λ r. SoundDecision (v .flag) (storeTo v s low word r)) low e (bytePlace (v .row) e) (λ a. store-sound low word a w) (λ k. h .psw)
 
     perform-sound : (op : Operation) (i : Instruction) → SoundDecision (v .flag) (perform op v i s)
     unfolding perform
     perform-sound operation.Nop i = executed-sound _ _ _ tt tt (next-sound (v .psw))
-    perform-sound (operation.Vector op) i = stepping-sound _ (plain-sound _ (word-sound _ (vector-word op _ _)))
-    perform-sound (operation.Bit op) i = stepping-sound _ (plain-sound _ (word-sound _ (bit-word op _ _ (sound-word _ (k .second .word)))))
-    perform-sound (operation.Integer op) i = stepping-sound _ (record { word = word-sound _ (integer-word op _ _); quality = integer-quality op _ _ })
+    perform-sound (operation.Vector op) i = perform-result-sound _ (quality0-sound _ (word-sound _ (vector-word op _ _)))
+    perform-sound (operation.Bit op) i = perform-result-sound _ (quality0-sound _ (word-sound _ (bit-word op _ _ (sound-word _ (k .second .word)))))
+    perform-sound (operation.Integer op) i = perform-result-sound _ (record { word = word-sound _ (integer-word op _ _); quality = integer-quality op _ _ })
     perform-sound (operation.Branch c p) i = branch-sound c (p * 2 ^ 16 + i .first)
     perform-sound (operation.Call c) i = call-sound c
     perform-sound (operation.Create c act) i = create-sound c act
     perform-sound (operation.Quit c) i = quit-sound c
-    perform-sound (operation.LoadIndirect low) i = perform-load low (indirectOf s)
-    perform-sound (operation.LoadIndexed low) i = perform-load low (indexedOf s)
-    perform-sound (operation.StoreIndirect low) i = perform-store low (s .third .cell .word) (indirectOf s) (k .third .word)
-    perform-sound (operation.StoreIndexed low) i = perform-store low (s .first .cell .word) (indexedOf s) (k .first .word)
+    perform-sound (operation.LoadIndirect low) i = perform-load low (indirectAddress s)
+    perform-sound (operation.LoadIndexed low) i = perform-load low (indexedAddress s)
+    perform-sound (operation.StoreIndirect low) i = perform-store low (s .third .cell .word) (indirectAddress s) (k .third .word)
+    perform-sound (operation.StoreIndexed low) i = perform-store low (s .first .cell .word) (indexedAddress s) (k .first .word)
 
     found-sound : (op : Operation) (i : Instruction) → SoundDecision (v .flag) (decideFound op v i s)
     unfolding decideFound
     found-sound op i =
-        either (SoundDecision (v .flag)) (sitesWait s) tt (either (SoundDecision (v .flag)) (sitesMasked (v .psw) s) (h .psw) (perform-sound op i))
+        either (SoundDecision (v .flag)) (operandsWait s) tt (either (SoundDecision (v .flag)) (operandsMasked (v .psw) s) (h .psw) (perform-sound op i))
 
-  site-sound : (role : Role) (f : ℕ) (o : Operand) → SoundSite (siteOf v role f o)
-  unfolding siteOf
-  site-sound role f o = record { tag = h .tags o; word = h .words o }
+  operand-sound : (role : Role) (f : ℕ) (o : Operand) → SoundOperand (foundOperand v role f o)
+  unfolding foundOperand
+  operand-sound role f o = record { tag = h .tags o; word = h .words o }
 
-  third-sound : (op : Operation) (i : Instruction) (a b : Operand) (l : Lookup) → SoundDecision (v .flag) (foundThird op v i a b l)
-  unfolding foundThird
-  third-sound op i a b (Found c) = found-sound _ (record { first = site-sound _ _ a; second = site-sound _ _ b; third = site-sound _ _ c }) op i
-  third-sound op i a b lookup.Violation = h .psw
+  lookups-sound : (r : Roles) (op : Operation) (i : Instruction) (l m n : Lookup) → SoundDecision (v .flag) (decideLookups r op v i l m n)
+  unfolding decideLookups foundOperands
+  lookups-sound r op i (Found a) (Found b) (Found c) =
+      found-sound _ (record { first = operand-sound _ _ a; second = operand-sound _ _ b; third = operand-sound _ _ c }) op i
+  lookups-sound r op i (Found a) (Found b) lookup.Violation = h .psw
+  lookups-sound r op i (Found a) lookup.Violation n = h .psw
+  lookups-sound r op i lookup.Violation m n = h .psw
 
-  second-sound : (op : Operation) (i : Instruction) (a : Operand) (l m : Lookup) → SoundDecision (v .flag) (foundSecond op v i a l m)
-  unfolding foundSecond
-  second-sound op i a (Found b) m = third-sound op i a b m
-  second-sound op i a lookup.Violation m = h .psw
-
-  first-sound : (op : Operation) (i : Instruction) (l m n : Lookup) → SoundDecision (v .flag) (foundFirst op v i l m n)
-  unfolding foundFirst
-  first-sound op i (Found a) m n = second-sound op i a m n
-  first-sound op i lookup.Violation m n = h .psw
-
-  operands-sound : (op : Operation) (i : Instruction) → SoundDecision (v .flag) (decideOperands op v i)
+  operands-sound : (r : Roles) (op : Operation) (i : Instruction) → SoundDecision (v .flag) (decideOperands r op v i)
   unfolding decideOperands
-  operands-sound op i = first-sound op i _ _ _
+  operands-sound r op i = lookups-sound r op i _ _ _
 
   code-sound : (c : Code) (i : Instruction) → SoundDecision (v .flag) (decideCode c v i)
-  unfolding decideCode
+  unfolding decideCode decideListed
   code-sound Privileged i = h .psw
   code-sound Simulated i = h .psw
-  code-sound Illegal i = h .psw
+  code-sound Unlisted i = h .psw
   code-sound Svc i = either (SoundDecision (v .flag)) (illegalFields svcRoles i) (h .psw) (next-sound (v .psw))
-  code-sound (Listed op) i = either (SoundDecision (v .flag)) (illegalInstruction op i) (h .psw) (operands-sound op i)
+  code-sound (Listed op) i = either (SoundDecision (v .flag)) (illegalInstruction (rolesOf op) op i) (h .psw) (operands-sound (rolesOf op) op i)
 
   fetched-sound : (p : Place) → SoundDecision (v .flag) (decideFetched v p)
   unfolding decideFetched
-  fetched-sound (At a) = code-sound (codeOf (instructionOf (v .code a) .code)) (instructionOf (v .code a))
+  fetched-sound (At a) = code-sound (codeOf (instructionOf (v .programWord a) .code)) (instructionOf (v .programWord a))
   fetched-sound Violation = h .psw
 
 pub decide-sound : (v : Environment) → SoundEnvironment v → SoundDecision (v .flag) (decide v)

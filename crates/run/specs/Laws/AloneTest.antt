@@ -10,14 +10,14 @@ use borrow.Author.Tests.{eqb-true, not-true}
 use Rattle.word.specs.Laws.Bools.{and-left, and-right}
 use Rattle.word.specs.Laws.Conjunctions.{both}
 use Rattle.window.specs.declared.Row.{Row}
-use Rattle.window.specs.Windows.{meets, registerWindow, dataWindow}
+use Rattle.window.specs.Windows.{meets, registerWindow, dataWordWindow}
 use Rattle.step.specs.State.{State, findRow}
 use Rattle.step.specs.Laws.Rows.{here, there, found, none-some, find-task}
 use Rattle.run.specs.Compared.{Alone}
 
 -- the windows of two rows do not meet
 unfoldable pub unmet : Row → Row → Bool
-unmet r x = not (meets (registerWindow r) (registerWindow x)) && not (meets (dataWindow r) (dataWindow x))
+unmet r x = not (meets (registerWindow r) (registerWindow x)) && not (meets (dataWordWindow r) (dataWordWindow x))
 
 unfoldable pub aloneFrom : Row → List Row → Bool
 aloneFrom r [] = true
@@ -48,11 +48,11 @@ pub alone-of : (t : ℕ) (s : State) → alone t s ≡ true → Alone t s
 unfolding alone aloneIn unmet
 alone-of t s a u n = record {
   registers = λ r x e f. not-true (meets (registerWindow r) (registerWindow x)) (parts r x e f .0);
-  dataWords = λ r x e f. not-true (meets (dataWindow r) (dataWindow x)) (parts r x e f .1);
+  dataWords = λ r x e f. not-true (meets (dataWordWindow r) (dataWordWindow x)) (parts r x e f .1);
 }
   where
     parts : (r x : Row) → findRow t (s .rows) ≡ some r → findRow u (s .rows) ≡ some x
-        → (not (meets (registerWindow r) (registerWindow x)) ≡ true) × (not (meets (dataWindow r) (dataWindow x)) ≡ true)
+        → (not (meets (registerWindow r) (registerWindow x)) ≡ true) × (not (meets (dataWordWindow r) (dataWordWindow x)) ≡ true)
     parts r x e f =
         both (λ k. k) (λ k. k)
         (unmet-found r (s .rows) u x (sym (ap (λ (o : Option Row). aloneIn o (s .rows)) e) ∙ a) f (λ k. n (k ∙ find-task t (s .rows) r e)))

@@ -9,13 +9,13 @@ use lib.Dec.{eqb}
 use Rattle.word.specs.Laws.Bools.{Eq?, same, differ, eq?}
 use Rattle.window.specs.declared.Row.{Row}
 use Rattle.window.specs.declared.Window.{Window}
-use Rattle.window.specs.Windows.{inside, registerWindow, programWindow, dataWindow}
+use Rattle.window.specs.Windows.{inside, registerWindow, programWindow, dataWordWindow}
 use Rattle.window.specs.Memories.{Memory, cellIn, constantAt}
 use Rattle.window.specs.Laws.Memories.{seen-same}
 use Rattle.operand.specs.declared.Operand.{Operand}
 use Rattle.operand.specs.declared.Operand.the-variants.{Register, Constant, Absent}
 use Rattle.operand.specs.Access.{visibleCell}
-use Rattle.operation.specs.Environment.{Environment}
+use Rattle.operation.specs.Environment.{Environment, environmentOf}
 use Rattle.operation.specs.declared.Decision.{Decision}
 use Rattle.step.specs.State.{State, environment}
 use Rattle.step.specs.Step.{noTrap, headDecides, rowDecides, stepBy}
@@ -89,18 +89,18 @@ module _ (decide : Environment → Decision) where
   -- a step of a task of A, in two states that agree on A
   module _ (A : ℕ → Bool) (s s′ : State) (g : Agree A s s′) (flags : s .table .flag ≡ s′ .table .flag) (t : ℕ) (m : A t ≡ true) where
     environment-same : (r : Row) → fixedAt t s ≡ some (fixed r) → (p : ℕ) → environment s r p ≡ environment s′ r p
-    unfolding environment cellIn programWindow registerWindow dataWindow
+    unfolding environment environmentOf cellIn programWindow registerWindow dataWordWindow
     environment-same r e p = λ i. record {
       row = r;
       psw = p;
       flag = flags i;
-      code = λ a. seen-same (programWindow r) (s .program) (s′ .program) (g .code t m (fixed r) e) a i;
+      programWord = λ a. seen-same (programWindow r) (s .program) (s′ .program) (g .code t m (fixed r) e) a i;
       cell = λ o.
           visible-same (registerWindow r) (s .registers) (s′ .registers) (s .constants) (s′ .constants)
           (g .cells registerTags t m (fixed r) e) (g .cells registerWords t m (fixed r) e) (g .constants) o i;
       datum = λ a. record {
-        tag = seen-same (dataWindow r) (s .dataWords .tags) (s′ .dataWords .tags) (g .cells dataTags t m (fixed r) e) a i;
-        word = seen-same (dataWindow r) (s .dataWords .words) (s′ .dataWords .words) (g .cells dataValues t m (fixed r) e) a i;
+        tag = seen-same (dataWordWindow r) (s .dataWords .tags) (s′ .dataWords .tags) (g .cells dataTags t m (fixed r) e) a i;
+        word = seen-same (dataWordWindow r) (s .dataWords .words) (s′ .dataWords .words) (g .cells dataValues t m (fixed r) e) a i;
       };
     }
 

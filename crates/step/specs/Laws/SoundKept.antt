@@ -8,7 +8,7 @@ use mathlib.Core.List.{List, [], _∷_}
 use lib.Dec.{eqb}
 use Rattle.word.specs.Fields.{pswSound}
 use Rattle.window.specs.declared.Row.{Row}
-use Rattle.window.specs.Windows.{registerWindow, dataWindow}
+use Rattle.window.specs.Windows.{registerWindow, dataWordWindow}
 use Rattle.window.specs.Memories.{cellIn, constantAt, written}
 use Rattle.window.specs.Laws.Memories.{length-storedAll}
 use Rattle.window.specs.Sound.{bits, wordSound, tagSound, stateSound}
@@ -18,14 +18,15 @@ use Rattle.operation.specs.declared.Decision.{Decision}
 use Rattle.operation.specs.declared.Decision.the-variants.{Waits, Traps, Executes}
 use Rattle.operation.specs.Decide.{decide}
 use Rattle.operation.specs.Laws.SoundDecisions.{SoundEnvironment, SoundDecision, decide-sound}
+use Rattle.operation.specs.Environment.{environmentOf}
 use Rattle.step.specs.State.{taskQueue, State, findRow, processesOf, environment}
 use Rattle.step.specs.Act.{changeOf, registerWrites, dataWrites, act}
 use Rattle.step.specs.Step.{noTrap, headDecides, rowDecides, step}
-use Rattle.step.specs.Soundness.{every, listed, sound}
+use Rattle.step.specs.Soundness.{every, hasRow, sound}
 use Rattle.step.specs.Laws.Rows.{put-row, find-task, some-inj, none-some}
 use Rattle.step.specs.Laws.Step.{idles, acts, steps, decided}
-use Rattle.step.specs.Laws.Sound.{SoundMemories, Sound, sound-parts, sound-whole, found-listed, listed-range}
-use Rattle.step.specs.Laws.RowsKept.{rows-put, listed-put, windows-put}
+use Rattle.step.specs.Laws.Sound.{SoundMemories, Sound, sound-parts, sound-whole, found-hasRow, hasRow-range}
+use Rattle.step.specs.Laws.RowsKept.{rows-put, hasRow-put, windows-put}
 use Rattle.step.specs.Laws.MemoriesKept.{words-parts, memory-parts, every-seen, SoundWrites, done, more, written-sound}
 use Rattle.step.specs.Laws.TableKept.{table-rows, Ready, own-sound, change-sound}
 use Rattle.step.specs.Laws.Every.{every-parts, every-getD}
@@ -41,7 +42,7 @@ unfolding wordSound bits
 zero-word = refl
 
 environment-sound : (s : State) (r : Row) (psw : ℕ) → SoundMemories s → pswSound psw ≡ true → SoundEnvironment (environment s r psw)
-unfolding environment visibleCell cellIn constantAt
+unfolding environment environmentOf visibleCell cellIn constantAt
 environment-sound s r psw m h =
     let registers = memory-parts 2048 tagSound (s .registers) (m .registers) in
     let dataWords = memory-parts (2 ^ 20) stateSound (s .dataWords) (m .dataWords) in
@@ -57,13 +58,13 @@ environment-sound s r psw m h =
         | Constant a ↦ every-getD wordSound (s .constants) a zero-word (words-parts 4096 (s .constants) (m .constants) .1)
         | Absent ↦ zero-word
       ];
-      dataWords = λ a. every-seen wordSound (dataWindow r) (s .dataWords .words) a zero-word (dataWords .words);
+      dataWords = λ a. every-seen wordSound (dataWordWindow r) (s .dataWords .words) a zero-word (dataWords .words);
     }
 
 -- what a task with sound PSWs decides
 decided-sound : (s : State) (r : Row) (psws : List ℕ) (d : Decision) → SoundMemories s → every pswSound psws ≡ true → rowDecides decide s r psws ≡ some d
     → SoundDecision (s .table .flag) d
-unfolding rowDecides headDecides environment
+unfolding rowDecides headDecides environment environmentOf
 decided-sound s r psws d m h e = go (eqb (r .kind) noTrap) psws h e
   where
     go : (b : Bool) (psws : List ℕ) → every pswSound psws ≡ true → cond b (headDecides decide s r psws) none ≡ some d → SoundDecision (s .table .flag) d
@@ -95,8 +96,8 @@ module _ (s : State) (t : ℕ) (r : Row) (before : Sound s) (at : findRow t (s .
 
   ready : Ready (s .rows) (s .table) t
   ready =
-      let lists : listed t (s .rows) ≡ true = found-listed t (s .rows) r at in
-      let range = listed-range 0 t (s .rows) (before .rows) lists in
+      let lists : hasRow t (s .rows) ≡ true = found-hasRow t (s .rows) r at in
+      let range = hasRow-range 0 t (s .rows) (before .rows) lists in
       record { sound = before .table; low = range .0; high = range .1; lists = lists; nonempty = nonempty }
 
   pub act-sound : (d : Decision) → SoundDecision (s .table .flag) d → Sound (act s r d .state)
@@ -106,7 +107,7 @@ module _ (s : State) (t : ℕ) (r : Row) (before : Sound s) (at : findRow t (s .
       let put = put-row (r .task) (s .rows) r (changeOf (s .table) r d .row) (ap (λ (n : ℕ). findRow n (s .rows)) task-t ∙ at) in
       record {
         rows = rows-put r _ (c .row) put 0 (before .rows);
-        table = table-rows (s .rows) _ _ (listed-put r _ (c .row) put) (c .table);
+        table = table-rows (s .rows) _ _ (hasRow-put r _ (c .row) put) (c .table);
         memories = record {
           constants = before .memories .constants;
           registers =
@@ -114,7 +115,7 @@ module _ (s : State) (t : ℕ) (r : Row) (before : Sound s) (at : findRow t (s .
               (register-writes (s .table .flag) d h) (before .memories .registers);
           program = before .memories .program;
           dataWords =
-              written-sound (2 ^ 20) stateSound (dataWindow r) (dataWrites d) (s .dataWords)
+              written-sound (2 ^ 20) stateSound (dataWordWindow r) (dataWrites d) (s .dataWords)
               (data-writes (s .table .flag) d h) (before .memories .dataWords);
         };
         windows = windows-put r _ (c .row) put _ _ _ ∙ simp length-storedAll (before .windows);

@@ -1,0 +1,31 @@
+-- The numbers of the refusals, in the order of document 01's table.
+use Prim.Native.Nat.{ℕ}
+use Rattle.refusal.specs.declared.Refusal.{Refusal}
+use Rattle.refusal.specs.declared.Refusal.the-variants.{InputEnds, CountOverLimit, TaskField, ProcessField, CellField, BytesLeftOver}
+use Rattle.refusal.specs.declared.Refusal.the-variants.{WindowPastMemory, ProcessesClash, ShortBuffer, UnsoundState, ListTooLong, ItemOutOfRange, InputTooLong}
+
+unfoldable pub numberOf : Refusal → ℕ
+-- program input over 65,536 bytes
+numberOf InputTooLong = 11
+-- input ends before the schedule or the last section is whole
+numberOf InputEnds = 1
+-- count over its limit
+numberOf CountOverLimit = 2
+-- field out of range: of a task, of a process, a tag or state
+numberOf TaskField = 3
+numberOf ProcessField = 3
+numberOf CellField = 3
+-- bytes left over
+numberOf BytesLeftOver = 4
+-- a window that isn't empty ends past its memory
+numberOf WindowPastMemory = 5
+-- a PT twice, or 64 processes with flag 0
+numberOf ProcessesClash = 6
+-- a buffer to be filled is too short
+numberOf ShortBuffer = 7
+-- no image reads as this state
+numberOf UnsoundState = 8
+-- a list of over 65,535 items
+numberOf ListTooLong = 9
+-- an item not 1 to 7
+numberOf ItemOutOfRange = 10
