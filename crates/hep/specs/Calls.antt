@@ -1,49 +1,95 @@
--- The calls of the library: what each refuses, and in which order. The first that applies is returned, with nothing else.
+-- The calls of the library: what each answers, and what it leaves in the lent buffers. The first refusal that applies is returned, with
+-- nothing else, and every lent byte stays.
 use Prim.Native.Nat.{ℕ}
-use mathlib.Core.Bool.{Bool, cond, not, _&&_}
+use mathlib.Core.Bool.{Bool, cond, not, _||_}
 use mathlib.Core.Option.{Option, none, some}
 use mathlib.Core.List.{List}
-use lib.Dec.{leb, ltb}
+use lib.Dec.{ltb}
 use lib.ListN.{length}
+use Rattle.refusal.specs.declared.Refusal.{Refusal}
+use Rattle.refusal.specs.declared.Refusal.the-variants.{ShortBuffer, UnsoundState}
 use Rattle.step.specs.State.{State}
 use Rattle.step.specs.Soundness.{sound}
-use Rattle.refusal.specs.declared.Refusal.{Refusal}
-use Rattle.refusal.specs.declared.Refusal.the-variants as refusal
+use Rattle.run.specs.declared.Counts.{Counts}
 use Rattle.run.specs.Schedule.{scheduleRefusal}
-use Rattle.image.specs.Image.{Image, Decoded, bad, good, decode, encode}
+use Rattle.run.specs.Run.{run}
+use Rattle.image.specs.Image.{Image, stateOf, Decoded, bad, good, decode, encode}
+use Rattle.hep.specs.declared.Sizes.{Sizes}
+use Rattle.hep.specs.Buffers.{Buffers, Room, roomOf, fits, sizesOf, fieldsIn, over, holding}
 
--- the lengths of the buffers that reading fills; registers and data words have one for tags and one for words
-pub record Room : Type 0 where
-  pub rows : ℕ
-  pub constants : ℕ
-  pub registerTags : ℕ
-  pub registerWords : ℕ
-  pub program : ℕ
-  pub dataTags : ℕ
-  pub dataWords : ℕ
+-- what a call answers: a refusal, or a value
+pub data Answer (A : Type 0) : Type 0 where
+  refuses : Refusal → Answer A
+  answers : A → Answer A
 
--- no buffer is too short
-unfoldable pub fits : Room → Image → Bool
-fits room i =
-    leb (length (i .rows)) (room .rows)
-    && (leb (length (i .constants)) (room .constants)
-    && (leb (length (i .registers)) (room .registerTags)
-    && (leb (length (i .registers)) (room .registerWords)
-    && (leb (length (i .program)) (room .program)
-    && (leb (length (i .dataWords)) (room .dataTags) && leb (length (i .dataWords)) (room .dataWords))))))
+-- a refusal, or else a value
+unfoldable pub unless : {A : Type 0} → Option Refusal → A → Answer A
+unless (some e) a = refuses e
+unless none a = answers a
 
-unfoldable pub roomRefusal : Room → Decoded → Option Refusal
-roomRefusal room (bad e) = some e
-roomRefusal room (good i) = cond (not (fits room i)) (some refusal.ShortBuffer) none
+-- what a call leaves: on a refusal all stays
+unfoldable pub leaving : {A B : Type 0} → Answer A → (before after : B) → B
+leaving (refuses e) before after = before
+leaving (answers a) before after = after
 
--- reading refuses by 1 to 6, then by 7
-unfoldable pub readRefusal : Room → List ℕ → Option Refusal
-readRefusal room bytes = roomRefusal room (decode bytes)
+-- ---- reading: 1 to 6, then 7. Its answer is the counts of the fields
 
--- a run refuses by 8, then 9, then 10
-unfoldable pub runRefusal : State → (schedule : List ℕ) → Option Refusal
-runRefusal s schedule = cond (not (sound s)) (some refusal.UnsoundState) (scheduleRefusal schedule)
+unfoldable pub decodedRefusal : Room → Decoded → Option Refusal
+decodedRefusal room (bad e) = some e
+decodedRefusal room (good i) = cond (not (fits (sizesOf (stateOf i)) room)) (some ShortBuffer) none
 
--- writing into a buffer of `room` bytes refuses by 8, then 7
-unfoldable pub writeRefusal : State → (room : ℕ) → Option Refusal
-writeRefusal s room = cond (not (sound s)) (some refusal.UnsoundState) (cond (ltb room (length (encode s))) (some refusal.ShortBuffer) none)
+unfoldable pub readRefusal : Room → (bytes : List ℕ) → Option Refusal
+readRefusal room bytes = decodedRefusal room (decode bytes)
+
+unfoldable pub decodedAnswer : Room → Decoded → Answer Sizes
+decodedAnswer room (bad e) = refuses e
+decodedAnswer room (good i) = unless (decodedRefusal room (good i)) (sizesOf (stateOf i))
+
+unfoldable pub readAnswer : Room → (bytes : List ℕ) → Answer Sizes
+readAnswer room bytes = decodedAnswer room (decode bytes)
+
+unfoldable pub decodedLeaves : Buffers → Decoded → Buffers
+decodedLeaves b (bad e) = b
+decodedLeaves b (good i) = leaving (decodedAnswer (roomOf b) (good i)) b (holding (stateOf i) b)
+
+unfoldable pub readLeaves : Buffers → (bytes : List ℕ) → Buffers
+readLeaves b bytes = decodedLeaves b (decode bytes)
+
+-- ---- a state in buffers
+
+-- 8: a state buffer shorter than its count, before all else; then no image reads as this state
+unfoldable pub stateRefusal : Sizes → Buffers → Option Refusal
+stateRefusal n b =
+    cond (not (fits n (roomOf b))) (some UnsoundState)
+    (cond (not (sound (fieldsIn n b))) (some UnsoundState)
+    none)
+
+-- the first of two refusals
+unfoldable pub orElse : Option Refusal → Option Refusal → Option Refusal
+orElse (some e) f = some e
+orElse none f = f
+
+-- ---- a run: 8, then 9, then 10. Its answer is the counts of the endings
+
+unfoldable pub runRefusal : Sizes → Buffers → (schedule : List ℕ) → Option Refusal
+runRefusal n b schedule = orElse (stateRefusal n b) (scheduleRefusal schedule)
+
+unfoldable pub runAnswer : Sizes → Buffers → (schedule : List ℕ) → Answer Counts
+runAnswer n b schedule = unless (runRefusal n b schedule) (run schedule (fieldsIn n b) .counts)
+
+unfoldable pub runLeaves : Sizes → Buffers → (schedule : List ℕ) → Buffers
+runLeaves n b schedule = leaving (runAnswer n b schedule) b (holding (run schedule (fieldsIn n b) .state) b)
+
+-- ---- writing into a buffer of bytes: 8, then 7. Its answer is the length of the image
+
+unfoldable pub outputRefusal : (room : ℕ) → (image : List ℕ) → Option Refusal
+outputRefusal room image = cond (ltb room (length image)) (some ShortBuffer) none
+
+unfoldable pub writeRefusal : Sizes → Buffers → (room : ℕ) → Option Refusal
+writeRefusal n b room = orElse (stateRefusal n b) (outputRefusal room (encode (fieldsIn n b)))
+
+unfoldable pub writeAnswer : Sizes → Buffers → (room : ℕ) → Answer ℕ
+writeAnswer n b room = unless (writeRefusal n b room) (length (encode (fieldsIn n b)))
+
+unfoldable pub writeLeaves : Sizes → Buffers → (output : List ℕ) → List ℕ
+writeLeaves n b output = leaving (writeAnswer n b (length output)) output (over (encode (fieldsIn n b)) output)

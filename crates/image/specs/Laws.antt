@@ -5,3 +5,4 @@ pub mod Passed
 pub mod Weights
 pub mod Table
 pub mod DecodeSound
+pub mod Opened

@@ -1,129 +1,120 @@
 -- Demand 3 at work: task 1 beside two different neighbours, from image bytes on. In image A it is task 2, which fills its registers; in
 -- image B it is task 3, which creates a process, lets one leave and traps. Task 1 counts a register up, doubles it and creates.
-use mathlib.Core.Path.{_≡_, refl, sym, _∙_, subst}
-use mathlib.Core.Bool.{Bool, true}
-use mathlib.Core.Option.{some}
-use mathlib.Core.List.{List, [], _∷_}
+use mathlib.Core.Path.{_≡_, refl}
+use mathlib.Core.List.{List, [], _∷_, _++_}
 use Prim.Native.Nat.{ℕ, _-_, _^_}
-use lib.ListN.{getD}
-use lib.Dec.{ltb}
-use borrow.Author.Tests.{ltb-true}
-use Rattle.word.specs.Laws.Bools.{and-left, and-right}
-use Rattle.step.specs.Soundness.{every}
+use lib.ListN.{getD, replicate}
 use Rattle.window.specs.declared.Row.{Row}
-use Rattle.window.specs.Windows.{registerWindow, programWindow, dataWordWindow}
-use Rattle.step.specs.State.{State, findRow}
-use Rattle.step.specs.Owned.{own}
-use Rattle.step.specs.Laws.Rows.{some-inj}
+use Rattle.window.specs.declared.Cell.{Cell}
+use Rattle.window.specs.Memories.{cell}
+use Rattle.window.specs.Windows.{registerWindow}
+use Rattle.operation.specs.Exclusions.{instructionWord}
+use Rattle.step.specs.State.{State}
 use Rattle.run.specs.Run.{run}
-use Rattle.run.specs.Compared.{Compared, SameProgram, cut, memoryIn}
+use Rattle.run.specs.Compared.{Compared, cut}
 use Rattle.run.specs.Laws.AloneTest.{alone-of}
-use Rattle.image.specs.Codec.{Bytes}
-use Rattle.image.specs.Image.{Image, stateOf, Decoded, bad, good, decode}
+use Rattle.image.specs.declared.Process.{Process}
+use Rattle.image.specs.Image.{Image, imageCodec, stateOf}
 use Rattle.image.specs.Demand3.{WholeRun, Agreed, demand-3}
 use Rattle.report.specs.Laws.Opened.{opened}
+use Rattle.report.specs.Laws.Agreeing.{compared-at, program-at, bytes-of}
 
-unfoldable pub bytesA : List ℕ
-bytesA =
-    2 ∷ 1 ∷ 0 ∷ 0 ∷ 0 ∷ 0 ∷ 0 ∷ 0 ∷ 0 ∷ 0 ∷ 0 ∷ 0 ∷ 0 ∷ 0 ∷ 0 ∷ 1 ∷ 0 ∷ 0 ∷ 0 ∷ 0 ∷ 255 ∷ 0 ∷ 0 ∷ 0 ∷
-    0 ∷ 0 ∷ 0 ∷ 0 ∷ 0 ∷ 2 ∷ 0 ∷ 0 ∷ 0 ∷ 1 ∷ 0 ∷ 1 ∷ 0 ∷ 1 ∷ 0 ∷ 1 ∷ 0 ∷ 0 ∷ 0 ∷ 1 ∷ 0 ∷ 0 ∷ 0 ∷ 0 ∷
-    255 ∷ 0 ∷ 0 ∷ 0 ∷ 0 ∷ 0 ∷ 0 ∷ 0 ∷ 0 ∷ 3 ∷ 0 ∷ 5 ∷ 1 ∷ 0 ∷ 0 ∷ 0 ∷ 0 ∷ 0 ∷ 0 ∷ 0 ∷ 0 ∷ 0 ∷ 2 ∷ 0 ∷
-    0 ∷ 0 ∷ 0 ∷ 0 ∷ 0 ∷ 0 ∷ 0 ∷ 1 ∷ 2 ∷ 0 ∷ 0 ∷ 0 ∷ 0 ∷ 0 ∷ 0 ∷ 0 ∷ 0 ∷ 0 ∷ 0 ∷ 0 ∷ 4 ∷ 0 ∷ 0 ∷ 0 ∷
-    0 ∷ 0 ∷ 0 ∷ 0 ∷ 0 ∷ 41 ∷ 0 ∷ 0 ∷ 0 ∷ 0 ∷ 0 ∷ 0 ∷ 0 ∷ 0 ∷ 7 ∷ 0 ∷ 0 ∷ 0 ∷ 0 ∷ 0 ∷ 0 ∷ 0 ∷ 0 ∷ 1 ∷
-    0 ∷ 0 ∷ 0 ∷ 0 ∷ 0 ∷ 0 ∷ 0 ∷ 0 ∷ 2 ∷ 0 ∷ 0 ∷ 0 ∷ 32 ∷ 97 ∷ 48 ∷ 0 ∷ 0 ∷ 0 ∷ 0 ∷ 0 ∷ 0 ∷ 113 ∷ 38 ∷ 0 ∷
-    1 ∷ 0 ∷ 0 ∷ 0 ∷ 0 ∷ 57 ∷ 112 ∷ 0 ∷ 0 ∷ 64 ∷ 0 ∷ 64 ∷ 0 ∷ 97 ∷ 48 ∷ 0 ∷ 0 ∷ 0 ∷ 0 ∷ 0 ∷ 0 ∷ 0 ∷ 0 ∷ 0 ∷
-    0 ∷ 0 ∷ 0 ∷ 0 ∷ 0 ∷ 0 ∷ 0 ∷ 0 ∷ 0 ∷ 0 ∷ 0 ∷ 0 ∷ 0 ∷ 0 ∷ 0 ∷ 0 ∷ 0 ∷ 0 ∷ 0 ∷ 0 ∷ 0 ∷ 0 ∷ 0 ∷ 0 ∷
-    0 ∷ 0 ∷ 0 ∷ 0 ∷ 0 ∷ 0 ∷ 0 ∷ 0 ∷ 0 ∷ 0 ∷ 0 ∷ 0 ∷ 0 ∷ 0 ∷ 0 ∷ 0 ∷ 0 ∷ 0 ∷ 0 ∷ 0 ∷ 0 ∷ 0 ∷ 0 ∷ 0 ∷
-    0 ∷ 0 ∷ 0 ∷ 0 ∷ 0 ∷ 0 ∷ 0 ∷ 0 ∷ 0 ∷ 0 ∷ 0 ∷ 0 ∷ 0 ∷ 0 ∷ 0 ∷ 0 ∷ 0 ∷ 0 ∷ 0 ∷ 0 ∷ 0 ∷ 0 ∷ 0 ∷ 0 ∷
-    0 ∷ 0 ∷ 0 ∷ 0 ∷ 0 ∷ 0 ∷ 0 ∷ 0 ∷ 0 ∷ 0 ∷ 0 ∷ 0 ∷ 0 ∷ 0 ∷ 0 ∷ 0 ∷ 0 ∷ 0 ∷ 0 ∷ 0 ∷ 0 ∷ 65 ∷ 19 ∷ 0 ∷
-    0 ∷ 0 ∷ 0 ∷ 0 ∷ 0 ∷ 97 ∷ 31 ∷ 0 ∷ 1 ∷ 0 ∷ 0 ∷ 0 ∷ 0 ∷ 0 ∷ 0 ∷ 0 ∷ 0 ∷ 0 ∷ 0 ∷ 0 ∷ 0 ∷ 0 ∷ 0 ∷ 0 ∷
-    0 ∷ 0 ∷ 0 ∷ 0 ∷ 0 ∷ 0 ∷ 0 ∷ 0 ∷ 0 ∷ 0 ∷ 0 ∷ 0 ∷ 0 ∷ 0 ∷ 0 ∷ 0 ∷ 0 ∷ 0 ∷ 0 ∷ 0 ∷ 0 ∷ 0 ∷ 0 ∷ 0 ∷
-    0 ∷ 0 ∷ 0 ∷ 0 ∷ 0 ∷ 0 ∷ 0 ∷ 0 ∷ 0 ∷ 0 ∷ 0 ∷ 0 ∷ 0 ∷ 0 ∷ 0 ∷ 0 ∷ 0 ∷ 0 ∷ 0 ∷ 0 ∷ 0 ∷ 0 ∷ 0 ∷ 0 ∷
-    0 ∷ 0 ∷ 0 ∷ 0 ∷ 0 ∷ 0 ∷ 0 ∷ 0 ∷ 0 ∷ 0 ∷ 0 ∷ 0 ∷ 0 ∷ 0 ∷ 0 ∷ 0 ∷ 0 ∷ 0 ∷ 0 ∷ 0 ∷ 0 ∷ 0 ∷ 0 ∷ 0 ∷
-    0 ∷ 0 ∷ 0 ∷ 0 ∷ 0 ∷ 0 ∷ 0 ∷ 0 ∷ 0 ∷ 0 ∷ 0 ∷ 0 ∷ 0 ∷ 0 ∷ 0 ∷ 0 ∷ 0 ∷ 0 ∷ 0 ∷ 0 ∷ 0 ∷ 0 ∷ 0 ∷ 0 ∷
-    0 ∷ 0 ∷ 0 ∷ 0 ∷ 0 ∷ 0 ∷ 0 ∷ 0 ∷ 0 ∷ []
+-- ---- the two images by their fields
 
-unfoldable pub bytesB : List ℕ
-bytesB =
-    2 ∷ 1 ∷ 0 ∷ 0 ∷ 0 ∷ 0 ∷ 0 ∷ 0 ∷ 0 ∷ 0 ∷ 0 ∷ 0 ∷ 0 ∷ 0 ∷ 0 ∷ 1 ∷ 0 ∷ 0 ∷ 0 ∷ 0 ∷ 255 ∷ 0 ∷ 0 ∷ 0 ∷
-    0 ∷ 0 ∷ 0 ∷ 0 ∷ 0 ∷ 3 ∷ 0 ∷ 0 ∷ 0 ∷ 1 ∷ 0 ∷ 1 ∷ 0 ∷ 1 ∷ 0 ∷ 1 ∷ 0 ∷ 0 ∷ 0 ∷ 1 ∷ 0 ∷ 0 ∷ 0 ∷ 0 ∷
-    255 ∷ 0 ∷ 0 ∷ 0 ∷ 0 ∷ 0 ∷ 0 ∷ 0 ∷ 0 ∷ 2 ∷ 0 ∷ 9 ∷ 1 ∷ 0 ∷ 0 ∷ 0 ∷ 0 ∷ 0 ∷ 0 ∷ 0 ∷ 0 ∷ 3 ∷ 3 ∷ 0 ∷
-    0 ∷ 0 ∷ 0 ∷ 0 ∷ 0 ∷ 0 ∷ 0 ∷ 0 ∷ 0 ∷ 0 ∷ 4 ∷ 0 ∷ 0 ∷ 0 ∷ 0 ∷ 0 ∷ 0 ∷ 0 ∷ 0 ∷ 41 ∷ 0 ∷ 0 ∷ 0 ∷ 0 ∷
-    0 ∷ 0 ∷ 0 ∷ 0 ∷ 7 ∷ 4 ∷ 0 ∷ 0 ∷ 0 ∷ 0 ∷ 0 ∷ 0 ∷ 0 ∷ 100 ∷ 8 ∷ 0 ∷ 0 ∷ 0 ∷ 0 ∷ 0 ∷ 0 ∷ 0 ∷ 200 ∷ 0 ∷
-    0 ∷ 0 ∷ 32 ∷ 97 ∷ 48 ∷ 0 ∷ 0 ∷ 0 ∷ 0 ∷ 0 ∷ 0 ∷ 113 ∷ 38 ∷ 0 ∷ 1 ∷ 0 ∷ 0 ∷ 0 ∷ 0 ∷ 57 ∷ 112 ∷ 0 ∷ 0 ∷ 64 ∷
-    0 ∷ 64 ∷ 0 ∷ 97 ∷ 48 ∷ 0 ∷ 0 ∷ 0 ∷ 0 ∷ 0 ∷ 0 ∷ 0 ∷ 0 ∷ 0 ∷ 0 ∷ 0 ∷ 0 ∷ 0 ∷ 0 ∷ 0 ∷ 0 ∷ 0 ∷ 0 ∷ 0 ∷
-    0 ∷ 0 ∷ 0 ∷ 0 ∷ 0 ∷ 0 ∷ 0 ∷ 0 ∷ 0 ∷ 0 ∷ 0 ∷ 0 ∷ 0 ∷ 0 ∷ 0 ∷ 0 ∷ 0 ∷ 0 ∷ 0 ∷ 0 ∷ 0 ∷ 0 ∷ 0 ∷ 0 ∷
-    0 ∷ 0 ∷ 0 ∷ 0 ∷ 0 ∷ 0 ∷ 0 ∷ 0 ∷ 0 ∷ 0 ∷ 0 ∷ 0 ∷ 0 ∷ 0 ∷ 0 ∷ 0 ∷ 0 ∷ 0 ∷ 0 ∷ 0 ∷ 0 ∷ 0 ∷ 0 ∷ 0 ∷
-    0 ∷ 0 ∷ 0 ∷ 0 ∷ 0 ∷ 0 ∷ 0 ∷ 0 ∷ 0 ∷ 0 ∷ 0 ∷ 0 ∷ 0 ∷ 0 ∷ 0 ∷ 0 ∷ 0 ∷ 0 ∷ 0 ∷ 0 ∷ 0 ∷ 0 ∷ 0 ∷ 0 ∷
-    0 ∷ 0 ∷ 0 ∷ 0 ∷ 0 ∷ 0 ∷ 0 ∷ 0 ∷ 0 ∷ 0 ∷ 0 ∷ 57 ∷ 112 ∷ 0 ∷ 0 ∷ 64 ∷ 0 ∷ 64 ∷ 0 ∷ 25 ∷ 112 ∷ 0 ∷ 0 ∷ 0 ∷
-    0 ∷ 64 ∷ 0 ∷ 135 ∷ 1 ∷ 0 ∷ 0 ∷ 0 ∷ 0 ∷ 0 ∷ 0 ∷ 0 ∷ 0 ∷ 0 ∷ 0 ∷ 0 ∷ 0 ∷ 0 ∷ 0 ∷ 0 ∷ 0 ∷ 0 ∷ 0 ∷ 0 ∷
-    0 ∷ 0 ∷ 0 ∷ 0 ∷ 0 ∷ 0 ∷ 0 ∷ 0 ∷ 0 ∷ 0 ∷ 0 ∷ 0 ∷ 0 ∷ 0 ∷ 0 ∷ 0 ∷ 0 ∷ 0 ∷ 0 ∷ 0 ∷ 0 ∷ 0 ∷ 0 ∷ 0 ∷
-    0 ∷ 0 ∷ 0 ∷ 0 ∷ 0 ∷ 0 ∷ 0 ∷ 0 ∷ 0 ∷ 0 ∷ 0 ∷ 0 ∷ 0 ∷ 0 ∷ 0 ∷ 0 ∷ 0 ∷ 0 ∷ 0 ∷ 0 ∷ 0 ∷ 0 ∷ 0 ∷ 0 ∷
-    0 ∷ 0 ∷ 0 ∷ 0 ∷ 0 ∷ 0 ∷ 0 ∷ 0 ∷ 0 ∷ 0 ∷ 0 ∷ 0 ∷ 0 ∷ 0 ∷ 0 ∷ 0 ∷ 0 ∷ 0 ∷ 0 ∷ 0 ∷ 0 ∷ 0 ∷ 0 ∷ 0 ∷
-    0 ∷ 0 ∷ 0 ∷ 0 ∷ 0 ∷ 0 ∷ 0 ∷ 0 ∷ 0 ∷ 0 ∷ 0 ∷ 0 ∷ 0 ∷ 0 ∷ 0 ∷ 0 ∷ 0 ∷ 0 ∷ 0 ∷ 0 ∷ 0 ∷ 0 ∷ 0 ∷ []
+-- a task with two registers and sixteen program words, those from 2 * place and 16 * place on, and no data
+unfoldable pub rowAt : (task place : ℕ) → Row
+rowAt task place = record { task = task; cb = 0; rb = place; rl = place; pb = place; pl = place; db = 1; dl = 0; kind = 255; psw = 0 }
 
-unfoldable pub scheduleA : List ℕ
-scheduleA =
-    2 ∷ 1 ∷ 2 ∷ 1 ∷ 2 ∷ 1 ∷ 1 ∷ 1 ∷ []
+-- a process at PC 0
+unfoldable pub processOf : (pt task : ℕ) → Process
+processOf pt task = record { pt = pt; task = task; psw = 0 }
 
-unfoldable pub scheduleB : List ℕ
-scheduleB =
-    1 ∷ 3 ∷ 3 ∷ 1 ∷ 1 ∷ 3 ∷ 1 ∷ 3 ∷ 1 ∷ 3 ∷ []
+-- sixteen program words, the last of them NOPs
+unfoldable pub doubling : List ℕ
+doubling =
+    -- INC register 0
+    instructionWord 0x6130 0 0 0 ∷
+    -- ADD register 0 to itself, into register 1
+    instructionWord 0x7126 1 0 0 ∷
+    -- CREATE always
+    instructionWord 0x3970 0 0x4000 0x4000 ∷
+    -- INC register 0
+    instructionWord 0x6130 0 0 0 ∷
+    replicate 12 0
 
-unfoldable pub none-read : Image
-none-read = record { rows = []; flag = 0; processes = []; constants = []; registers = []; program = []; dataWords = [] }
+unfoldable pub filling : List ℕ
+filling =
+    -- ONE into register 0
+    instructionWord 0x4113 0 0 0 ∷
+    -- MOV register 0 to register 1
+    instructionWord 0x611F 1 0 0 ∷
+    replicate 14 0
 
--- the image that was read
-unfoldable pub imageIn : Decoded → Image
-imageIn (bad e) = none-read
-imageIn (good i) = i
+unfoldable pub creating : List ℕ
+creating =
+    -- CREATE always
+    instructionWord 0x3970 0 0x4000 0x4000 ∷
+    -- QT always
+    instructionWord 0x1970 0 0 0x4000 ∷
+    -- a privileged code
+    instructionWord 0x8701 0 0 0 ∷
+    replicate 13 0
 
 unfoldable pub imageA : Image
-imageA = imageIn (decode bytesA)
-
-unfoldable pub imageB : Image
-imageB = imageIn (decode bytesB)
-
--- the row of task 1 in both
-unfoldable pub row : Row
-row = record { task = 1; cb = 0; rb = 0; rl = 0; pb = 0; pl = 0; db = 1; dl = 0; kind = 255; psw = 0 }
-
--- what is compared of a task, at its row
-compared-at : (t : ℕ) (s s′ : State) (r : Row) → findRow t (s .rows) ≡ some r → own t s ≡ own t s′
-    → memoryIn (registerWindow r) (s .registers) ≡ memoryIn (registerWindow r) (s′ .registers)
-    → memoryIn (dataWordWindow r) (s .dataWords) ≡ memoryIn (dataWordWindow r) (s′ .dataWords)
-    → Compared t s s′
-compared-at t s s′ r e o g d = record {
-  owned = o;
-  registers = λ x f. subst (λ (y : Row). memoryIn (registerWindow y) (s .registers) ≡ memoryIn (registerWindow y) (s′ .registers)) (some-inj r x (sym e ∙ f)) g;
-  dataWords = λ x f. subst (λ (y : Row). memoryIn (dataWordWindow y) (s .dataWords) ≡ memoryIn (dataWordWindow y) (s′ .dataWords)) (some-inj r x (sym e ∙ f)) d;
+imageA = record {
+  rows = rowAt 1 0 ∷ rowAt 2 1 ∷ [];
+  flag = 0;
+  processes = processOf 5 1 ∷ processOf 0 2 ∷ processOf 1 2 ∷ [];
+  constants = [];
+  registers = cell 0 41 ∷ cell 0 7 ∷ cell 0 1 ∷ cell 0 2 ∷ [];
+  program = doubling ++ filling;
+  dataWords = [];
 }
 
-program-at : (t : ℕ) (s s′ : State) (r : Row) → findRow t (s .rows) ≡ some r
-    → cut (programWindow r) (s .program) ≡ cut (programWindow r) (s′ .program) → SameProgram t s s′
-program-at t s s′ r e p x f = subst (λ (y : Row). cut (programWindow y) (s .program) ≡ cut (programWindow y) (s′ .program)) (some-inj r x (sym e ∙ f)) p
+unfoldable pub imageB : Image
+imageB = record {
+  rows = rowAt 1 0 ∷ rowAt 3 1 ∷ [];
+  flag = 0;
+  processes = processOf 9 1 ∷ processOf 3 3 ∷ [];
+  constants = [];
+  -- the neighbour's first register has quality 4, its second is empty
+  registers = cell 0 41 ∷ cell 0 7 ∷ cell 4 100 ∷ cell 8 200 ∷ [];
+  program = doubling ++ creating;
+  dataWords = [];
+}
 
-abbrev byte : ℕ → Bool
-byte x = ltb x 256
+unfoldable pub bytesA : List ℕ
+bytesA = imageCodec .enc imageA
 
-bytes-of : (b : List ℕ) → every byte b ≡ true → Bytes b
-unfolding every Bytes
-bytes-of [] e = tt
-bytes-of (x ∷ b) e = (ltb-true x 256 (and-left (byte x) (every byte b) e), bytes-of b (and-right (byte x) (every byte b) e))
+unfoldable pub bytesB : List ℕ
+bytesB = imageCodec .enc imageB
+
+unfoldable pub scheduleA : List ℕ
+scheduleA = 2 ∷ 1 ∷ 2 ∷ 1 ∷ 2 ∷ 1 ∷ 1 ∷ 1 ∷ []
+
+unfoldable pub scheduleB : List ℕ
+scheduleB = 1 ∷ 3 ∷ 3 ∷ 1 ∷ 1 ∷ 3 ∷ 1 ∷ 3 ∷ 1 ∷ 3 ∷ []
+
+-- naming this opens the two images
+unfoldable pub images : ℕ
+unfolding opened rowAt processOf doubling filling creating imageA imageB bytesA bytesB scheduleA scheduleB instructionWord
+images = 0
+
+-- ---- the two runs
 
 runA : WholeRun bytesA scheduleA imageA
-unfolding opened bytesA scheduleA imageA imageIn
+unfolding images
 runA = record { string = bytes-of bytesA refl; accepted = refl; scheduled = refl; down = refl }
 
 runB : WholeRun bytesB scheduleB imageB
-unfolding opened bytesB scheduleB imageB imageIn
+unfolding images
 runB = record { string = bytes-of bytesB refl; accepted = refl; scheduled = refl; down = refl }
 
 agreed : Agreed 1 scheduleA scheduleB imageA imageB
-unfolding opened bytesA bytesB scheduleA scheduleB imageA imageB imageIn row
+unfolding images
 agreed = record {
-  task = compared-at 1 (stateOf imageA) (stateOf imageB) row refl refl refl refl;
-  program = program-at 1 (stateOf imageA) (stateOf imageB) row refl refl;
+  task = compared-at 1 (stateOf imageA) (stateOf imageB) (rowAt 1 0) refl refl refl refl;
+  program = program-at 1 (stateOf imageA) (stateOf imageB) (rowAt 1 0) refl refl;
   constants = λ a. refl;
   items = refl;
   alone = alone-of 1 (stateOf imageA) refl;
@@ -141,11 +132,11 @@ pub record Instance : Type 0 where
   -- by demand 3
   pub equal : Compared 1 afterA afterB
   -- task 1 did something: its registers were 41 and 7
-  pub counted : cut (registerWindow row) (afterA .registers .words) ≡ 44 ∷ 84 ∷ []
+  pub counted : cut (registerWindow (rowAt 1 0)) (afterA .registers .words) ≡ 44 ∷ 84 ∷ []
   -- and so did its neighbours, whose registers now differ
   pub neighbourA : getD (afterA .registers .words) 2 0 ≡ 2 ^ 64 - 1
   pub neighbourB : getD (afterB .registers .words) 2 0 ≡ 100
 
 pub isolated : Instance
-unfolding opened bytesA bytesB scheduleA scheduleB imageA imageB imageIn row afterA afterB
+unfolding images afterA afterB
 isolated = record { equal = demand-3 1 bytesA bytesB scheduleA scheduleB imageA imageB runA runB agreed; counted = refl; neighbourA = refl; neighbourB = refl }

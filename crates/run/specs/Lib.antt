@@ -1,4 +1,6 @@
 pub mod Run
 pub mod Schedule
 pub mod Compared
+pub mod Kept
+pub mod Trials
 pub mod Laws

@@ -1,5 +1,5 @@
 -- A run: its counts add up to the schedule's length, and the flag never falls. For any instruction set.
-use mathlib.Core.Path.{_≡_, refl, sym, ap, _∙_}
+use mathlib.Core.Path.{_≡_, refl, sym, ap, _∙_, subst}
 use mathlib.Core.List.{List, [], _∷_}
 use Prim.Native.Nat.{ℕ, suc, _+_}
 use native.Mathlib.Omega.{arith}
@@ -12,6 +12,7 @@ use Rattle.step.specs.declared.Ending.the-variants.{Executed, Waved, Trapped, I
 use Rattle.step.specs.State.{State}
 use Rattle.step.specs.Step.{stepBy}
 use Rattle.step.specs.Laws.Step.{step-flag}
+use Rattle.step.specs.Laws.Lengths.{SameLengths, same-lengths, lengths-join, step-lengths}
 use Rattle.run.specs.declared.Counts.{Counts}
 use Rattle.run.specs.Run.{counted, noCounts, runBy, run}
 
@@ -48,6 +49,16 @@ module _ (decide : Environment → Decision) where
   unfolding after
   after-flag [] s z = z
   after-flag (t ∷ ts) s z = step-flag decide t s (after-flag ts (stepBy decide t s .state) z)
+
+  after-lengths : (ts : List ℕ) (s : State) → SameLengths (after ts s) s
+  unfolding after
+  after-lengths [] s = same-lengths s
+  after-lengths (t ∷ ts) s = lengths-join (after-lengths ts (stepBy decide t s .state)) (step-lengths decide t s)
+
+-- a run changes the length of no memory, and not how many rows there are
+pub run-lengths : (schedule : List ℕ) (s : State) → SameLengths (run schedule s .state) s
+unfolding run
+run-lengths schedule s = subst (λ (x : State). SameLengths x s) (sym (run-after decide schedule s noCounts)) (after-lengths decide schedule s)
 
 -- executed + waved + trapped + idle = items
 pub run-counts : (schedule : List ℕ) (s : State) → sum (run schedule s .counts) ≡ length schedule

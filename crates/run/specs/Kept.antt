@@ -1,0 +1,25 @@
+-- What holds of every run: the four counts add up to the items, the create fault flag never falls, a sound state stays sound.
+use mathlib.Core.Path.{_≡_}
+use mathlib.Core.Bool.{true}
+use mathlib.Core.List.{List}
+use Prim.Native.Nat.{ℕ, _+_}
+use lib.ListN.{length}
+use Rattle.step.specs.State.{State}
+use Rattle.step.specs.Soundness.{sound}
+use Rattle.run.specs.declared.Counts.{Counts}
+use Rattle.run.specs.Run.{run}
+use Rattle.run.specs.Laws.Run.{run-counts, run-flag}
+use Rattle.run.specs.Laws.RunSound.{run-sound}
+
+-- executed + waved + trapped + idle = items
+pub counts-add-up : (schedule : List ℕ) (s : State)
+    → (let c : Counts = run schedule s .counts in c .executed + c .waved + c .trapped + c .idle) ≡ length schedule
+counts-add-up schedule s = run-counts schedule s
+
+-- where the flag is down at the end of a run, it was down at its start
+pub flag-never-falls : (schedule : List ℕ) (s : State) → run schedule s .state .table .flag ≡ 0 → s .table .flag ≡ 0
+flag-never-falls schedule s z = run-flag schedule s z
+
+-- what was read and run can always be written
+pub run-keeps-sound : (schedule : List ℕ) (s : State) → sound s ≡ true → sound (run schedule s .state) ≡ true
+run-keeps-sound schedule s e = run-sound schedule s e
