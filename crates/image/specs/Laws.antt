@@ -1,4 +1,5 @@
 -- The laws of the definitions: nothing here need be believed.
+pub mod Numbers
 pub mod Codec
 pub mod Formats
 pub mod Passed

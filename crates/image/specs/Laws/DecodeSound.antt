@@ -18,7 +18,7 @@ use Rattle.step.specs.Laws.Sound.{hasRow-range}
 use Rattle.refusal.specs.declared.Refusal.the-variants.{WindowPastMemory, ProcessesClash}
 use Rattle.image.specs.declared.Process.{Process}
 use Rattle.image.specs.Codec.{Bytes, Result, refused, accepted}
-use Rattle.image.specs.Laws.Formats.{image-tested}
+use Rattle.image.specs.Laws.Formats.{image-lawful}
 use Rattle.word.specs.Laws.Conjunctions.{also}
 use Rattle.image.specs.Laws.Passed.{PassedAll, PassedImage, image-passes, taskOf}
 use Rattle.image.specs.Laws.Weights.{Permuted, permuted-length, permuted-every, permuted-distinct}
@@ -102,4 +102,4 @@ pub decode-sound : (b : List ℕ) → Bytes b → (i : Image) → decode b ≡ g
 unfolding decode
 decode-sound b hb i h =
     let u = after-good (imageCodec .dec b) i h in
-    state-sound i (image-passes i (image-tested .passes b hb i [] (u .0) .0)) (u .1)
+    state-sound i (image-passes i (image-lawful .back b hb i [] (u .0) .0)) (u .1)
