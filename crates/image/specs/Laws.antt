@@ -2,6 +2,7 @@
 pub mod Numbers
 pub mod Codec
 pub mod Formats
+pub mod Conjoined
 pub mod Passed
 pub mod Weights
 pub mod Table
