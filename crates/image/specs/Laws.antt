@@ -4,6 +4,8 @@ pub mod Codec
 pub mod Formats
 pub mod Conjoined
 pub mod Passed
+pub mod Accepted
 pub mod Weights
 pub mod Table
+pub mod Again
 pub mod DecodeSound

@@ -18,38 +18,13 @@ use Rattle.step.specs.Laws.Sound.{hasRow-range}
 use Rattle.refusal.specs.declared.Refusal.the-variants.{WindowPastMemory, ProcessesClash}
 use Rattle.image.specs.declared.Process.{Process}
 use Rattle.image.specs.Codec.{Bytes, Result, refused, accepted}
-use Rattle.image.specs.Laws.Formats.{image-lawful}
+use Rattle.image.specs.Laws.Accepted.{PassedAfter, decode-accepted}
 use Rattle.word.specs.Laws.Conjunctions.{also}
 use Rattle.image.specs.Laws.Passed.{PassedAll, PassedImage, image-passes, taskOf}
 use Rattle.image.specs.Laws.Weights.{Permuted, permuted-length, permuted-every, permuted-distinct}
 use Rattle.image.specs.Laws.Table.{length-queueOf, length-ptsOf, livePts-queuesOf, length-queuesOf, ptsFrom-all, ptsOf-none, length-pswTable}
 use Rattle.image.specs.Laws.Table.{every-psw}
 use Rattle.image.specs.Image.{Image, good, bad, ptOf, ptsOf, queueOf, queuesOf, pswTable, memoryOf, stateOf, afterSections, decode, imageCodec}
-
--- ---- the tests after the last section
-
-pub record PassedAfter (i : Image) : Type 0 where
-  pub windows : windowsSound (length (i .registers)) (length (i .program)) (length (i .dataWords)) (i .rows) ≡ true
-  pub once : distinct (map ptOf (i .processes)) ≡ true
-  pub room : roomSound (length (i .processes)) (i .flag) ≡ true
-
--- what is read leaves nothing and passes these tests
-pub after-good : (x : Result Image) (i : Image) → afterSections x ≡ good i → (x ≡ accepted i []) × PassedAfter i
-unfolding afterSections
-after-good (refused e) i h = let z : _≡_ {A = ℕ} 0 1 = cc in absurd (omega arith)
-after-good (accepted j (x ∷ r)) i h = let z : _≡_ {A = ℕ} 0 1 = cc in absurd (omega arith)
-after-good (accepted j []) i h = go _ _ refl refl h
-  where
-    go : (w p : Bool) → windowsSound (length (j .registers)) (length (j .program)) (length (j .dataWords)) (j .rows) ≡ w
-        → distinct (map ptOf (j .processes)) && roomSound (length (j .processes)) (j .flag) ≡ p
-        → cond (not w) (bad WindowPastMemory) (cond (not p) (bad ProcessesClash) (good j)) ≡ good i → (accepted j [] ≡ accepted i []) × PassedAfter i
-    go false p a b k = let z : _≡_ {A = ℕ} 0 1 = cc in absurd (omega arith)
-    go true false a b k = let z : _≡_ {A = ℕ} 0 1 = cc in absurd (omega arith)
-    go true true a b k =
-        let e : j ≡ i = cc in
-        let d = distinct (map ptOf (j .processes)) in
-        let r = roomSound (length (j .processes)) (j .flag) in
-        (ap (λ (y : Image). accepted y []) e, subst PassedAfter e (record { windows = a; once = and-left d r b; room = and-right d r b }))
 
 -- ---- the process table
 
@@ -101,5 +76,5 @@ state-sound i p c =
 pub decode-sound : (b : List ℕ) → Bytes b → (i : Image) → decode b ≡ good i → sound (stateOf i) ≡ true
 unfolding decode
 decode-sound b hb i h =
-    let u = after-good (imageCodec .dec b) i h in
-    state-sound i (image-passes i (image-lawful .back b hb i [] (u .0) .0)) (u .1)
+    let u = decode-accepted b hb i h .0 in
+    state-sound i (u .fields) (u .after)
