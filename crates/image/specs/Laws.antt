@@ -8,4 +8,5 @@ pub mod Accepted
 pub mod Weights
 pub mod Table
 pub mod Again
+pub mod Fields
 pub mod DecodeSound

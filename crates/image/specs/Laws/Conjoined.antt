@@ -1,11 +1,6 @@
 -- Tests joined by `&&` in another order, and tests that another implies.
-use mathlib.Core.Path.{_≡_, refl, sym}
+use mathlib.Core.Path.{_≡_, refl}
 use mathlib.Core.Bool.{Bool, true, false, _&&_}
-use mathlib.Core.List.{List, [], _∷_, _++_}
-use Prim.Native.Nat.{ℕ}
-use Rattle.word.specs.Laws.Conjunctions.{also, and-assoc}
-use Rattle.step.specs.Soundness.{every}
-use mathlib.Core.Path.{ap, _∙_}
 
 -- a test that another implies
 pub and-implied : (a b : Bool) → (b ≡ true → a ≡ true) → a && b ≡ b
@@ -25,8 +20,3 @@ and-turn false false c = refl
 pub and-cross : (a b c d : Bool) → (a && b) && (c && d) ≡ (a && c) && (b && d)
 and-cross true b c d = and-turn b c d
 and-cross false b c d = refl
-
-pub every-append : (test : ℕ → Bool) (xs ys : List ℕ) → every test (xs ++ ys) ≡ every test xs && every test ys
-unfolding every
-every-append test [] ys = refl
-every-append test (x ∷ xs) ys = ap (λ (b : Bool). test x && b) (every-append test xs ys) ∙ sym (and-assoc (test x) (every test xs) (every test ys))
