@@ -5,7 +5,6 @@ pub mod Formats
 pub mod Conjoined
 pub mod Passed
 pub mod Accepted
-pub mod Weights
 pub mod Table
 pub mod Again
 pub mod Fields

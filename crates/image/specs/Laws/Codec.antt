@@ -1,5 +1,5 @@
 -- Formats made of lawful formats are lawful: one law for each way to make a format.
-use Prim.Native.Nat.{ℕ, zero, suc, _+_, _^_, _<_}
+use Prim.Native.Nat.{ℕ, zero, suc, _^_}
 use mathlib.Core.Path.{_≡_, refl, ap, _∙_}
 use mathlib.Core.Bool.{Bool, true, false, cond, _&&_}
 use mathlib.Core.List.{List, [], _∷_, _++_, append-assoc}
@@ -12,7 +12,6 @@ use Rattle.refusal.specs.declared.Refusal.{Refusal}
 use Rattle.refusal.specs.declared.Refusal.the-variants.{InputEnds, CountOverLimit}
 use Rattle.image.specs.Codec.{Bytes, Result, refused, accepted, bind, number, digits, field, Codec, num, count, seq, via, decMany, encMany, okMany, section}
 use Rattle.image.specs.Codec.{noHeader, listSection, noState, uniformSection}
-use Rattle.word.specs.Laws.Bools.{and-left, and-right}
 use Rattle.word.specs.Laws.Conjunctions.{also, both}
 use Rattle.image.specs.Laws.Numbers.{bytes-append, bytes-drop, length-digits, bytes-digits, number-digits, field-lt, field-digits}
 
@@ -148,11 +147,12 @@ module _ {S A : Type 0} {c : S → Codec A} (next : S → A → S) (lc : (s : S)
         there = λ p h r.
             let u = both (λ k. k) (both (λ k. k) (λ k. k)) h in
             rw (
-            append-assoc,
-            append-assoc,
-            ln .there (length (p .1)) (u .0) (head .enc (p .0) ++ (encMany c next s (p .1) ++ r)),
-            lh .there (p .0) (u .1 .0) (encMany c next s (p .1) ++ r),
-            many-there s (p .1) (u .1 .1) r);
+              append-assoc,
+              append-assoc,
+              ln .there (length (p .1)) (u .0) (head .enc (p .0) ++ (encMany c next s (p .1) ++ r)),
+              lh .there (p .0) (u .1 .0) (encMany c next s (p .1) ++ r),
+              many-there s (p .1) (u .1 .1) r,
+            );
         bytes = λ p.
             bytes-append (count w most .enc (length (p .1))) _ (ln .bytes (length (p .1)))
             (bytes-append (head .enc (p .0)) (encMany c next s (p .1)) (lh .bytes (p .0)) (many-bytes s (p .1)));

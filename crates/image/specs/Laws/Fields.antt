@@ -3,14 +3,13 @@ use Prim.Native.Nat.{ℕ, suc, _≤_}
 use mathlib.Core.Path.{_≡_, refl, sym, ap, ap₂, _∙_}
 use mathlib.Core.Bool.{Bool, true, false, _&&_, _||_}
 use mathlib.Core.List.{List, [], _∷_, _++_, map, map-id}
-use native.Mathlib.Nat.{suc-inj}
 use native.Mathlib.Omega.{arith}
 use lib.ListN.{length, getD, length-map, length-append}
-use lib.Dec.{eqb, leb, eqb·suc-zero}
-use borrow.Author.Tests.{eq-eqb, eqb-true, le-leb}
+use lib.Dec.{eqb, eqb·suc-zero}
+use borrow.Author.Tests.{eqb-true, le-leb}
 use Rattle.window.specs.declared.Row.{Row}
-use Rattle.window.specs.Memories.{Memory, memory, cell, wordOf}
-use Rattle.word.specs.Laws.Bools.{or-right, and-left, and-right}
+use Rattle.window.specs.Memories.{Memory, memory, wordOf}
+use Rattle.word.specs.Laws.Bools.{or-right, and-left}
 use Rattle.word.specs.Laws.Conjunctions.{also, both}
 use Rattle.step.specs.declared.Queue.{Queue}
 use Rattle.step.specs.Queues.{listOf, livePts}
@@ -22,7 +21,7 @@ use Rattle.step.specs.Laws.Occurrences.{length-once}
 use Rattle.step.specs.Laws.Queues.{length-list}
 use Rattle.step.specs.Laws.Sound.{sound-parts, sound-whole, tidy-of}
 use Rattle.image.specs.declared.Process.{Process}
-use Rattle.image.specs.Image.{Image, ptOf, processesIn, processesFrom, cellsOf, memoryOf, imageOf}
+use Rattle.image.specs.Image.{ptOf, processesIn, processesFrom, cellsOf, memoryOf, imageOf}
 use Rattle.image.specs.Laws.Conjoined.{and-true, and-cross}
 use Rattle.image.specs.Laws.Passed.{taskOf, pswOf, ascends}
 use Rattle.image.specs.Laws.Accepted.{Accepted}
@@ -132,7 +131,7 @@ few-live s e =
 
 queues-parts : (s : State) → sound s ≡ true
     → (every (λ n. eqb n 64) (map (λ (q : Queue). length (q .pts)) (s .table .queues)) ≡ true)
-      × (every (λ u. hasRow u (s .rows)) (map taskOf (processesFrom (s .table .psw) 1 (s .table .queues))) ≡ true)
+    × (every (λ u. hasRow u (s .rows)) (map taskOf (processesFrom (s .table .psw) 1 (s .table .queues))) ≡ true)
 queues-parts s e =
     both (λ k. k) (λ k. k) (sym (queues-fields (s .table .psw) (s .rows) 1 (s .table .queues) (few-live s e)) ∙ sound-parts s e .table .queues)
 
@@ -150,7 +149,7 @@ shape-of s e =
 -- ends of windows in a state and in its image
 windows-same : (s : State) → Shape s
     → windowsSound (length (imageOf s .registers)) (length (imageOf s .program)) (length (imageOf s .dataWords)) (imageOf s .rows)
-      ≡ windowsSound (length (s .registers .words)) (length (s .program)) (length (s .dataWords .words)) (s .rows)
+    ≡ windowsSound (length (s .registers .words)) (length (s .program)) (length (s .dataWords .words)) (s .rows)
 unfolding imageOf
 windows-same s h =
     ap₂ (λ (m n : ℕ). windowsSound m (length (s .program)) n (s .rows))

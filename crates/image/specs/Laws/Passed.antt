@@ -67,7 +67,7 @@ record-fits kind v g = go (eqb kind noTrap) g
     go true g = omega (arith, eqb-true v 0 g)
     go false g = psw-fits v g
 
-pub tag-fits : (t : ℕ) → tagSound t ≡ true → t < 256 ^ 1
+tag-fits : (t : ℕ) → tagSound t ≡ true → t < 256 ^ 1
 unfolding tagSound
 tag-fits t g = go (leb t 6) (leb t 14) refl refl g
   where
@@ -76,7 +76,7 @@ tag-fits t g = go (leb t 6) (leb t 14) refl refl g
     go false true e f g = omega (arith, leb-true t 14 f)
     go false false e f g = absurd (false≢true (and-right (leb 8 t) false g))
 
-pub state-fits : (t : ℕ) → stateSound t ≡ true → t < 256 ^ 1
+state-fits : (t : ℕ) → stateSound t ≡ true → t < 256 ^ 1
 unfolding stateSound
 state-fits t g = omega (arith, leb-true t 1 g)
 
@@ -198,7 +198,7 @@ pub record PassedAll (rows : List Row) (f : ℕ) (ps : List Process) : Type 0 wh
 module _ (rows : List Row) (ordered : rowsSound 0 rows ≡ true) where
   many-processes : (before : ℕ) (ps : List Process)
       → okMany (processCodec rows) processTask before ps
-        ≡ every ptSound (map ptOf ps) && ((ascends before (map taskOf ps) && every (λ t. hasRow t rows) (map taskOf ps)) && every pswSound (map pswOf ps))
+      ≡ every ptSound (map ptOf ps) && ((ascends before (map taskOf ps) && every (λ t. hasRow t rows) (map taskOf ps)) && every pswSound (map pswOf ps))
   unfolding okMany every ascends
   many-processes before [] = refl
   many-processes before (p ∷ ps) =
@@ -211,8 +211,8 @@ module _ (rows : List Row) (ordered : rowsSound 0 rows ≡ true) where
 
   processes-ok : (flag : ℕ) (ps : List Process)
       → processesCodec rows .ok (flag, ps)
-        ≡ leb (length ps) 64 && (flagSound flag && (every ptSound (map ptOf ps)
-          && ((ascends 0 (map taskOf ps) && every (λ t. hasRow t rows) (map taskOf ps)) && every pswSound (map pswOf ps))))
+      ≡ leb (length ps) 64 && (flagSound flag && (every ptSound (map ptOf ps)
+      && ((ascends 0 (map taskOf ps) && every (λ t. hasRow t rows) (map taskOf ps)) && every pswSound (map pswOf ps))))
   unfolding processesCodec flagSound
   processes-ok flag ps =
       section-ok (num 1 ProcessField flagSound) (processCodec rows) processTask 1 64 (omega arith) 0 flag ps
