@@ -93,6 +93,6 @@ sound-of-image s h r =
     let a = decode-accepted (r .bytes) (r .string) (r .image) (r .accepted) .0 in
     accepted-sound s (shaped-shape s h) (subst Accepted (sym (fields-again (r .image) a) ∙ r .same) a)
 
--- check 8 refuses a state exactly if no accepted image reads as it
+-- where its arrays have these lengths, a state is sound (refusal 8 doesn't apply) exactly if some accepted image reads as it
 pub sound-iff : (s : State) → (sound s ≡ true) ↔ ((shaped s ≡ true) × SomeImageReads s)
 sound-iff s = (λ e. (shape-shaped s (shape-of s e), image-of-sound s e), λ p. sound-of-image s (p .0) (p .1))

@@ -5,23 +5,20 @@ use mathlib.Core.Bool.{true}
 use mathlib.Core.List.{List, map}
 use native.Mathlib.Omega.{arith}
 use lib.ListN.{length, length-map}
-use lib.Dec.{eqb}
 use borrow.Author.Tests.{eq-eqb}
 use Rattle.window.specs.declared.Cell.{Cell}
 use Rattle.window.specs.Memories.{tagOf, wordOf}
 use Rattle.word.specs.Laws.Conjunctions.{also}
-use Rattle.step.specs.declared.Queue.{Queue}
 use Rattle.step.specs.Soundness.{every, sound}
 use Rattle.image.specs.declared.Process.{Process}
 use Rattle.image.specs.Codec.{Bytes}
 use Rattle.image.specs.Image.{Image, good, ptsOf, queueOf, queuesOf, memoryOf, stateOf, decode}
 use Rattle.image.specs.Laws.Accepted.{Accepted, decode-accepted}
-use Rattle.image.specs.Laws.Table.{length-queueOf, length-ptsOf, length-queuesOf, length-pswTable}
+use Rattle.image.specs.Laws.Table.{placesFull, length-queueOf, length-ptsOf, length-queuesOf, length-pswTable}
 use Rattle.image.specs.Laws.Again.{fields-again}
 use Rattle.image.specs.Laws.Fields.{Shape, accepted-sound}
 
--- each queue has its array of 64
-queues-full : (n t : ℕ) (ps : List Process) → length ps ≤ 64 → every (λ m. eqb m 64) (map (λ (q : Queue). length (q .pts)) (queuesOf n t ps)) ≡ true
+queues-full : (n t : ℕ) (ps : List Process) → length ps ≤ 64 → placesFull (queuesOf n t ps) ≡ true
 unfolding queuesOf every
 queues-full zero t ps few = refl
 queues-full (suc n) t ps few =

@@ -25,6 +25,7 @@ use Rattle.image.specs.Image.{ptOf, processesIn, processesFrom, cellsOf,
 use Rattle.image.specs.Laws.Conjoined.{and-true, and-cross}
 use Rattle.image.specs.Laws.Passed.{taskOf, pswOf, ascends}
 use Rattle.image.specs.Laws.Accepted.{Accepted}
+use Rattle.image.specs.Laws.Table.{placesFull}
 
 -- ---- memories
 
@@ -92,14 +93,14 @@ module _ (psw : List ℕ) (rows : List Row) where
 
   -- the queues are in arrays of 64, and the tasks of their processes are listed
   queues-fields : (t : ℕ) (qs : List Queue) → length (livePts qs) ≤ 64
-      → queuesSound rows t qs ≡ every (λ n. eqb n 64) (map (λ (q : Queue). length (q .pts)) qs) && every (λ u. hasRow u rows) (map taskOf (processesFrom psw t qs))
+      → queuesSound rows t qs ≡ placesFull qs && every (λ u. hasRow u rows) (map taskOf (processesFrom psw t qs))
   unfolding queuesSound queueShaped processesFrom livePts every
   queues-fields t [] h = refl
   queues-fields t (q ∷ qs) h =
       let n = length-append (listOf q) (livePts qs) in
       let l = length-list q in
       let full = eqb (length (q .pts)) 64 in
-      let others = every (λ n. eqb n 64) (map (λ (q : Queue). length (q .pts)) qs) in
+      let others = placesFull qs in
       let has = eqb (q .len) 0 || hasRow t rows in
       let have = every (λ u. hasRow u rows) (map taskOf (processesFrom psw (suc t) qs)) in
       ap₂ _&&_
@@ -115,7 +116,7 @@ module _ (psw : List ℕ) (rows : List Row) where
 pub record Shape (s : State) : Type 0 where
   pub wide : length (s .table .psw) ≡ 64
   pub seven : length (s .table .queues) ≡ 7
-  pub full : every (λ n. eqb n 64) (map (λ (q : Queue). length (q .pts)) (s .table .queues)) ≡ true
+  pub full : placesFull (s .table .queues) ≡ true
   pub registers : length (s .registers .tags) ≡ length (s .registers .words)
   pub dataWords : length (s .dataWords .tags) ≡ length (s .dataWords .words)
 
@@ -130,7 +131,7 @@ few-live s e =
     length-once 64 (livePts (s .table .queues)) (tidy .once) (tidy .small)
 
 queues-parts : (s : State) → sound s ≡ true
-    → (every (λ n. eqb n 64) (map (λ (q : Queue). length (q .pts)) (s .table .queues)) ≡ true)
+    → (placesFull (s .table .queues) ≡ true)
     × (every (λ u. hasRow u (s .rows)) (map taskOf (processesFrom (s .table .psw) 1 (s .table .queues))) ≡ true)
 queues-parts s e =
     both (λ k. k) (λ k. k) (sym (queues-fields (s .table .psw) (s .rows) 1 (s .table .queues) (few-live s e)) ∙ sound-parts s e .table .queues)

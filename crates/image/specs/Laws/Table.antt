@@ -10,6 +10,7 @@ use lib.Seq.{drop-cons, take-append-seam}
 use lib.Dec.{eqb}
 use borrow.Author.Tests.{eq-eqb, ne-eqb}
 use Rattle.word.specs.Laws.Bools.{and-left, and-right, clash}
+use Rattle.step.specs.declared.Queue.{Queue}
 use Rattle.step.specs.Queues.{ring, listOf}
 use Rattle.step.specs.Soundness.{every}
 use Rattle.image.specs.declared.Process.{Process}
@@ -17,6 +18,10 @@ use Rattle.image.specs.Image.{ptsOf, queueOf, queuesOf, pswTable}
 use Rattle.image.specs.Laws.Passed.{taskOf}
 
 -- ---- queues
+
+-- each queue has its array of 64
+abbrev pub placesFull : List Queue → Bool
+placesFull qs = every (λ n. eqb n 64) (map (λ (q : Queue). length (q .pts)) qs)
 
 -- a ring that does not reach the end of its array
 pub ring-straight : (a : List ℕ) (h n : ℕ) → h + n ≤ 64 → h + n ≤ length a → ring a h n ≡ take n (drop h a)
