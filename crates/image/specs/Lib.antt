@@ -1,4 +1,5 @@
 pub mod Codec
 pub mod Image
 pub mod Demand3
+pub mod RoundTrips
 pub mod Laws

@@ -1,115 +1,184 @@
--- What a value of the image's format passes, field by field.
-use Prim.Native.Nat.{ℕ, _^_, _≤_}
-use mathlib.Core.Path.{_≡_, refl, sym, _∙_}
-use mathlib.Core.Bool.{Bool, true, _&&_}
-use mathlib.Core.List.{List, [], _∷_, map, map-id}
+-- The values of the image's format, field by field: the test of each format is that of its fields.
+use Prim.Native.Nat.{ℕ, _^_, _+_, _≤_, _<_}
+use mathlib.Core.Path.{_≡_, refl, sym, ap, ap₂, _∙_}
+use mathlib.Core.Bool.{Bool, true, false, cond, _&&_, _||_, false≢true}
+use mathlib.Core.List.{List, [], _∷_, map}
+use native.Mathlib.Omega.{arith}
 use lib.ListN.{length, length-map}
-use lib.Dec.{leb, ltb}
-use borrow.Author.Tests.{leb-true, le-leb, eq-eqb}
+use lib.Dec.{eqb, leb, ltb}
+use borrow.Author.Tests.{eqb-true, eq-eqb, leb-true, le-leb, ltb-true, lt-ltb}
 use Rattle.word.specs.Fields.{pswSound}
 use Rattle.window.specs.declared.Row.{Row}
 use Rattle.window.specs.declared.Cell.{Cell}
 use Rattle.window.specs.Sound.{bits, wordSound, tagSound, stateSound}
 use Rattle.window.specs.Memories.{tagOf, wordOf}
-use Rattle.word.specs.Laws.Bools.{and-left, and-right}
-use Rattle.step.specs.Soundness.{every, taskSound, kindSound, recordSound, basesSound, rowSound, rowsSound, ptSound, flagSound, hasRow, wordsSound}
+use Rattle.word.specs.Laws.Bools.{Eq?, same, differ, eq?, and-left, and-right}
+use Rattle.word.specs.Laws.Conjunctions.{also, both, and-assoc}
+use Rattle.step.specs.Step.{noTrap}
+use Rattle.operation.specs.Environment.{kindOf}
+use Rattle.step.specs.Soundness.{every, member, taskSound, kinds, kindSound, recordSound, basesSound, rowSound, rowsSound, ptSound, flagSound, hasRow, wordsSound}
 use Rattle.step.specs.Soundness.{memorySound}
+use Rattle.step.specs.Laws.Sound.{hasRow-range}
+use Rattle.step.specs.Laws.Every.{every-parts}
 use Rattle.refusal.specs.declared.Refusal.{Refusal}
 use Rattle.refusal.specs.declared.Refusal.the-variants.{CountOverLimit, TaskField, ProcessField, CellField}
 use Rattle.image.specs.declared.Process.{Process}
 use Rattle.image.specs.Codec.{Codec, num, count, seq, via, okMany, section, noHeader, listSection, noState, uniformSection}
 use Rattle.image.specs.Image.{Image, rowCodec, rowTask, tasksCodec, processCodec, processTask, processesCodec, wordCodec}
 use Rattle.image.specs.Image.{wordsCodec, cellCodec, cellsCodec, imageCodec, ptOf, memoryOf}
-use Rattle.word.specs.Laws.Conjunctions.{also, both, and-map, and-assoc}
+use Rattle.image.specs.Laws.Conjoined.{and-implied, and-true, and-turn, and-cross}
+
+-- ---- numbers: what passes its test fits in its bytes
+
+num-ok : (w : ℕ) (e : Refusal) (good : ℕ → Bool) → ((v : ℕ) → good v ≡ true → v < 256 ^ w) → (v : ℕ) → num w e good .ok v ≡ good v
+unfolding num
+num-ok w e good fits v = and-implied (ltb v (256 ^ w)) (good v) (λ g. lt-ltb v (256 ^ w) (fits v g))
+
+bits-ok : (k w : ℕ) (e : Refusal) → 2 ^ k ≤ 256 ^ w → (v : ℕ) → num w e (bits k) .ok v ≡ bits k v
+unfolding bits
+bits-ok k w e le = num-ok w e (bits k) (λ v g. omega (arith, ltb-true v (2 ^ k) g))
+
+task-fits : (before t : ℕ) → taskSound before t ≡ true → t < 256 ^ 1
+unfolding taskSound
+task-fits before t g = omega (arith, leb-true t 7 (and-right (ltb before t) (leb t 7) g))
+
+member-passes : (test : ℕ → Bool) (x : ℕ) (l : List ℕ) → every test l ≡ true → member x l ≡ true → test x ≡ true
+unfolding member
+member-passes test x [] e m = absurd (false≢true m)
+member-passes test x (y ∷ l) e m = go (eqb x y) (eq? x y) m (member-passes test x l (every-parts test y l e .1))
+  where
+    go : (b : Bool) → Eq? x y b → b || member x l ≡ true → (member x l ≡ true → test x ≡ true) → test x ≡ true
+    go true (same q) m ih = ap test q ∙ every-parts test y l e .0
+    go false (differ q) m ih = ih m
+
+kind-fits : (k : ℕ) → kindSound k ≡ true → k < 256 ^ 1
+unfolding kindSound kinds kindOf every
+kind-fits k g = ltb-true k 256 (member-passes (λ x. ltb x 256) k kinds refl g)
+
+psw-fits : (v : ℕ) → pswSound v ≡ true → v < 256 ^ 8
+unfolding pswSound
+psw-fits v g = omega (arith, ltb-true v (2 ^ 56) (and-left (ltb v (2 ^ 56)) _ g))
+
+record-fits : (kind v : ℕ) → recordSound kind v ≡ true → v < 256 ^ 8
+unfolding recordSound
+record-fits kind v g = go (eqb kind noTrap) g
+  where
+    go : (b : Bool) → cond b (eqb v 0) (pswSound v) ≡ true → v < 256 ^ 8
+    go true g = omega (arith, eqb-true v 0 g)
+    go false g = psw-fits v g
+
+tag-fits : (t : ℕ) → tagSound t ≡ true → t < 256 ^ 1
+unfolding tagSound
+tag-fits t g = go (leb t 6) (leb t 14) refl refl g
+  where
+    go : (a b : Bool) → leb t 6 ≡ a → leb t 14 ≡ b → a || (leb 8 t && b) ≡ true → t < 256 ^ 1
+    go true b e f g = omega (arith, leb-true t 6 e)
+    go false true e f g = omega (arith, leb-true t 14 f)
+    go false false e f g = absurd (false≢true (and-right (leb 8 t) false g))
+
+state-fits : (t : ℕ) → stateSound t ≡ true → t < 256 ^ 1
+unfolding stateSound
+state-fits t g = omega (arith, leb-true t 1 g)
 
 -- ---- values
 
-num-good : (w : ℕ) (e : Refusal) (good : ℕ → Bool) (v : ℕ) → num w e good .ok v ≡ true → good v ≡ true
-unfolding num
-num-good w e good v h = and-right (ltb v (256 ^ w)) (good v) h
-
-row-sound : (before : ℕ) (r : Row) → rowCodec before .ok r ≡ true → rowSound before r ≡ true
+row-ok : (before : ℕ) (r : Row) → rowCodec before .ok r ≡ rowSound before r
 unfolding rowCodec via seq rowSound basesSound
-row-sound before r h =
+row-ok before r =
     simp and-assoc
-    (and-map (num-good 1 TaskField (taskSound before) (r .task))
-    (and-map (num-good 2 TaskField (bits 12) (r .cb))
-    (and-map (num-good 2 TaskField (bits 10) (r .rb))
-    (and-map (num-good 2 TaskField (bits 10) (r .rl))
-    (and-map (num-good 2 TaskField (bits 16) (r .pb))
-    (and-map (num-good 2 TaskField (bits 16) (r .pl))
-    (and-map (num-good 4 TaskField (bits 24) (r .db))
-    (and-map (num-good 4 TaskField (bits 24) (r .dl))
-    (and-map (num-good 1 TaskField kindSound (r .kind)) (num-good 8 TaskField (recordSound (r .kind)) (r .psw)))))))))) h)
+    (ap₂ _&&_ (num-ok 1 TaskField (taskSound before) (task-fits before) (r .task))
+    (ap₂ _&&_ (bits-ok 12 2 TaskField (omega arith) (r .cb))
+    (ap₂ _&&_ (bits-ok 10 2 TaskField (omega arith) (r .rb))
+    (ap₂ _&&_ (bits-ok 10 2 TaskField (omega arith) (r .rl))
+    (ap₂ _&&_ (bits-ok 16 2 TaskField (omega arith) (r .pb))
+    (ap₂ _&&_ (bits-ok 16 2 TaskField (omega arith) (r .pl))
+    (ap₂ _&&_ (bits-ok 24 4 TaskField (omega arith) (r .db))
+    (ap₂ _&&_ (bits-ok 24 4 TaskField (omega arith) (r .dl))
+    (ap₂ _&&_ (num-ok 1 TaskField kindSound kind-fits (r .kind)) (num-ok 8 TaskField (recordSound (r .kind)) (record-fits (r .kind)) (r .psw)))))))))))
 
-rows-sound : (before : ℕ) (rs : List Row) → okMany rowCodec rowTask before rs ≡ true → rowsSound before rs ≡ true
-unfolding okMany rowsSound
-rows-sound before [] h = refl
-rows-sound before (r ∷ rs) h = and-map (row-sound before r) (rows-sound (r .task) rs) h
-
--- ---- a number of each of many values, tested
-
-module _ {S A : Type 0} (c : S → Codec A) (next : S → A → S) (f : A → ℕ) (test : ℕ → Bool) (each : (s : S) (a : A) → c s .ok a ≡ true → test (f a) ≡ true) where
-  many-every : (s : S) (xs : List A) → okMany c next s xs ≡ true → every test (map f xs) ≡ true
-  unfolding okMany every
-  many-every s [] h = refl
-  many-every s (x ∷ xs) h = and-map (each s x) (many-every (next s x) xs) h
-
-word-sound : (v : ℕ) → wordCodec .ok v ≡ true → wordSound v ≡ true
+word-ok : (v : ℕ) → wordCodec .ok v ≡ wordSound v
 unfolding wordCodec num wordSound bits
-word-sound v h = and-left (ltb v (2 ^ 64)) true h
+word-ok v = and-true (ltb v (2 ^ 64))
 
-cell-sound : (tag : ℕ → Bool) (c : Cell) → cellCodec tag .ok c ≡ true → (tag (c .tag) ≡ true) × (wordSound (c .word) ≡ true)
-unfolding cellCodec via seq
-cell-sound tag c = both (num-good 1 CellField tag (c .tag)) (word-sound (c .word))
+module _ (tag : ℕ → Bool) (fits : (t : ℕ) → tag t ≡ true → t < 256 ^ 1) where
+  cell-ok : (c : Cell) → cellCodec tag .ok c ≡ tag (c .tag) && wordSound (c .word)
+  unfolding cellCodec via seq
+  cell-ok c = ap₂ _&&_ (num-ok 1 CellField tag fits (c .tag)) (word-ok (c .word))
 
--- what a process passes
-record Passed (rows : List Row) (p : Process) : Type 0 where
-  pt : ptSound (p .pt) ≡ true
-  task : hasRow (p .task) rows ≡ true
-  psw : pswSound (p .psw) ≡ true
+-- the tasks of the processes ascend from task `before` on
+unfoldable pub ascends : (before : ℕ) → List ℕ → Bool
+ascends before [] = true
+ascends before (t ∷ ts) = leb before t && ascends t ts
 
-process-sound : (rows : List Row) (before : ℕ) (p : Process) → processCodec rows before .ok p ≡ true → Passed rows p
-unfolding processCodec via seq
-process-sound rows before p h =
-    let u =
-    both (num-good 1 ProcessField ptSound (p .pt))
-    (both (λ e. and-right (leb before (p .task)) (hasRow (p .task) rows) (num-good 1 ProcessField (λ t. leb before t && hasRow t rows) (p .task) e))
-    (num-good 8 ProcessField pswSound (p .psw))) h in
-    record { pt = u .0; task = u .1 .0; psw = u .1 .1 }
+module _ (rows : List Row) (ordered : rowsSound 0 rows ≡ true) where
+  process-ok : (before : ℕ) (p : Process)
+      → processCodec rows before .ok p ≡ ptSound (p .pt) && ((leb before (p .task) && hasRow (p .task) rows) && pswSound (p .psw))
+  unfolding processCodec via seq ptSound
+  process-ok before p =
+      ap₂ _&&_ (num-ok 1 ProcessField ptSound (λ v g. omega (arith, ltb-true v 64 g)) (p .pt))
+      (ap₂ _&&_
+      (num-ok 1 ProcessField (λ t. leb before t && hasRow t rows)
+      (λ t g. omega (arith, hasRow-range 0 t rows ordered (and-right (leb before t) (hasRow t rows) g) .1)) (p .task))
+      (num-ok 8 ProcessField pswSound psw-fits (p .psw)))
 
 -- ---- sections
 
 module _ {H S A : Type 0} (head : Codec H) (c : S → Codec A) (next : S → A → S) where
-  section-parts : {P Q : Type 0} (w most : ℕ) (s : S) (h : H) (xs : List A) → (head .ok h ≡ true → P) → (okMany c next s xs ≡ true → Q)
-      → section head c next w most s .ok (h, xs) ≡ true → (length xs ≤ most) × (P × Q)
+  section-ok : (w most : ℕ) → most < 256 ^ w → (s : S) (h : H) (xs : List A)
+      → section head c next w most s .ok (h, xs) ≡ leb (length xs) most && (head .ok h && okMany c next s xs)
   unfolding section count
-  section-parts w most s h xs p q = both (λ e. leb-true (length xs) most (num-good w CountOverLimit (λ n. leb n most) (length xs) e)) (both p q)
+  section-ok w most lt s h xs =
+      ap (λ (b : Bool). b && (head .ok h && okMany c next s xs))
+      (num-ok w CountOverLimit (λ n. leb n most) (λ n g. omega (arith, leb-true n most g)) (length xs))
 
-module _ {S A : Type 0} (c : S → Codec A) (next : S → A → S) where
-  listSection-parts : {P : Type 0} (w most : ℕ) (s : S) (xs : List A) → (okMany c next s xs ≡ true → P) → listSection c next w most s .ok xs ≡ true → (length xs ≤ most) × P
-  unfolding listSection via
-  listSection-parts w most s xs p h = let u = section-parts noHeader c next w most s tt xs (λ e. e) p h in (u .0, u .1 .1)
+listSection-ok : {S A : Type 0} (c : S → Codec A) (next : S → A → S) (w most : ℕ) → most < 256 ^ w → (s : S) (xs : List A)
+    → listSection c next w most s .ok xs ≡ leb (length xs) most && okMany c next s xs
+unfolding listSection via noHeader
+listSection-ok c next w most lt s xs = section-ok noHeader c next w most lt s tt xs
 
-tasks-sound : (rs : List Row) → tasksCodec .ok rs ≡ true → rowsSound 0 rs ≡ true
+rows-ok : (before : ℕ) (rs : List Row) → okMany rowCodec rowTask before rs ≡ rowsSound before rs
+unfolding okMany rowsSound
+rows-ok before [] = refl
+rows-ok before (r ∷ rs) = ap₂ _&&_ (row-ok before r) (rows-ok (r .task) rs)
+
+-- rows in ascending number, 1 to 7, are at most 7
+rows-few : (before : ℕ) (rs : List Row) → before ≤ 7 → rowsSound before rs ≡ true → before + length rs ≤ 7
+unfolding rowsSound rowSound taskSound
+rows-few before [] h e = omega arith
+rows-few before (r ∷ rs) h e =
+    let u = both (both (both (ltb-true before (r .task)) (leb-true (r .task) 7)) (λ k. k)) (λ k. k) e in
+    let n = rows-few (r .task) rs (u .0 .0 .1) (u .1) in
+    omega (arith, u .0 .0 .0)
+
+tasks-ok : (rs : List Row) → tasksCodec .ok rs ≡ rowsSound 0 rs
 unfolding tasksCodec
-tasks-sound rs h = listSection-parts rowCodec rowTask 1 7 0 rs (rows-sound 0 rs) h .1
+tasks-ok rs =
+    listSection-ok rowCodec rowTask 1 7 (omega arith) 0 rs
+    ∙ ap (λ (b : Bool). leb (length rs) 7 && b) (rows-ok 0 rs)
+    ∙ and-implied (leb (length rs) 7) (rowsSound 0 rs) (λ e. le-leb (length rs) 7 (omega (arith, rows-few 0 rs (omega arith) e)))
 
-words-sound : (w most : ℕ) (l : List ℕ) → wordsCodec w most .ok l ≡ true → wordsSound most l ≡ true
+many-words : (l : List ℕ) → okMany (λ _. wordCodec) noState tt l ≡ every wordSound l
+unfolding okMany every
+many-words [] = refl
+many-words (v ∷ l) = ap₂ _&&_ (word-ok v) (many-words l)
+
+words-ok : (w most : ℕ) → most < 256 ^ w → (l : List ℕ) → wordsCodec w most .ok l ≡ wordsSound most l
 unfolding wordsCodec uniformSection wordsSound
-words-sound w most l h =
-    let u = listSection-parts (λ _. wordCodec) noState w most tt l (many-every (λ _. wordCodec) noState (λ x. x) wordSound (λ s. word-sound) tt l) h in
-    also (le-leb (length l) most (u .0)) (rw map-id at (u .1))
+words-ok w most lt l = listSection-ok (λ _. wordCodec) noState w most lt tt l ∙ ap (λ (b : Bool). leb (length l) most && b) (many-words l)
 
-cells-sound : (tag : ℕ → Bool) (w most : ℕ) (l : List Cell) → cellsCodec tag w most .ok l ≡ true → memorySound most tag (memoryOf l) ≡ true
-unfolding cellsCodec uniformSection memorySound wordsSound memoryOf
-cells-sound tag w most l h =
-    let u = listSection-parts (λ _. cellCodec tag) noState w most tt l (λ e. e) h in
-    let tags = many-every (λ _. cellCodec tag) noState tagOf tag (λ s c e. cell-sound tag c e .0) tt l (u .1) in
-    let words = many-every (λ _. cellCodec tag) noState wordOf wordSound (λ s c e. cell-sound tag c e .1) tt l (u .1) in
-    let few : length (map wordOf l) ≤ most = rw length-map (u .0) in
-    also (eq-eqb (length (map tagOf l)) (length (map wordOf l)) (length-map l tagOf ∙ sym (length-map l wordOf)))
-    (also tags (also (le-leb (length (map wordOf l)) most few) words))
+module _ (tag : ℕ → Bool) (fits : (t : ℕ) → tag t ≡ true → t < 256 ^ 1) where
+  many-cells : (l : List Cell) → okMany (λ _. cellCodec tag) noState tt l ≡ every tag (map tagOf l) && every wordSound (map wordOf l)
+  unfolding okMany every
+  many-cells [] = refl
+  many-cells (c ∷ l) = ap₂ _&&_ (cell-ok tag fits c) (many-cells l) ∙ and-cross (tag (c .tag)) (wordSound (c .word)) (every tag (map tagOf l)) (every wordSound (map wordOf l))
+
+  cells-ok : (w most : ℕ) → most < 256 ^ w → (l : List Cell) → cellsCodec tag w most .ok l ≡ memorySound most tag (memoryOf l)
+  unfolding cellsCodec uniformSection memorySound wordsSound memoryOf
+  cells-ok w most lt l =
+      rw (eq-eqb (length (map tagOf l)) (length (map wordOf l)) (length-map l tagOf ∙ sym (length-map l wordOf)), length-map l wordOf)
+      (listSection-ok (λ _. cellCodec tag) noState w most lt tt l
+      ∙ ap (λ (b : Bool). leb (length l) most && b) (many-cells l)
+      ∙ and-turn (leb (length l) most) (every tag (map tagOf l)) (every wordSound (map wordOf l)))
 
 abbrev pub taskOf : Process → ℕ
 taskOf p = p .task
@@ -122,22 +191,45 @@ pub record PassedAll (rows : List Row) (f : ℕ) (ps : List Process) : Type 0 wh
   pub few : length ps ≤ 64
   pub flag : flagSound f ≡ true
   pub pts : every ptSound (map ptOf ps) ≡ true
+  pub ascending : ascends 0 (map taskOf ps) ≡ true
   pub tasks : every (λ t. hasRow t rows) (map taskOf ps) ≡ true
   pub psws : every pswSound (map pswOf ps) ≡ true
 
-processes-sound : (rows : List Row) (flag : ℕ) (ps : List Process) → processesCodec rows .ok (flag, ps) ≡ true → PassedAll rows flag ps
-unfolding processesCodec
-processes-sound rows flag ps h =
-    let u = section-parts (num 1 ProcessField flagSound) (processCodec rows) processTask 1 64 0 flag ps (num-good 1 ProcessField flagSound flag) (λ e. e) h in
-    let many : (f : Process → ℕ) (test : ℕ → Bool) → ((p : Process) → Passed rows p → test (f p) ≡ true) → every test (map f ps) ≡ true =
-    λ f test each. many-every (processCodec rows) processTask f test (λ s p e. each p (process-sound rows s p e)) 0 ps (u .1 .1) in
-    record {
-      few = u .0;
-      flag = u .1 .0;
-      pts = many ptOf ptSound (λ p e. e .pt);
-      tasks = many taskOf (λ t. hasRow t rows) (λ p e. e .task);
-      psws = many pswOf pswSound (λ p e. e .psw);
-    }
+module _ (rows : List Row) (ordered : rowsSound 0 rows ≡ true) where
+  many-processes : (before : ℕ) (ps : List Process)
+      → okMany (processCodec rows) processTask before ps
+      ≡ every ptSound (map ptOf ps) && ((ascends before (map taskOf ps) && every (λ t. hasRow t rows) (map taskOf ps)) && every pswSound (map pswOf ps))
+  unfolding okMany every ascends
+  many-processes before [] = refl
+  many-processes before (p ∷ ps) =
+      ap₂ _&&_ (process-ok rows ordered before p) (many-processes (p .task) ps)
+      ∙ and-cross (ptSound (p .pt)) _ (every ptSound (map ptOf ps)) _
+      ∙ ap (λ (b : Bool). (ptSound (p .pt) && every ptSound (map ptOf ps)) && b)
+      (and-cross (leb before (p .task) && hasRow (p .task) rows) (pswSound (p .psw)) _ (every pswSound (map pswOf ps))
+      ∙ ap (λ (b : Bool). b && (pswSound (p .psw) && every pswSound (map pswOf ps)))
+      (and-cross (leb before (p .task)) (hasRow (p .task) rows) (ascends (p .task) (map taskOf ps)) (every (λ t. hasRow t rows) (map taskOf ps))))
+
+  processes-ok : (flag : ℕ) (ps : List Process)
+      → processesCodec rows .ok (flag, ps)
+      ≡ leb (length ps) 64 && (flagSound flag && (every ptSound (map ptOf ps)
+      && ((ascends 0 (map taskOf ps) && every (λ t. hasRow t rows) (map taskOf ps)) && every pswSound (map pswOf ps))))
+  unfolding processesCodec flagSound
+  processes-ok flag ps =
+      section-ok (num 1 ProcessField flagSound) (processCodec rows) processTask 1 64 (omega arith) 0 flag ps
+      ∙ ap (λ (b : Bool). leb (length ps) 64 && b)
+      (ap₂ _&&_ (num-ok 1 ProcessField flagSound (λ f g. omega (arith, leb-true f 1 g)) flag) (many-processes 0 ps))
+
+  processes-pass : (flag : ℕ) (ps : List Process) → processesCodec rows .ok (flag, ps) ≡ true → PassedAll rows flag ps
+  processes-pass flag ps h =
+      let u = both (leb-true (length ps) 64) (both (λ k. k) (both (λ k. k) (both (both (λ k. k) (λ k. k)) (λ k. k)))) (sym (processes-ok flag ps) ∙ h) in
+      record { few = u .0; flag = u .1 .0; pts = u .1 .1 .0; ascending = u .1 .1 .1 .0 .0; tasks = u .1 .1 .1 .0 .1; psws = u .1 .1 .1 .1 }
+
+  pass-processes : (flag : ℕ) (ps : List Process) → PassedAll rows flag ps → processesCodec rows .ok (flag, ps) ≡ true
+  pass-processes flag ps p =
+      processes-ok flag ps
+      ∙ also (le-leb (length ps) 64 (p .few)) (also (p .flag) (also (p .pts) (also (also (p .ascending) (p .tasks)) (p .psws))))
+
+-- ---- the whole
 
 -- what a value of the image's format passes
 pub record PassedImage (i : Image) : Type 0 where
@@ -148,20 +240,41 @@ pub record PassedImage (i : Image) : Type 0 where
   pub program : wordsSound (2 ^ 20) (i .program) ≡ true
   pub dataWords : memorySound (2 ^ 20) stateSound (memoryOf (i .dataWords)) ≡ true
 
+constants-ok : (l : List ℕ) → wordsCodec 2 4096 .ok l ≡ wordsSound 4096 l
+constants-ok = words-ok 2 4096 (omega arith)
+
+registers-ok : (l : List Cell) → cellsCodec tagSound 2 2048 .ok l ≡ memorySound 2048 tagSound (memoryOf l)
+registers-ok = cells-ok tagSound tag-fits 2 2048 (omega arith)
+
+program-ok : (l : List ℕ) → wordsCodec 4 (2 ^ 20) .ok l ≡ wordsSound (2 ^ 20) l
+program-ok = words-ok 4 (2 ^ 20) (omega arith)
+
+dataWords-ok : (l : List Cell) → cellsCodec stateSound 4 (2 ^ 20) .ok l ≡ memorySound (2 ^ 20) stateSound (memoryOf l)
+dataWords-ok = cells-ok stateSound state-fits 4 (2 ^ 20) (omega arith)
+
 pub image-passes : (i : Image) → imageCodec .ok i ≡ true → PassedImage i
 unfolding imageCodec via seq
 image-passes i h =
     let u =
-    both (tasks-sound (i .rows))
-    (both (processes-sound (i .rows) (i .flag) (i .processes))
-    (both (words-sound 2 4096 (i .constants))
-    (both (cells-sound tagSound 2 2048 (i .registers))
-    (both (words-sound 4 (2 ^ 20) (i .program)) (cells-sound stateSound 4 (2 ^ 20) (i .dataWords)))))) h in
+    both (λ e. sym (tasks-ok (i .rows)) ∙ e)
+    (both (λ e. e)
+    (both (λ e. sym (constants-ok (i .constants)) ∙ e)
+    (both (λ e. sym (registers-ok (i .registers)) ∙ e)
+    (both (λ e. sym (program-ok (i .program)) ∙ e) (λ e. sym (dataWords-ok (i .dataWords)) ∙ e))))) h in
     record {
       rows = u .0;
-      processes = u .1 .0;
+      processes = processes-pass (i .rows) (u .0) (i .flag) (i .processes) (u .1 .0);
       constants = u .1 .1 .0;
       registers = u .1 .1 .1 .0;
       program = u .1 .1 .1 .1 .0;
       dataWords = u .1 .1 .1 .1 .1;
     }
+
+pub passes-image : (i : Image) → PassedImage i → imageCodec .ok i ≡ true
+unfolding imageCodec via seq
+passes-image i p =
+    also (tasks-ok (i .rows) ∙ p .rows)
+    (also (pass-processes (i .rows) (p .rows) (i .flag) (i .processes) (p .processes))
+    (also (constants-ok (i .constants) ∙ p .constants)
+    (also (registers-ok (i .registers) ∙ p .registers)
+    (also (program-ok (i .program) ∙ p .program) (dataWords-ok (i .dataWords) ∙ p .dataWords)))))

@@ -1,0 +1,224 @@
+-- The fields of a state pass the tests of an image exactly if the state is sound, where its arrays have the machine's lengths.
+use Prim.Native.Nat.{ℕ, suc, _≤_}
+use mathlib.Core.Path.{_≡_, refl, sym, ap, ap₂, _∙_}
+use mathlib.Core.Bool.{Bool, true, false, _&&_, _||_}
+use mathlib.Core.List.{List, [], _∷_, _++_, map, map-id}
+use native.Mathlib.Omega.{arith}
+use lib.ListN.{length, getD, length-map, length-append}
+use lib.Dec.{eqb, eqb·suc-zero}
+use borrow.Author.Tests.{eqb-true, le-leb}
+use Rattle.window.specs.declared.Row.{Row}
+use Rattle.window.specs.Memories.{Memory, memory, wordOf}
+use Rattle.word.specs.Laws.Bools.{or-right, and-left}
+use Rattle.word.specs.Laws.Conjunctions.{also, both}
+use Rattle.step.specs.declared.Queue.{Queue}
+use Rattle.step.specs.Queues.{listOf, livePts}
+use Rattle.step.specs.State.{State, pswsOf}
+use Rattle.step.specs.Soundness.{every, distinct, hasRow, queueShaped, queuesSound, ptSound, roomSound, memorySound, windowsSound, sound}
+use Rattle.window.specs.Sound.{tagSound, stateSound}
+use Rattle.word.specs.Fields.{pswSound}
+use Rattle.step.specs.Laws.Occurrences.{length-once}
+use Rattle.step.specs.Laws.Queues.{length-list}
+use Rattle.step.specs.Laws.Sound.{sound-parts, sound-whole, tidy-of}
+use Rattle.image.specs.declared.Process.{Process}
+use Rattle.image.specs.Image.{ptOf, processesIn, processesFrom, cellsOf, memoryOf, imageOf}
+use Rattle.image.specs.Laws.Conjoined.{and-true, and-cross}
+use Rattle.image.specs.Laws.Passed.{taskOf, pswOf, ascends}
+use Rattle.image.specs.Laws.Accepted.{Accepted}
+use Rattle.image.specs.Laws.Table.{placesFull}
+
+-- ---- memories
+
+memory-again : (tags words : List ℕ) → length tags ≡ length words → memoryOf (cellsOf tags words) ≡ memory tags words
+unfolding memoryOf cellsOf
+memory-again [] [] h = refl
+memory-again [] (w ∷ words) h = absurd (omega arith)
+memory-again (t ∷ tags) [] h = absurd (omega arith)
+memory-again (t ∷ tags) (w ∷ words) h = ap (λ (m : Memory). memory (t ∷ m .tags) (w ∷ m .words)) (memory-again tags words (omega arith))
+
+length-cells : (tags words : List ℕ) → length tags ≡ length words → length (cellsOf tags words) ≡ length words
+unfolding memoryOf
+length-cells tags words h = sym (length-map (cellsOf tags words) wordOf) ∙ ap (λ (m : Memory). length (m .words)) (memory-again tags words h)
+
+-- ---- PTs and PSWs: a number of each process that its PT gives
+
+module _ (psw : List ℕ) (g : ℕ → ℕ) (f : Process → ℕ) (is : (t p : ℕ) → f (record { pt = p; task = t; psw = getD psw p 0 }) ≡ g p) where
+  map-in : (t : ℕ) (pts : List ℕ) (ps : List Process) (l : List ℕ) → map f ps ≡ map g l → map f (processesIn psw t pts ++ ps) ≡ map g (pts ++ l)
+  unfolding processesIn
+  map-in t [] ps l h = h
+  map-in t (p ∷ pts) ps l h = ap₂ {A = ℕ} {B = List ℕ} {C = List ℕ} (λ x xs. x ∷ xs) (is t p) (map-in t pts ps l h)
+
+  map-from : (t : ℕ) (qs : List Queue) → map f (processesFrom psw t qs) ≡ map g (livePts qs)
+  unfolding processesFrom livePts
+  map-from t [] = refl
+  map-from t (q ∷ qs) = map-in t (listOf q) (processesFrom psw (suc t) qs) (livePts qs) (map-from (suc t) qs)
+
+pts-from : (psw : List ℕ) (t : ℕ) (qs : List Queue) → map ptOf (processesFrom psw t qs) ≡ livePts qs
+pts-from psw t qs = map-from psw (λ p. p) ptOf (λ t p. refl) t qs ∙ map-id (livePts qs)
+
+psws-from : (psw : List ℕ) (t : ℕ) (qs : List Queue) → map pswOf (processesFrom psw t qs) ≡ pswsOf psw (livePts qs)
+unfolding pswsOf
+psws-from psw t qs = map-from psw (λ p. getD psw p 0) pswOf (λ t p. refl) t qs
+
+length-from : (psw : List ℕ) (t : ℕ) (qs : List Queue) → length (processesFrom psw t qs) ≡ length (livePts qs)
+length-from psw t qs = sym (length-map (processesFrom psw t qs) ptOf) ∙ ap length (pts-from psw t qs)
+
+-- ---- tasks
+
+module _ (psw : List ℕ) where
+  ascends-in : (b t : ℕ) (pts : List ℕ) (ps : List Process) → b ≤ t → ((c : ℕ) → c ≤ t → ascends c (map taskOf ps) ≡ true)
+      → ascends b (map taskOf (processesIn psw t pts ++ ps)) ≡ true
+  unfolding processesIn ascends
+  ascends-in b t [] ps h k = k b h
+  ascends-in b t (p ∷ pts) ps h k = also (le-leb b t h) (ascends-in t t pts ps (omega arith) k)
+
+  ascends-from : (b t : ℕ) (qs : List Queue) → b ≤ t → ascends b (map taskOf (processesFrom psw t qs)) ≡ true
+  unfolding processesFrom ascends
+  ascends-from b t [] h = refl
+  ascends-from b t (q ∷ qs) h = ascends-in b t (listOf q) (processesFrom psw (suc t) qs) h (λ c k. ascends-from c (suc t) qs (omega arith))
+
+module _ (psw : List ℕ) (rows : List Row) where
+  rows-in : (t : ℕ) (pts : List ℕ) (ps : List Process)
+      → every (λ u. hasRow u rows) (map taskOf (processesIn psw t pts ++ ps)) ≡ (eqb (length pts) 0 || hasRow t rows) && every (λ u. hasRow u rows) (map taskOf ps)
+  unfolding processesIn every
+  rows-in t [] ps = refl
+  rows-in t (p ∷ pts) ps =
+      ap (λ (b : Bool). hasRow t rows && b) (rows-in t pts ps)
+      ∙ go (hasRow t rows) (eqb (length pts) 0) (every (λ u. hasRow u rows) (map taskOf ps))
+      ∙ ap (λ (b : Bool). (b || hasRow t rows) && every (λ u. hasRow u rows) (map taskOf ps)) (sym (eqb·suc-zero (length pts)))
+    where
+      go : (a b c : Bool) → a && ((b || a) && c) ≡ a && c
+      go true b c = ap (λ (x : Bool). x && c) (or-right b true refl)
+      go false b c = refl
+
+  -- the queues are in arrays of 64, and the tasks of their processes are listed
+  queues-fields : (t : ℕ) (qs : List Queue) → length (livePts qs) ≤ 64
+      → queuesSound rows t qs ≡ placesFull qs && every (λ u. hasRow u rows) (map taskOf (processesFrom psw t qs))
+  unfolding queuesSound queueShaped processesFrom livePts every
+  queues-fields t [] h = refl
+  queues-fields t (q ∷ qs) h =
+      let n = length-append (listOf q) (livePts qs) in
+      let l = length-list q in
+      let full = eqb (length (q .pts)) 64 in
+      let others = placesFull qs in
+      let has = eqb (q .len) 0 || hasRow t rows in
+      let have = every (λ u. hasRow u rows) (map taskOf (processesFrom psw (suc t) qs)) in
+      ap₂ _&&_
+      (ap (λ (b : Bool). (full && b) && has) (le-leb (q .len) 64 (omega arith)) ∙ ap (λ (b : Bool). b && has) (and-true full))
+      (queues-fields (suc t) qs (omega arith))
+      ∙ and-cross full has others have
+      ∙ ap (λ (b : Bool). (full && others) && b)
+      (ap (λ (m : ℕ). (eqb m 0 || hasRow t rows) && have) (sym l) ∙ sym (rows-in t (listOf q) (processesFrom psw (suc t) qs)))
+
+-- ---- the whole
+
+-- what no image shows of a state
+pub record Shape (s : State) : Type 0 where
+  pub wide : length (s .table .psw) ≡ 64
+  pub seven : length (s .table .queues) ≡ 7
+  pub full : placesFull (s .table .queues) ≡ true
+  pub registers : length (s .registers .tags) ≡ length (s .registers .words)
+  pub dataWords : length (s .dataWords .tags) ≡ length (s .dataWords .words)
+
+paired-of : (most : ℕ) (tag : ℕ → Bool) (m : Memory) → memorySound most tag m ≡ true → length (m .tags) ≡ length (m .words)
+unfolding memorySound
+paired-of most tag m e = eqb-true (length (m .tags)) (length (m .words)) (and-left (eqb (length (m .tags)) (length (m .words))) _ e)
+
+-- at most 64 processes live
+few-live : (s : State) → sound s ≡ true → length (livePts (s .table .queues)) ≤ 64
+few-live s e =
+    let tidy = tidy-of (s .rows) (s .table) (sound-parts s e .table) in
+    length-once 64 (livePts (s .table .queues)) (tidy .once) (tidy .small)
+
+queues-parts : (s : State) → sound s ≡ true
+    → (placesFull (s .table .queues) ≡ true)
+    × (every (λ u. hasRow u (s .rows)) (map taskOf (processesFrom (s .table .psw) 1 (s .table .queues))) ≡ true)
+queues-parts s e =
+    both (λ k. k) (λ k. k) (sym (queues-fields (s .table .psw) (s .rows) 1 (s .table .queues) (few-live s e)) ∙ sound-parts s e .table .queues)
+
+pub shape-of : (s : State) → sound s ≡ true → Shape s
+shape-of s e =
+    let p = sound-parts s e in
+    record {
+      wide = p .table .wide;
+      seven = p .table .seven;
+      full = queues-parts s e .0;
+      registers = paired-of 2048 tagSound (s .registers) (p .memories .registers);
+      dataWords = paired-of _ stateSound (s .dataWords) (p .memories .dataWords);
+    }
+
+-- ends of windows in a state and in its image
+windows-same : (s : State) → Shape s
+    → windowsSound (length (imageOf s .registers)) (length (imageOf s .program)) (length (imageOf s .dataWords)) (imageOf s .rows)
+    ≡ windowsSound (length (s .registers .words)) (length (s .program)) (length (s .dataWords .words)) (s .rows)
+unfolding imageOf
+windows-same s h =
+    ap₂ (λ (m n : ℕ). windowsSound m (length (s .program)) n (s .rows))
+    (length-cells (s .registers .tags) (s .registers .words) (h .registers))
+    (length-cells (s .dataWords .tags) (s .dataWords .words) (h .dataWords))
+
+registers-same : (s : State) → Shape s → memoryOf (imageOf s .registers) ≡ s .registers
+unfolding imageOf
+registers-same s h = memory-again (s .registers .tags) (s .registers .words) (h .registers)
+
+dataWords-same : (s : State) → Shape s → memoryOf (imageOf s .dataWords) ≡ s .dataWords
+unfolding imageOf
+dataWords-same s h = memory-again (s .dataWords .tags) (s .dataWords .words) (h .dataWords)
+
+pub sound-accepted : (s : State) → sound s ≡ true → Accepted (imageOf s)
+unfolding imageOf
+sound-accepted s e =
+    let p = sound-parts s e in
+    let h = shape-of s e in
+    let psw = s .table .psw in
+    let qs = s .table .queues in
+    record {
+      fields = record {
+        rows = p .rows;
+        processes = record {
+          few = omega (arith, few-live s e, length-from psw 1 qs);
+          flag = p .table .flag;
+          pts = ap (every ptSound) (pts-from psw 1 qs) ∙ p .table .small;
+          ascending = ascends-from psw 0 1 qs (omega arith);
+          tasks = queues-parts s e .1;
+          psws = ap (every pswSound) (psws-from psw 1 qs) ∙ p .table .psws;
+        };
+        constants = p .memories .constants;
+        registers = ap (memorySound 2048 tagSound) (registers-same s h) ∙ p .memories .registers;
+        program = p .memories .program;
+        dataWords = ap (memorySound _ stateSound) (dataWords-same s h) ∙ p .memories .dataWords;
+      };
+      after = record {
+        windows = windows-same s h ∙ p .windows;
+        once = ap distinct (pts-from psw 1 qs) ∙ p .table .once;
+        room = ap (λ (n : ℕ). roomSound n (s .table .flag)) (length-from psw 1 qs) ∙ p .table .room;
+      };
+    }
+
+pub accepted-sound : (s : State) → Shape s → Accepted (imageOf s) → sound s ≡ true
+unfolding imageOf
+accepted-sound s h a =
+    let psw = s .table .psw in
+    let qs = s .table .queues in
+    let i = a .fields in
+    let few : length (livePts qs) ≤ 64 = omega (arith, i .processes .few, length-from psw 1 qs) in
+    sound-whole s (record {
+      rows = i .rows;
+      table = record {
+        wide = h .wide;
+        seven = h .seven;
+        queues = queues-fields psw (s .rows) 1 qs few ∙ also (h .full) (i .processes .tasks);
+        once = ap distinct (sym (pts-from psw 1 qs)) ∙ a .after .once;
+        small = ap (every ptSound) (sym (pts-from psw 1 qs)) ∙ i .processes .pts;
+        psws = ap (every pswSound) (sym (psws-from psw 1 qs)) ∙ i .processes .psws;
+        flag = i .processes .flag;
+        room = ap (λ (n : ℕ). roomSound n (s .table .flag)) (sym (length-from psw 1 qs)) ∙ a .after .room;
+      };
+      memories = record {
+        constants = i .constants;
+        registers = ap (memorySound 2048 tagSound) (sym (registers-same s h)) ∙ i .registers;
+        program = i .program;
+        dataWords = ap (memorySound _ stateSound) (sym (dataWords-same s h)) ∙ i .dataWords;
+      };
+      windows = sym (windows-same s h) ∙ a .after .windows;
+    })
