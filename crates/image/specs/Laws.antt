@@ -9,4 +9,5 @@ pub mod Table
 pub mod Again
 pub mod Fields
 pub mod DecodeSound
+pub mod Trips
 pub mod Opened
