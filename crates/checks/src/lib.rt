@@ -123,7 +123,7 @@ pub fn masked_sources(psw: u64, d: u8, a: u8, b: u8) -> bool
 }
 
 // D, S1, an unused field.
-pub fn illegal_single(first: u16, second: u16, third: u16) -> bool
+pub fn illegal_d_s1(first: u16, second: u16, third: u16) -> bool
     ensures { λ r. ⌜ r ≡ illegalField Destination first || (illegalField Source second || illegalField Unused third) ⌝ }
 {
     if operand::illegal_field(Role::Destination, first) {
@@ -135,7 +135,7 @@ pub fn illegal_single(first: u16, second: u16, third: u16) -> bool
     operand::illegal_field(Role::Unused, third)
 }
 
-pub fn waits_single(first: u16, d: u8, second: u16, a: u8) -> bool
+pub fn waits_d_s1(first: u16, d: u8, second: u16, a: u8) -> bool
     ensures { λ r. ⌜ r ≡ waitsOf Destination (accessOf first) d || waitsOf Source (accessOf second) a ⌝ }
 {
     if operand::waits(Role::Destination, operand::access(first), d) {
@@ -144,7 +144,7 @@ pub fn waits_single(first: u16, d: u8, second: u16, a: u8) -> bool
     operand::waits(Role::Source, operand::access(second), a)
 }
 
-pub fn executed_single(
+pub fn executed_d_s1(
     first: u16,
     d: Operand,
     second: u16,

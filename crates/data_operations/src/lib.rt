@@ -92,17 +92,17 @@ fn load_leaves(low: u16, a: usize, word: u64) -> Write
 }
 
 // D, S1, an unused field.
-fn illegal_load_single(low: u16, first: u16, second: u16, third: u16) -> bool
+fn illegal_load_d_s1(low: u16, first: u16, second: u16, third: u16) -> bool
     ensures { λ r. ⌜ r ≡ illegalLoad low || (illegalField Destination first || (illegalField Source second || illegalField Unused third)) ⌝ }
 {
     if illegal_load(low) {
         return true;
     }
-    checks::illegal_single(first, second, third)
+    checks::illegal_d_s1(first, second, third)
 }
 
 // D, S1 and the data word at the real word address p.
-fn loaded_single(
+fn loaded_d_s1(
     low: u16,
     p: usize,
     psw: u64,
@@ -126,7 +126,7 @@ fn loaded_single(
     };
     let leaves = load_leaves(low, p, k.word);
     let fate = Fate::Continues(word::next(psw));
-    checks::executed_single(first, d, second, a, x, out, leaves, fate)
+    checks::executed_d_s1(first, d, second, a, x, out, leaves, fate)
 }
 
 fn load_indirect_found(
@@ -147,7 +147,7 @@ fn load_indirect_found(
 {
     let t = operand::cell(tags, words, constants, d);
     let x = operand::cell(tags, words, constants, a);
-    if checks::waits_single(first, t.tag, second, x.tag) {
+    if checks::waits_d_s1(first, t.tag, second, x.tag) {
         return Decision::Waits(Wait::Access);
     }
     if operand::masked(Role::Source, psw, x.tag) {
@@ -155,7 +155,7 @@ fn load_indirect_found(
     }
     match word_place(low, row, indirect_address(x.word)) {
         Reach::Stops(k) => Decision::Traps(k, psw),
-        Reach::Reaches(p) => loaded_single(
+        Reach::Reaches(p) => loaded_d_s1(
             low,
             p,
             psw,
@@ -185,7 +185,7 @@ pub fn load_indirect(
 ) -> Decision
     ensures { λ r. ⌜ ((code flag : ℕ) (program : List ℕ) → r ≡ decideListed (roles Destination Source Unused) (LoadIndirect low) (environmentOf row psw flag program (now (constants .entry)) (memory (now (tags .entry)) (now (words .entry))) (memory (now (data_tags .entry)) (now (data_words .entry)))) (instruction code first second third)) ⌝ }
 {
-    if illegal_load_single(low, first, second, third) {
+    if illegal_load_d_s1(low, first, second, third) {
         return Decision::Traps(Trap::IllegalInstruction, psw);
     }
     let Lookup::Found(d) = operand::lookup_of(Role::Destination, row, psw, first) else {
@@ -377,7 +377,7 @@ fn illegal_store_pair(low: u16, first: u16, second: u16, third: u16) -> bool
 }
 
 // S1, S2 and the data word at the real word address p.
-fn stored_pair(
+fn stored_two(
     low: u16,
     p: usize,
     psw: u64,
@@ -437,7 +437,7 @@ fn store_indirect_found(
     }
     match word_place(low, row, indirect_address(x.word)) {
         Reach::Stops(k) => Decision::Traps(k, psw),
-        Reach::Reaches(p) => stored_pair(
+        Reach::Reaches(p) => stored_two(
             low,
             p,
             psw,

@@ -1,6 +1,6 @@
 use borrow.Author.Needs.{needs}
-use Rattle.checks.proofs.executed_single.Statement.{statement}
-use Rattle.checks.proofs.executed_single.Tie as tie
+use Rattle.checks.proofs.executed_d_s1.Statement.{statement}
+use Rattle.checks.proofs.executed_d_s1.Tie as tie
 
 access-requires : tie.Need-access-requires
 access-requires c κs = search needs
@@ -17,8 +17,8 @@ destination-left-requires c κs = search needs
 returns : tie.Need-returns
 returns c = simp (← c .destination-left .ensures, ← c .before .access2 .ensures, ← c .before .before .source-left .ensures, ← c .before .before .before .access .ensures)
 
-pub executed-single-spec : {M : Type 1} → statement M
-executed-single-spec =
+pub executed-d-s1-spec : {M : Type 1} → statement M
+executed-d-s1-spec =
     tie.close
     (tie.spec
     access-requires

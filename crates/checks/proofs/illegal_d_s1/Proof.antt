@@ -1,6 +1,6 @@
 use borrow.Author.Needs.{needs}
-use Rattle.checks.proofs.illegal_single.Statement.{statement}
-use Rattle.checks.proofs.illegal_single.Tie as tie
+use Rattle.checks.proofs.illegal_d_s1.Statement.{statement}
+use Rattle.checks.proofs.illegal_d_s1.Tie as tie
 
 illegal-field-requires : tie.Need-illegal-field-requires
 illegal-field-requires c κs = search needs
@@ -20,8 +20,8 @@ illegal-field-requires-3 c κs = search needs
 returns-3 : tie.Need-returns-3
 returns-3 c = simp (← c .illegal-field3 .ensures, c .before .if2 .left, ← c .before .before .illegal-field2 .ensures, c .before .before .before .if1 .left, ← c .before .before .before .before .illegal-field .ensures)
 
-pub illegal-single-spec : {M : Type 1} → statement M
-illegal-single-spec =
+pub illegal-d-s1-spec : {M : Type 1} → statement M
+illegal-d-s1-spec =
     tie.close
     (tie.spec
     illegal-field-requires
