@@ -5,8 +5,9 @@ ghost use mathlib.Core.Bool.{_||_};
 ghost use mathlib.Core.List.{List};
 ghost use Rattle.word.specs.declared.Instruction.{Instruction};
 ghost use Rattle.window.specs.declared.Cell.{Cell};
+ghost use Rattle.window.specs.declared.Write.the-variants.{Put};
 ghost use Rattle.window.specs.Windows.{bytePlace};
-ghost use Rattle.window.specs.Memories.{memory, cellAt};
+ghost use Rattle.window.specs.Memories.{memory, cell, cellAt};
 ghost use Rattle.operand.specs.declared.Role.the-variants.{Unused, Destination, Source};
 ghost use Rattle.operand.specs.declared.Operand.the-variants.{Absent};
 ghost use Rattle.operand.specs.Field.{illegalField};
@@ -170,6 +171,7 @@ fn load_indirect_found(
     }
 }
 
+// LODI: D gets the data word at the address S1.
 pub fn load_indirect(
     low: u16,
     row: Row,
@@ -298,6 +300,7 @@ fn load_indexed_found(
     }
 }
 
+// LODX: D gets the data word at the address S1 plus S2.
 pub fn load_indexed(
     low: u16,
     row: Row,
@@ -366,6 +369,13 @@ fn store_waits(low: u16, tag: u8) -> bool
     false
 }
 
+// A store leaves full.
+fn store_leaves(a: usize, word: u64) -> Write
+    ensures { λ r. ⌜ r ≡ Put a (cell 1 word) ⌝ }
+{
+    Write::Put(a, Cell { tag: 1, word })
+}
+
 // An unused field, S1, S2.
 fn illegal_store_pair(low: u16, first: u16, second: u16, third: u16) -> bool
     ensures { λ r. ⌜ r ≡ illegalStore low || (illegalField Unused first || (illegalField Source second || illegalField Source third)) ⌝ }
@@ -400,13 +410,7 @@ fn stored_two(
         second: operand::source_left(Role::Source, operand::access(second), a, x),
         third: operand::source_left(Role::Source, operand::access(third), b, y),
         destination: Write::Nothing,
-        datum: Write::Put(
-            p,
-            Cell {
-                tag: 1,
-                word: y.word,
-            },
-        ),
+        datum: store_leaves(p, y.word),
         fate: Fate::Continues(word::next(psw)),
     })
 }
@@ -453,6 +457,7 @@ fn store_indirect_found(
     }
 }
 
+// STOI: S2 goes to the data word at the address S1.
 pub fn store_indirect(
     low: u16,
     row: Row,
@@ -506,6 +511,7 @@ fn illegal_store_sources(low: u16, first: u16, second: u16, third: u16) -> bool
     checks::illegal_two(second, third)
 }
 
+// S0, S1, S2 and the data word at the real word address p.
 fn stored_sources(
     low: u16,
     p: usize,
@@ -532,13 +538,7 @@ fn stored_sources(
         second: operand::source_left(Role::Source, operand::access(second), a, x),
         third: operand::source_left(Role::Source, operand::access(third), b, y),
         destination: Write::Nothing,
-        datum: Write::Put(
-            p,
-            Cell {
-                tag: 1,
-                word: t.word,
-            },
-        ),
+        datum: store_leaves(p, t.word),
         fate: Fate::Continues(word::next(psw)),
     })
 }
@@ -591,6 +591,7 @@ fn store_indexed_found(
     }
 }
 
+// STOX: S0 goes to the data word at the address S1 plus S2.
 pub fn store_indexed(
     low: u16,
     row: Row,

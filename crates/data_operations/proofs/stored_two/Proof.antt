@@ -27,12 +27,15 @@ access-requires-2 c κs = search needs
 source-left-requires-2 : tie.Need-source-left-requires-2
 source-left-requires-2 c κs = search needs
 
+store-leaves-requires : tie.Need-store-leaves-requires
+store-leaves-requires c κs = search needs
+
 next-requires : tie.Need-next-requires
 next-requires c κs = search needs
 
 returns-2 : tie.Need-returns-2
 unfolding storeWord executed leftOf sourceLeft cellAt
-returns-2 c = λ first t. simp (← c .next .ensures, ← c .before .source-left2 .ensures, ← c .before .before .access2 .ensures, ← c .before .before .before .source-left .ensures, ← c .before .before .before .before .access .ensures, c .before .before .before .before .before .if1 .left, ← c .before .before .before .before .before .before .store-waits .ensures, ← c .before .before .before .before .before .before .before .tag-at .ensures)
+returns-2 c = λ first t. simp (← c .next .ensures, ← c .before .store-leaves .ensures, ← c .before .before .source-left2 .ensures, ← c .before .before .before .access2 .ensures, ← c .before .before .before .before .source-left .ensures, ← c .before .before .before .before .before .access .ensures, c .before .before .before .before .before .before .if1 .left, ← c .before .before .before .before .before .before .before .store-waits .ensures, ← c .before .before .before .before .before .before .before .before .tag-at .ensures)
 
 pub stored-two-spec : {M : Type 1} → statement M
 stored-two-spec =
@@ -45,5 +48,6 @@ stored-two-spec =
     source-left-requires
     access-requires-2
     source-left-requires-2
+    store-leaves-requires
     next-requires
     returns-2)
