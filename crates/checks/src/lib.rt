@@ -16,7 +16,7 @@ use window::Write;
 use word::Outcome;
 
 // Two unused fields.
-fn illegal_unused(a: u16, b: u16) -> bool
+pub fn illegal_unused(a: u16, b: u16) -> bool
     ensures { λ r. ⌜ r ≡ illegalField Unused a || illegalField Unused b ⌝ }
 {
     if operand::illegal_field(Role::Unused, a) {
