@@ -1,50 +1,40 @@
+use Rattle.operation.specs.Decide.{decideFound, operandsWait, operandWaits, operandsMasked, operandMasked}
+use Rattle.operation.specs.FoundOperands.{foundAt, allFoundAt}
+use Rattle.operand.specs.Access.{operandCell, waitsOf, sourceLeft, maskedOf}
+use Rattle.operation.specs.Perform.{perform, executed, leftOf, testOf, performQuit}
 use borrow.Author.Needs.{needs}
 use Rattle.register_operations.proofs.quit_found.Statement.{statement}
 use Rattle.register_operations.proofs.quit_found.Tie as tie
-use Rattle.register_operations.proofs.quit_found.Reads as reads
-use Rattle.register_operations.proofs.quit_found.Lts as lts
-use Rattle.operand.proofs.access.Reads as access-reads
-use Rattle.operand.proofs.cell.Reads as cell-reads
-use Rattle.operand.proofs.masked.Reads as masked-reads
-use Rattle.operand.proofs.source_left.Reads as source-left-reads
-use Rattle.operand.proofs.waits.Reads as waits-reads
-use Rattle.register_operations.proofs.quit_fate.Reads as quit-fate-reads
 
--- src/lib.rt:836:9
 cell-requires : tie.Need-cell-requires
 cell-requires c κs = search needs
 
--- src/lib.rt:837:9
 access-requires : tie.Need-access-requires
 access-requires c κs = search needs
 
--- src/lib.rt:838:8
 waits-requires : tie.Need-waits-requires
 waits-requires c κs = search needs
 
--- src/lib.rt:839:9
 returns : tie.Need-returns
-returns c = ?
+unfolding decideFound operandsWait operandWaits waitsOf operandsMasked operandMasked maskedOf allFoundAt foundAt operandCell perform executed leftOf sourceLeft testOf performQuit
+returns c = λ v i f g e. simp (e, c .if1 .taken, ← c .before .waits .ensures, ← c .before .before .access .ensures, ← c .before .before .before .cell .ensures)
 
--- src/lib.rt:841:8
 masked-requires : tie.Need-masked-requires
 masked-requires c κs = search needs
 
--- src/lib.rt:842:9
 returns-2 : tie.Need-returns-2
-returns-2 c = ?
+unfolding decideFound operandsWait operandWaits waitsOf operandsMasked operandMasked maskedOf allFoundAt foundAt operandCell perform executed leftOf sourceLeft testOf performQuit
+returns-2 c = λ v i f g e. simp (e, c .if2 .taken, ← c .before .masked .ensures, c .before .before .if1 .left, ← c .before .before .before .waits .ensures, ← c .before .before .before .before .access .ensures, ← c .before .before .before .before .before .cell .ensures)
 
--- src/lib.rt:847:16
 source-left-requires : tie.Need-source-left-requires
 source-left-requires c κs = search needs
 
--- src/lib.rt:850:15
 quit-fate-requires : tie.Need-quit-fate-requires
 quit-fate-requires c κs = search needs
 
--- src/lib.rt:825:1
 returns-3 : tie.Need-returns-3
-returns-3 c = ?
+unfolding decideFound operandsWait operandWaits waitsOf operandsMasked operandMasked maskedOf allFoundAt foundAt operandCell perform executed leftOf sourceLeft testOf performQuit
+returns-3 c = λ v i f g e. simp (e, ← c .quit-fate .ensures, ← c .before .source-left .ensures, c .before .before .if2 .left, ← c .before .before .before .masked .ensures, c .before .before .before .before .if1 .left, ← c .before .before .before .before .before .waits .ensures, ← c .before .before .before .before .before .before .access .ensures, ← c .before .before .before .before .before .before .before .cell .ensures)
 
 pub quit-found-spec : {M : Type 1} → statement M
 quit-found-spec =

@@ -1,46 +1,37 @@
+use Rattle.register_operations.proofs.Laws.{or-false}
+use Rattle.operation.specs.Decide.{decideFound, operandsWait, operandWaits, operandsMasked, operandMasked}
+use Rattle.operation.specs.FoundOperands.{foundAt, allFoundAt}
+use Rattle.operand.specs.Access.{operandCell, waitsOf, sourceLeft, maskedOf}
+use Rattle.operation.specs.Perform.{perform, performResult, executed, leftOf, resultIn}
 use borrow.Author.Needs.{needs}
 use Rattle.register_operations.proofs.vector_one_found.Statement.{statement}
 use Rattle.register_operations.proofs.vector_one_found.Tie as tie
-use Rattle.register_operations.proofs.vector_one_found.Reads as reads
-use Rattle.register_operations.proofs.vector_one_found.Lts as lts
-use Rattle.operand.proofs.access.Reads as access-reads
-use Rattle.operand.proofs.cell.Reads as cell-reads
-use Rattle.operand.proofs.destination_left.Reads as destination-left-reads
-use Rattle.operand.proofs.waits.Reads as waits-reads
-use Rattle.word.proofs.next.Reads as next-reads
-use Rattle.word.proofs.vector_of.Reads as vector-of-reads
 
--- src/lib.rt:81:9
 cell-requires : tie.Need-cell-requires
 cell-requires c κs = search needs
 
--- src/lib.rt:82:9
 access-requires : tie.Need-access-requires
 access-requires c κs = search needs
 
--- src/lib.rt:83:8
 waits-requires : tie.Need-waits-requires
 waits-requires c κs = search needs
 
--- src/lib.rt:84:9
 returns : tie.Need-returns
-returns c = ?
+unfolding decideFound operandsWait operandWaits waitsOf operandsMasked operandMasked maskedOf allFoundAt foundAt operandCell perform executed leftOf sourceLeft performResult resultIn
+returns c = λ v i f g e. simp (e, or-false, c .if1 .taken, ← c .before .waits .ensures, ← c .before .before .access .ensures, ← c .before .before .before .cell .ensures)
 
--- src/lib.rt:90:59
 vector-of-requires : tie.Need-vector-of-requires
 vector-of-requires c κs = search needs
 
--- src/lib.rt:90:22
 destination-left-requires : tie.Need-destination-left-requires
 destination-left-requires c κs = search needs
 
--- src/lib.rt:92:31
 next-requires : tie.Need-next-requires
 next-requires c κs = search needs
 
--- src/lib.rt:70:1
 returns-2 : tie.Need-returns-2
-returns-2 c = ?
+unfolding decideFound operandsWait operandWaits waitsOf operandsMasked operandMasked maskedOf allFoundAt foundAt operandCell perform executed leftOf sourceLeft performResult resultIn
+returns-2 c = λ v i f g e. simp (e, or-false, ← c .next .ensures, ← c .before .destination-left .ensures, ← c .before .before .vector-of .ensures, c .before .before .before .if1 .left, ← c .before .before .before .before .waits .ensures, ← c .before .before .before .before .before .access .ensures, ← c .before .before .before .before .before .before .cell .ensures)
 
 pub vector-one-found-spec : {M : Type 1} → statement M
 vector-one-found-spec =
