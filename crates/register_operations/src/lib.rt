@@ -1,4 +1,5 @@
-// Operations on registers and constants: what each decides, from its fields to its effects.
+// Operations on registers and constants, as decisions. Each stands twice: the public function tests the fields and looks the operands up,
+// and the function `_found` decides over the cells there. The operands of the three fields are d, a, b, their cells t, x, y.
 ghost use mathlib.Core.Path.{_≡_};
 ghost use mathlib.Core.Bool.{cond};
 ghost use mathlib.Core.List.{List};
@@ -245,6 +246,7 @@ pub fn vector_three(
     )
 }
 
+// Whether an operation on bits has S2; it always has D and S1.
 pub fn bit_pair(op: Bit) -> bool
     ensures { λ r. ⌜ bitRoles op ≡ roles Destination Source (cond r Source Unused) ⌝ }
 {
@@ -385,7 +387,7 @@ pub fn bit_three(
     )
 }
 
-// Whether S2 is used; S1 always is.
+// Whether an integer operation has S2; it always has D and S1.
 pub fn integer_pair(op: Integer) -> bool
     ensures { λ r. ⌜ integerRoles op ≡ roles Destination Source (cond r Source Unused) ⌝ }
 {
@@ -533,6 +535,7 @@ fn branched_psw(psw: u64, p: u32, s1: u64) -> u64
     )
 }
 
+// On a true test the branch, else PC + 1.
 fn branch_fate(c: u16, p: u16, first: u16, psw: u64, s1: u64, w: u64, t: u8) -> Fate
     ensures { λ r. ⌜ r ≡ Continues (cond (holdsOf c w t psw) (branched psw (p * 2 ^ 16 + first) s1) (nextOf psw)) ⌝ }
 {
@@ -608,7 +611,7 @@ pub fn branch(
     )
 }
 
-// CALL on a true test: PC comes from S1.
+// CALL: PC comes from S1.
 fn called_psw(psw: u64, s1: u64) -> u64
     ensures { λ r. ⌜ r ≡ called psw s1 ⌝ }
 {
@@ -620,6 +623,7 @@ fn called_psw(psw: u64, s1: u64) -> u64
     )
 }
 
+// On a true test the call, else PC + 1.
 fn call_fate(c: u16, psw: u64, s1: u64, w: u64, t: u8) -> Fate
     ensures { λ r. ⌜ r ≡ Continues (cond (holdsOf c w t psw) (called psw s1) (nextOf psw)) ⌝ }
 {
@@ -704,7 +708,7 @@ pub fn call(
     )
 }
 
-// A field of the new PSW: from S1 where the bit, the last digit, is 1.
+// S1's field where the last bit is 1, else the creator's.
 fn taken_field(bit: u16, field: u64, creator: u64) -> u64
     ensures { λ r. ⌜ r ≡ cond (eqb (bit % 2) 1) field creator ⌝ }
 {
@@ -732,6 +736,7 @@ fn create_waits(holds: bool, flag: u8) -> bool
     false
 }
 
+// On a true test a process joins.
 fn create_fate(holds: bool, act: u16, psw: u64, s1: u64) -> Fate
     ensures { λ r. ⌜ r ≡ createFate holds act psw s1 ⌝ }
 {
@@ -812,7 +817,7 @@ pub fn create(
     )
 }
 
-// QT on a true test: the process leaves.
+// On a true test the process leaves.
 fn quit_fate(c: u16, psw: u64, w: u64, t: u8) -> Fate
     ensures { λ r. ⌜ r ≡ cond (holdsOf c w t psw) Quits (Continues (nextOf psw)) ⌝ }
 {
@@ -881,5 +886,6 @@ pub fn svc(psw: u64, second: u16, third: u16) -> Decision
     if checks::illegal_unused(second, third) {
         return Decision::Traps(Trap::IllegalInstruction, psw);
     }
-    Decision::Traps(Trap::SupervisorCall, word::next(psw))
+    let past = word::next(psw);
+    Decision::Traps(Trap::SupervisorCall, past)
 }

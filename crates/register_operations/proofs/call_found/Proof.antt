@@ -19,14 +19,14 @@ waits-three-requires : tie.Need-waits-three-requires
 waits-three-requires c κs = search needs
 
 returns : tie.Need-returns
-unfolding decideFound operandsWait operandWaits operandsMasked operandMasked maskedOf allFoundAt foundAt perform executed leftOf sourceLeft testOf performCall resultIn
+unfolding decideFound operandsWait operandWaits allFoundAt foundAt
 returns c = λ v i e. simp (e, c .if1 .taken, ← c .before .waits-three .ensures, ← c .before .before .cell3 .ensures, ← c .before .before .before .cell2 .ensures, ← c .before .before .before .before .cell .ensures)
 
 masked-two-requires : tie.Need-masked-two-requires
 masked-two-requires c κs = search needs
 
 returns-2 : tie.Need-returns-2
-unfolding decideFound operandsWait operandWaits operandsMasked operandMasked maskedOf allFoundAt foundAt perform executed leftOf sourceLeft testOf performCall resultIn
+unfolding decideFound operandsWait operandWaits allFoundAt foundAt operandsMasked operandMasked maskedOf
 returns-2 c = λ v i e. simp (e, c .if2 .taken, ← c .before .masked-two .ensures, c .before .before .if1 .left, ← c .before .before .before .waits-three .ensures, ← c .before .before .before .before .cell3 .ensures, ← c .before .before .before .before .before .cell2 .ensures, ← c .before .before .before .before .before .before .cell .ensures)
 
 next-requires : tie.Need-next-requires

@@ -16,14 +16,14 @@ waits-requires : tie.Need-waits-requires
 waits-requires c κs = search needs
 
 returns : tie.Need-returns
-unfolding decideFound operandsWait operandWaits waitsOf operandsMasked operandMasked maskedOf allFoundAt foundAt operandCell perform executed leftOf sourceLeft testOf performQuit
+unfolding decideFound operandsWait operandWaits waitsOf allFoundAt foundAt
 returns c = λ v i f g e. simp (e, c .if1 .taken, ← c .before .waits .ensures, ← c .before .before .access .ensures, ← c .before .before .before .cell .ensures)
 
 masked-requires : tie.Need-masked-requires
 masked-requires c κs = search needs
 
 returns-2 : tie.Need-returns-2
-unfolding decideFound operandsWait operandWaits waitsOf operandsMasked operandMasked maskedOf allFoundAt foundAt operandCell perform executed leftOf sourceLeft testOf performQuit
+unfolding decideFound operandsWait operandWaits waitsOf allFoundAt foundAt operandsMasked operandMasked maskedOf
 returns-2 c = λ v i f g e. simp (e, c .if2 .taken, ← c .before .masked .ensures, c .before .before .if1 .left, ← c .before .before .before .waits .ensures, ← c .before .before .before .before .access .ensures, ← c .before .before .before .before .before .cell .ensures)
 
 source-left-requires : tie.Need-source-left-requires

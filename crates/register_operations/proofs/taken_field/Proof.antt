@@ -1,4 +1,4 @@
-use borrow.Author.Tests.{lt-ltb, le-ltb, le-leb, lt-leb, eq-eqb, ne-eqb}
+use borrow.Author.Tests.{eq-eqb, ne-eqb}
 use Rattle.register_operations.proofs.taken_field.Statement.{statement}
 use Rattle.register_operations.proofs.taken_field.Tie as tie
 

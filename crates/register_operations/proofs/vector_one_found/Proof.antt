@@ -17,7 +17,7 @@ waits-requires : tie.Need-waits-requires
 waits-requires c κs = search needs
 
 returns : tie.Need-returns
-unfolding decideFound operandsWait operandWaits waitsOf operandsMasked operandMasked maskedOf allFoundAt foundAt operandCell perform executed leftOf sourceLeft performResult resultIn
+unfolding decideFound operandsWait operandWaits waitsOf allFoundAt foundAt
 returns c = λ v i f g e. simp (e, or-false, c .if1 .taken, ← c .before .waits .ensures, ← c .before .before .access .ensures, ← c .before .before .before .cell .ensures)
 
 vector-of-requires : tie.Need-vector-of-requires
