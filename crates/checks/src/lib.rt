@@ -1,4 +1,6 @@
-// Checks and effects that operations share, by the roles of their fields: D, S0, S1, S2 or unused.
+// What operations share, by the roles of their fields: D, S0, S1, S2 or unused.
+// illegal: check 2, an illegal access code or a nonzero unused field. waits: check 5, each field with the tag at its operand.
+// masked: check 6, by the tags of the sources. executed: the effects, each source with its cell before the step.
 ghost use mathlib.Core.Path.{_≡_};
 ghost use mathlib.Core.Bool.{_||_};
 ghost use Rattle.window.specs.declared.Write.the-variants.{Nothing};
@@ -16,7 +18,7 @@ use window::Write;
 use word::Outcome;
 
 // Two unused fields.
-fn illegal_unused(a: u16, b: u16) -> bool
+pub fn illegal_unused(a: u16, b: u16) -> bool
     ensures { λ r. ⌜ r ≡ illegalField Unused a || illegalField Unused b ⌝ }
 {
     if operand::illegal_field(Role::Unused, a) {
@@ -101,7 +103,7 @@ pub fn illegal_s2(first: u16, second: u16, third: u16) -> bool
     operand::illegal_field(Role::Source, third)
 }
 
-// The access tests of D and S1, each field with the tag at its operand.
+// D, S1.
 pub fn waits_d_s1(first: u16, d: u8, second: u16, a: u8) -> bool
     ensures { λ r. ⌜ r ≡ waitsOf Destination (accessOf first) d || waitsOf Source (accessOf second) a ⌝ }
 {
@@ -141,7 +143,7 @@ pub fn waits_sources(first: u16, d: u8, second: u16, a: u8, third: u16, b: u8) -
     waits_two(second, a, third, b)
 }
 
-// The qualities of S1 and S2, by their tags.
+// S1, S2.
 pub fn masked_two(psw: u64, a: u8, b: u8) -> bool
     ensures { λ r. ⌜ r ≡ maskedOf Source psw a || maskedOf Source psw b ⌝ }
 {
@@ -161,7 +163,7 @@ pub fn masked_sources(psw: u64, d: u8, a: u8, b: u8) -> bool
     masked_two(psw, a, b)
 }
 
-// What D and S1 are left with; of a source its cell before the step.
+// D, S1.
 pub fn executed_d_s1(
     first: u16,
     d: Operand,
