@@ -1,0 +1,19 @@
+use borrow.Author.Needs.{needs}
+use Rattle.data_operations.proofs.illegal_store_pair.Statement.{statement}
+use Rattle.data_operations.proofs.illegal_store_pair.Tie as tie
+
+illegal-store-requires : tie.Need-illegal-store-requires
+illegal-store-requires c κs = search needs
+
+returns : tie.Need-returns
+returns c = simp (c .if1 .taken, ← c .before .illegal-store .ensures)
+
+illegal-pair-requires : tie.Need-illegal-pair-requires
+illegal-pair-requires c κs = search needs
+
+returns-2 : tie.Need-returns-2
+returns-2 c = simp (← c .illegal-pair .ensures, c .before .if1 .left, ← c .before .before .illegal-store .ensures)
+
+pub illegal-store-pair-spec : {M : Type 1} → statement M
+illegal-store-pair-spec =
+    tie.close (tie.spec illegal-store-requires returns illegal-pair-requires returns-2)
