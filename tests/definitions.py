@@ -69,16 +69,26 @@ def statements(number, data):
     return text
 
 
+def definition_crates():
+    """The crate report and those below it, with their dependencies: the definitions stand there."""
+    uses = {}
+    for line in (ROOT / "crates.txt").read_text().splitlines():
+        if ":" in line and not line.startswith("#"):
+            name, below = line.split(":")
+            uses[name.strip()] = below.split()
+    return {name: uses[name] for name in uses["report"] + ["report"]}
+
+
 def copy_definitions():
     shutil.rmtree(COPY, ignore_errors=True)
-    listed = [line.split(":")[0].strip() for line in (ROOT / "crates.txt").read_text().splitlines() if ":" in line]
-    for name in listed:
+    uses = definition_crates()
+    for name in uses:
         crate = COPY / "crates" / name
         (crate / "src").mkdir(parents=True)
         (crate / "src" / "lib.rt").write_text(declared_types((ROOT / "crates" / name / "src" / "lib.rt").read_text()))
         shutil.copytree(ROOT / "crates" / name / "specs", crate / "specs")
-    lines = (ROOT / "crates.txt").read_text() + "vectors: " + " ".join(listed) + "\n"
-    (COPY / "crates.txt").write_text(lines)
+    lines = [f"{name}: {' '.join(below)}" for name, below in uses.items()] + ["vectors: " + " ".join(uses)]
+    (COPY / "crates.txt").write_text("\n".join(lines) + "\n")
 
 
 def main():

@@ -18,7 +18,7 @@ use window::Write;
 use word::Outcome;
 
 // Two unused fields.
-pub fn illegal_unused(a: u16, b: u16) -> bool
+pub fn illegal_two_unused(a: u16, b: u16) -> bool
     ensures { λ r. ⌜ r ≡ illegalField Unused a || illegalField Unused b ⌝ }
 {
     if operand::illegal_field(Role::Unused, a) {
@@ -34,7 +34,7 @@ pub fn illegal_none(first: u16, second: u16, third: u16) -> bool
     if operand::illegal_field(Role::Unused, first) {
         return true;
     }
-    illegal_unused(second, third)
+    illegal_two_unused(second, third)
 }
 
 // D alone.
@@ -44,7 +44,7 @@ pub fn illegal_d(first: u16, second: u16, third: u16) -> bool
     if operand::illegal_field(Role::Destination, first) {
         return true;
     }
-    illegal_unused(second, third)
+    illegal_two_unused(second, third)
 }
 
 // D, S1.
@@ -61,7 +61,7 @@ pub fn illegal_d_s1(first: u16, second: u16, third: u16) -> bool
 }
 
 // S1, S2.
-pub fn illegal_two(second: u16, third: u16) -> bool
+pub fn illegal_s1_s2(second: u16, third: u16) -> bool
     ensures { λ r. ⌜ r ≡ illegalField Source second || illegalField Source third ⌝ }
 {
     if operand::illegal_field(Role::Source, second) {
@@ -71,23 +71,23 @@ pub fn illegal_two(second: u16, third: u16) -> bool
 }
 
 // S1, S2 after an unused field.
-pub fn illegal_pair(first: u16, second: u16, third: u16) -> bool
+pub fn illegal_unused_s1_s2(first: u16, second: u16, third: u16) -> bool
     ensures { λ r. ⌜ r ≡ illegalField Unused first || (illegalField Source second || illegalField Source third) ⌝ }
 {
     if operand::illegal_field(Role::Unused, first) {
         return true;
     }
-    illegal_two(second, third)
+    illegal_s1_s2(second, third)
 }
 
 // D, S1, S2.
-pub fn illegal_three(first: u16, second: u16, third: u16) -> bool
+pub fn illegal_d_s1_s2(first: u16, second: u16, third: u16) -> bool
     ensures { λ r. ⌜ r ≡ illegalField Destination first || (illegalField Source second || illegalField Source third) ⌝ }
 {
     if operand::illegal_field(Role::Destination, first) {
         return true;
     }
-    illegal_two(second, third)
+    illegal_s1_s2(second, third)
 }
 
 // S2 alone.
@@ -114,7 +114,7 @@ pub fn waits_d_s1(first: u16, d: u8, second: u16, a: u8) -> bool
 }
 
 // S1, S2.
-pub fn waits_two(second: u16, a: u8, third: u16, b: u8) -> bool
+pub fn waits_s1_s2(second: u16, a: u8, third: u16, b: u8) -> bool
     ensures { λ r. ⌜ r ≡ waitsOf Source (accessOf second) a || waitsOf Source (accessOf third) b ⌝ }
 {
     if operand::waits(Role::Source, operand::access(second), a) {
@@ -124,27 +124,27 @@ pub fn waits_two(second: u16, a: u8, third: u16, b: u8) -> bool
 }
 
 // D, S1, S2.
-pub fn waits_three(first: u16, d: u8, second: u16, a: u8, third: u16, b: u8) -> bool
+pub fn waits_d_s1_s2(first: u16, d: u8, second: u16, a: u8, third: u16, b: u8) -> bool
     ensures { λ r. ⌜ r ≡ waitsOf Destination (accessOf first) d || (waitsOf Source (accessOf second) a || waitsOf Source (accessOf third) b) ⌝ }
 {
     if operand::waits(Role::Destination, operand::access(first), d) {
         return true;
     }
-    waits_two(second, a, third, b)
+    waits_s1_s2(second, a, third, b)
 }
 
 // S0, S1, S2.
-pub fn waits_sources(first: u16, d: u8, second: u16, a: u8, third: u16, b: u8) -> bool
+pub fn waits_s0_s1_s2(first: u16, d: u8, second: u16, a: u8, third: u16, b: u8) -> bool
     ensures { λ r. ⌜ r ≡ waitsOf Source (accessOf first) d || (waitsOf Source (accessOf second) a || waitsOf Source (accessOf third) b) ⌝ }
 {
     if operand::waits(Role::Source, operand::access(first), d) {
         return true;
     }
-    waits_two(second, a, third, b)
+    waits_s1_s2(second, a, third, b)
 }
 
 // S1, S2.
-pub fn masked_two(psw: u64, a: u8, b: u8) -> bool
+pub fn masked_s1_s2(psw: u64, a: u8, b: u8) -> bool
     ensures { λ r. ⌜ r ≡ maskedOf Source psw a || maskedOf Source psw b ⌝ }
 {
     if operand::masked(Role::Source, psw, a) {
@@ -154,13 +154,13 @@ pub fn masked_two(psw: u64, a: u8, b: u8) -> bool
 }
 
 // S0, S1, S2.
-pub fn masked_sources(psw: u64, d: u8, a: u8, b: u8) -> bool
+pub fn masked_s0_s1_s2(psw: u64, d: u8, a: u8, b: u8) -> bool
     ensures { λ r. ⌜ r ≡ maskedOf Source psw d || (maskedOf Source psw a || maskedOf Source psw b) ⌝ }
 {
     if operand::masked(Role::Source, psw, d) {
         return true;
     }
-    masked_two(psw, a, b)
+    masked_s1_s2(psw, a, b)
 }
 
 // D, S1.
@@ -187,7 +187,7 @@ pub fn executed_d_s1(
 }
 
 // D, S1, S2.
-pub fn executed_three(
+pub fn executed_d_s1_s2(
     first: u16,
     d: Operand,
     second: u16,
@@ -213,7 +213,7 @@ pub fn executed_three(
 }
 
 // S1, S2.
-pub fn executed_two(
+pub fn executed_s1_s2(
     second: u16,
     a: Operand,
     x: Cell,

@@ -219,7 +219,7 @@ fn illegal_load_three(low: u16, first: u16, second: u16, third: u16) -> bool
     if illegal_load(low) {
         return true;
     }
-    checks::illegal_three(first, second, third)
+    checks::illegal_d_s1_s2(first, second, third)
 }
 
 // D, S1, S2 and the data word at the real word address p.
@@ -250,7 +250,7 @@ fn loaded_three(
     };
     let leaves = load_leaves(low, p, k.word);
     let fate = Fate::Continues(word::next(psw));
-    checks::executed_three(first, d, second, a, x, third, b, y, out, leaves, fate)
+    checks::executed_d_s1_s2(first, d, second, a, x, third, b, y, out, leaves, fate)
 }
 
 fn load_indexed_found(
@@ -274,10 +274,10 @@ fn load_indexed_found(
     let t = operand::cell(tags, words, constants, d);
     let x = operand::cell(tags, words, constants, a);
     let y = operand::cell(tags, words, constants, b);
-    if checks::waits_three(first, t.tag, second, x.tag, third, y.tag) {
+    if checks::waits_d_s1_s2(first, t.tag, second, x.tag, third, y.tag) {
         return Decision::Waits(Wait::Access);
     }
-    if checks::masked_two(psw, x.tag, y.tag) {
+    if checks::masked_s1_s2(psw, x.tag, y.tag) {
         return Decision::Traps(Trap::DataException, psw);
     }
     match word_place(low, row, indexed_address(x.word, y.word)) {
@@ -383,7 +383,7 @@ fn illegal_store_pair(low: u16, first: u16, second: u16, third: u16) -> bool
     if illegal_store(low) {
         return true;
     }
-    checks::illegal_pair(first, second, third)
+    checks::illegal_unused_s1_s2(first, second, third)
 }
 
 // S1, S2 and the data word at the real word address p.
@@ -433,10 +433,10 @@ fn store_indirect_found(
 {
     let x = operand::cell(tags, words, constants, a);
     let y = operand::cell(tags, words, constants, b);
-    if checks::waits_two(second, x.tag, third, y.tag) {
+    if checks::waits_s1_s2(second, x.tag, third, y.tag) {
         return Decision::Waits(Wait::Access);
     }
-    if checks::masked_two(psw, x.tag, y.tag) {
+    if checks::masked_s1_s2(psw, x.tag, y.tag) {
         return Decision::Traps(Trap::DataException, psw);
     }
     match word_place(low, row, indirect_address(x.word)) {
@@ -508,7 +508,7 @@ fn illegal_store_sources(low: u16, first: u16, second: u16, third: u16) -> bool
     if operand::illegal_field(Role::Source, first) {
         return true;
     }
-    checks::illegal_two(second, third)
+    checks::illegal_s1_s2(second, third)
 }
 
 // S0, S1, S2 and the data word at the real word address p.
@@ -564,10 +564,10 @@ fn store_indexed_found(
     let t = operand::cell(tags, words, constants, d);
     let x = operand::cell(tags, words, constants, a);
     let y = operand::cell(tags, words, constants, b);
-    if checks::waits_sources(first, t.tag, second, x.tag, third, y.tag) {
+    if checks::waits_s0_s1_s2(first, t.tag, second, x.tag, third, y.tag) {
         return Decision::Waits(Wait::Access);
     }
-    if checks::masked_sources(psw, t.tag, x.tag, y.tag) {
+    if checks::masked_s0_s1_s2(psw, t.tag, x.tag, y.tag) {
         return Decision::Traps(Trap::DataException, psw);
     }
     match word_place(low, row, indexed_address(x.word, y.word)) {

@@ -138,7 +138,7 @@ fn decide_listed(
     ensures { λ r. ⌜ ((code : ℕ) (program : List ℕ) → r ≡ decideCode (Listed op) (environmentOf row psw flag program (now (constants .entry)) (memory (now (tags .entry)) (now (words .entry))) (memory (now (data_tags .entry)) (now (data_words .entry)))) (instruction code first second third)) ⌝ }
 {
     match op {
-        Operation::Nop => register_operations::nop(psw, first, second, third),
+        Operation::Nop => control_operations::nop(psw, first, second, third),
         Operation::Vector(o) => decide_vector(
             o,
             row,
@@ -162,7 +162,7 @@ fn decide_listed(
             words,
             constants,
         ),
-        Operation::Branch(c, p) => register_operations::branch(
+        Operation::Branch(c, p) => control_operations::branch(
             c,
             p,
             row,
@@ -174,7 +174,7 @@ fn decide_listed(
             words,
             constants,
         ),
-        Operation::Call(c) => register_operations::call(
+        Operation::Call(c) => control_operations::call(
             c,
             row,
             psw,
@@ -185,7 +185,7 @@ fn decide_listed(
             words,
             constants,
         ),
-        Operation::Create(c, act) => register_operations::create(
+        Operation::Create(c, act) => control_operations::create(
             c,
             act,
             row,
@@ -198,7 +198,7 @@ fn decide_listed(
             words,
             constants,
         ),
-        Operation::Quit(c) => register_operations::quit(
+        Operation::Quit(c) => control_operations::quit(
             c,
             row,
             psw,
@@ -284,7 +284,7 @@ fn decide_code(
     match code {
         Code::Privileged => Decision::Traps(Trap::PrivilegedInstruction, psw),
         Code::Simulated => Decision::Traps(Trap::SimulatedInstruction, psw),
-        Code::Svc => register_operations::svc(psw, second, third),
+        Code::Svc => control_operations::svc(psw, second, third),
         Code::Listed(op) => decide_listed(
             op,
             row,

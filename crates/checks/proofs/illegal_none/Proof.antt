@@ -8,12 +8,12 @@ illegal-field-requires c κs = search needs
 returns : tie.Need-returns
 returns c = simp (c .if1 .taken, ← c .before .illegal-field .ensures)
 
-illegal-unused-requires : tie.Need-illegal-unused-requires
-illegal-unused-requires c κs = search needs
+illegal-two-unused-requires : tie.Need-illegal-two-unused-requires
+illegal-two-unused-requires c κs = search needs
 
 returns-2 : tie.Need-returns-2
-returns-2 c = simp (← c .illegal-unused .ensures, c .before .if1 .left, ← c .before .before .illegal-field .ensures)
+returns-2 c = simp (← c .illegal-two-unused .ensures, c .before .if1 .left, ← c .before .before .illegal-field .ensures)
 
 pub illegal-none-spec : {M : Type 1} → statement M
 illegal-none-spec =
-    tie.close (tie.spec illegal-field-requires returns illegal-unused-requires returns-2)
+    tie.close (tie.spec illegal-field-requires returns illegal-two-unused-requires returns-2)

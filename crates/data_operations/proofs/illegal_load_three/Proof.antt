@@ -8,12 +8,12 @@ illegal-load-requires c κs = search needs
 returns : tie.Need-returns
 returns c = simp (c .if1 .taken, ← c .before .illegal-load .ensures)
 
-illegal-three-requires : tie.Need-illegal-three-requires
-illegal-three-requires c κs = search needs
+illegal-d-s1-s2-requires : tie.Need-illegal-d-s1-s2-requires
+illegal-d-s1-s2-requires c κs = search needs
 
 returns-2 : tie.Need-returns-2
-returns-2 c = simp (← c .illegal-three .ensures, c .before .if1 .left, ← c .before .before .illegal-load .ensures)
+returns-2 c = simp (← c .illegal-d-s1-s2 .ensures, c .before .if1 .left, ← c .before .before .illegal-load .ensures)
 
 pub illegal-load-three-spec : {M : Type 1} → statement M
 illegal-load-three-spec =
-    tie.close (tie.spec illegal-load-requires returns illegal-three-requires returns-2)
+    tie.close (tie.spec illegal-load-requires returns illegal-d-s1-s2-requires returns-2)

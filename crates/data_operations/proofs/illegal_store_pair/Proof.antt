@@ -8,12 +8,12 @@ illegal-store-requires c κs = search needs
 returns : tie.Need-returns
 returns c = simp (c .if1 .taken, ← c .before .illegal-store .ensures)
 
-illegal-pair-requires : tie.Need-illegal-pair-requires
-illegal-pair-requires c κs = search needs
+illegal-unused-s1-s2-requires : tie.Need-illegal-unused-s1-s2-requires
+illegal-unused-s1-s2-requires c κs = search needs
 
 returns-2 : tie.Need-returns-2
-returns-2 c = simp (← c .illegal-pair .ensures, c .before .if1 .left, ← c .before .before .illegal-store .ensures)
+returns-2 c = simp (← c .illegal-unused-s1-s2 .ensures, c .before .if1 .left, ← c .before .before .illegal-store .ensures)
 
 pub illegal-store-pair-spec : {M : Type 1} → statement M
 illegal-store-pair-spec =
-    tie.close (tie.spec illegal-store-requires returns illegal-pair-requires returns-2)
+    tie.close (tie.spec illegal-store-requires returns illegal-unused-s1-s2-requires returns-2)

@@ -14,11 +14,11 @@ illegal-field-requires c κs = search needs
 returns-2 : tie.Need-returns-2
 returns-2 c = simp (c .if2 .taken, ← c .before .illegal-field .ensures, c .before .before .if1 .left, ← c .before .before .before .illegal-store .ensures)
 
-illegal-two-requires : tie.Need-illegal-two-requires
-illegal-two-requires c κs = search needs
+illegal-s1-s2-requires : tie.Need-illegal-s1-s2-requires
+illegal-s1-s2-requires c κs = search needs
 
 returns-3 : tie.Need-returns-3
-returns-3 c = simp (← c .illegal-two .ensures, c .before .if2 .left, ← c .before .before .illegal-field .ensures, c .before .before .before .if1 .left, ← c .before .before .before .before .illegal-store .ensures)
+returns-3 c = simp (← c .illegal-s1-s2 .ensures, c .before .if2 .left, ← c .before .before .illegal-field .ensures, c .before .before .before .if1 .left, ← c .before .before .before .before .illegal-store .ensures)
 
 pub illegal-store-sources-spec : {M : Type 1} → statement M
 illegal-store-sources-spec =
@@ -28,5 +28,5 @@ illegal-store-sources-spec =
     returns
     illegal-field-requires
     returns-2
-    illegal-two-requires
+    illegal-s1-s2-requires
     returns-3)

@@ -17,19 +17,19 @@ cell-requires-2 c κs = search needs
 cell-requires-3 : tie.Need-cell-requires-3
 cell-requires-3 c κs = search needs
 
-waits-three-requires : tie.Need-waits-three-requires
-waits-three-requires c κs = search needs
+waits-d-s1-s2-requires : tie.Need-waits-d-s1-s2-requires
+waits-d-s1-s2-requires c κs = search needs
 
 returns : tie.Need-returns
 unfolding decideFound operandsWait operandWaits waitsOf operandsMasked operandMasked maskedOf allFoundAt foundAt perform performLoad indexedAddress loadFrom environmentOf
-returns c = λ i flag program. simp (c .if1 .taken, ← c .before .waits-three .ensures, ← c .before .before .cell3 .ensures, ← c .before .before .before .cell2 .ensures, ← c .before .before .before .before .cell .ensures)
+returns c = λ i flag program. simp (c .if1 .taken, ← c .before .waits-d-s1-s2 .ensures, ← c .before .before .cell3 .ensures, ← c .before .before .before .cell2 .ensures, ← c .before .before .before .before .cell .ensures)
 
-masked-two-requires : tie.Need-masked-two-requires
-masked-two-requires c κs = search needs
+masked-s1-s2-requires : tie.Need-masked-s1-s2-requires
+masked-s1-s2-requires c κs = search needs
 
 returns-2 : tie.Need-returns-2
 unfolding decideFound operandsWait operandWaits waitsOf operandsMasked operandMasked maskedOf allFoundAt foundAt perform performLoad indexedAddress loadFrom environmentOf
-returns-2 c = λ i flag program. simp (c .if2 .taken, ← c .before .masked-two .ensures, c .before .before .if1 .left, ← c .before .before .before .waits-three .ensures, ← c .before .before .before .before .cell3 .ensures, ← c .before .before .before .before .before .cell2 .ensures, ← c .before .before .before .before .before .before .cell .ensures)
+returns-2 c = λ i flag program. simp (c .if2 .taken, ← c .before .masked-s1-s2 .ensures, c .before .before .if1 .left, ← c .before .before .before .waits-d-s1-s2 .ensures, ← c .before .before .before .before .cell3 .ensures, ← c .before .before .before .before .before .cell2 .ensures, ← c .before .before .before .before .before .before .cell .ensures)
 
 indexed-address-requires : tie.Need-indexed-address-requires
 indexed-address-requires c κs = search needs
@@ -48,11 +48,11 @@ loaded-three-requires c κs = search needs
 
 returns-3 : tie.Need-returns-3
 unfolding decideFound operandsWait operandWaits waitsOf operandsMasked operandMasked maskedOf allFoundAt foundAt perform performLoad indexedAddress loadFrom environmentOf
-returns-3 c = λ i flag program. simp (c .before .k .given .1, ← c .before .before .before .word-place .ensures, ← c .before .before .before .before .indexed-address .ensures, c .before .before .before .before .before .if2 .left, ← c .before .before .before .before .before .before .masked-two .ensures, c .before .before .before .before .before .before .before .if1 .left, ← c .before .before .before .before .before .before .before .before .waits-three .ensures, ← c .before .before .before .before .before .before .before .before .before .cell3 .ensures, ← c .before .before .before .before .before .before .before .before .before .before .cell2 .ensures, ← c .before .before .before .before .before .before .before .before .before .before .before .cell .ensures)
+returns-3 c = λ i flag program. simp (c .before .k .given .1, ← c .before .before .before .word-place .ensures, ← c .before .before .before .before .indexed-address .ensures, c .before .before .before .before .before .if2 .left, ← c .before .before .before .before .before .before .masked-s1-s2 .ensures, c .before .before .before .before .before .before .before .if1 .left, ← c .before .before .before .before .before .before .before .before .waits-d-s1-s2 .ensures, ← c .before .before .before .before .before .before .before .before .before .cell3 .ensures, ← c .before .before .before .before .before .before .before .before .before .before .cell2 .ensures, ← c .before .before .before .before .before .before .before .before .before .before .before .cell .ensures)
 
 returns-4 : tie.Need-returns-4
 unfolding decideFound operandsWait operandWaits waitsOf operandsMasked operandMasked maskedOf allFoundAt foundAt perform performLoad indexedAddress loadFrom environmentOf
-returns-4 c = λ i flag program. simp (← c .loaded-three .ensures, reached-seen _ _ _ _ (told (c .before .before .before .before .word-place .ensures) (c .before .before .p .given .1)), c .before .before .p .given .1, ← c .before .before .before .before .word-place .ensures, ← c .before .before .before .before .before .indexed-address .ensures, c .before .before .before .before .before .before .if2 .left, ← c .before .before .before .before .before .before .before .masked-two .ensures, c .before .before .before .before .before .before .before .before .if1 .left, ← c .before .before .before .before .before .before .before .before .before .waits-three .ensures, ← c .before .before .before .before .before .before .before .before .before .before .cell3 .ensures, ← c .before .before .before .before .before .before .before .before .before .before .before .cell2 .ensures, ← c .before .before .before .before .before .before .before .before .before .before .before .before .cell .ensures)
+returns-4 c = λ i flag program. simp (← c .loaded-three .ensures, reached-seen _ _ _ _ (told (c .before .before .before .before .word-place .ensures) (c .before .before .p .given .1)), c .before .before .p .given .1, ← c .before .before .before .before .word-place .ensures, ← c .before .before .before .before .before .indexed-address .ensures, c .before .before .before .before .before .before .if2 .left, ← c .before .before .before .before .before .before .before .masked-s1-s2 .ensures, c .before .before .before .before .before .before .before .before .if1 .left, ← c .before .before .before .before .before .before .before .before .before .waits-d-s1-s2 .ensures, ← c .before .before .before .before .before .before .before .before .before .before .cell3 .ensures, ← c .before .before .before .before .before .before .before .before .before .before .before .cell2 .ensures, ← c .before .before .before .before .before .before .before .before .before .before .before .before .cell .ensures)
 
 pub load-indexed-found-spec : {M : Type 1} → statement M
 load-indexed-found-spec =
@@ -61,9 +61,9 @@ load-indexed-found-spec =
     cell-requires
     cell-requires-2
     cell-requires-3
-    waits-three-requires
+    waits-d-s1-s2-requires
     returns
-    masked-two-requires
+    masked-s1-s2-requires
     returns-2
     indexed-address-requires
     word-place-requires

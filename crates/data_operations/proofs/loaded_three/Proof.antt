@@ -20,12 +20,12 @@ load-leaves-requires c κs = search needs
 next-requires : tie.Need-next-requires
 next-requires c κs = search needs
 
-executed-three-requires : tie.Need-executed-three-requires
-executed-three-requires c κs = search needs
+executed-d-s1-s2-requires : tie.Need-executed-d-s1-s2-requires
+executed-d-s1-s2-requires c κs = search needs
 
 returns-2 : tie.Need-returns-2
 unfolding loadWord executed leftOf resultIn sourceLeft
-returns-2 c = λ t. simp (← c .executed-three .ensures, ← c .before .next .ensures, ← c .before .before .load-leaves .ensures, c .before .before .before .if1 .left, ← c .before .before .before .before .load-waits .ensures, ← c .before .before .before .before .before .cell-at .ensures)
+returns-2 c = λ t. simp (← c .executed-d-s1-s2 .ensures, ← c .before .next .ensures, ← c .before .before .load-leaves .ensures, c .before .before .before .if1 .left, ← c .before .before .before .before .load-waits .ensures, ← c .before .before .before .before .before .cell-at .ensures)
 
 pub loaded-three-spec : {M : Type 1} → statement M
 loaded-three-spec =
@@ -36,5 +36,5 @@ loaded-three-spec =
     returns
     load-leaves-requires
     next-requires
-    executed-three-requires
+    executed-d-s1-s2-requires
     returns-2)

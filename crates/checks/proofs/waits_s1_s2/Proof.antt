@@ -1,0 +1,26 @@
+use borrow.Author.Needs.{needs}
+use Rattle.checks.proofs.waits_s1_s2.Statement.{statement}
+use Rattle.checks.proofs.waits_s1_s2.Tie as tie
+
+access-requires : tie.Need-access-requires
+access-requires c κs = search needs
+
+waits-requires : tie.Need-waits-requires
+waits-requires c κs = search needs
+
+returns : tie.Need-returns
+returns c = simp (c .if1 .taken, ← c .before .waits .ensures, ← c .before .before .access .ensures)
+
+access-requires-2 : tie.Need-access-requires-2
+access-requires-2 c κs = search needs
+
+waits-requires-2 : tie.Need-waits-requires-2
+waits-requires-2 c κs = search needs
+
+returns-2 : tie.Need-returns-2
+returns-2 c = simp (← c .waits2 .ensures, ← c .before .access2 .ensures, c .before .before .if1 .left, ← c .before .before .before .waits .ensures, ← c .before .before .before .before .access .ensures)
+
+pub waits-s1-s2-spec : {M : Type 1} → statement M
+waits-s1-s2-spec =
+    tie.close
+    (tie.spec access-requires waits-requires returns access-requires-2 waits-requires-2 returns-2)

@@ -1,0 +1,22 @@
+use borrow.Author.Needs.{needs}
+use Rattle.control_operations.proofs.call_fate.Statement.{statement}
+use Rattle.control_operations.proofs.call_fate.Tie as tie
+
+holds-requires : tie.Need-holds-requires
+holds-requires c κs = search needs
+
+called-psw-requires : tie.Need-called-psw-requires
+called-psw-requires c κs = search needs
+
+returns : tie.Need-returns
+returns c = simp (← c .called-psw .ensures, c .before .if1 .taken, ← c .before .before .holds .ensures)
+
+next-requires : tie.Need-next-requires
+next-requires c κs = search needs
+
+returns-2 : tie.Need-returns-2
+returns-2 c = simp (← c .next .ensures, c .before .if1 .left, ← c .before .before .holds .ensures)
+
+pub call-fate-spec : {M : Type 1} → statement M
+call-fate-spec =
+    tie.close (tie.spec holds-requires called-psw-requires returns next-requires returns-2)
