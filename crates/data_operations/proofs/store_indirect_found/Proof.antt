@@ -18,14 +18,14 @@ waits-two-requires : tie.Need-waits-two-requires
 waits-two-requires c κs = search needs
 
 returns : tie.Need-returns
-unfolding decideFound operandsWait operandWaits waitsOf operandsMasked operandMasked maskedOf allFoundAt foundAt perform performStore indirectAddress storeTo environmentOf
+unfolding decideFound operandsWait operandWaits waitsOf allFoundAt foundAt
 returns c = λ i first flag program dataWords. simp (c .if1 .taken, ← c .before .waits-two .ensures, ← c .before .before .cell2 .ensures, ← c .before .before .before .cell .ensures)
 
 masked-two-requires : tie.Need-masked-two-requires
 masked-two-requires c κs = search needs
 
 returns-2 : tie.Need-returns-2
-unfolding decideFound operandsWait operandWaits waitsOf operandsMasked operandMasked maskedOf allFoundAt foundAt perform performStore indirectAddress storeTo environmentOf
+unfolding decideFound operandsWait operandWaits waitsOf operandsMasked operandMasked maskedOf allFoundAt foundAt environmentOf
 returns-2 c = λ i first flag program dataWords. simp (c .if2 .taken, ← c .before .masked-two .ensures, c .before .before .if1 .left, ← c .before .before .before .waits-two .ensures, ← c .before .before .before .before .cell2 .ensures, ← c .before .before .before .before .before .cell .ensures)
 
 indirect-address-requires : tie.Need-indirect-address-requires
