@@ -130,6 +130,7 @@ fn loaded_d_s1(
     checks::executed_d_s1(first, d, second, a, x, out, leaves, fate)
 }
 
+// LODI from check 5 on.
 fn load_indirect_found(
     low: u16,
     row: Row,
@@ -253,6 +254,7 @@ fn loaded_three(
     checks::executed_d_s1_s2(first, d, second, a, x, third, b, y, out, leaves, fate)
 }
 
+// LODX from check 5 on.
 fn load_indexed_found(
     low: u16,
     row: Row,
@@ -346,17 +348,17 @@ pub fn load_indexed(
     )
 }
 
-// DAC 1 or 3, or SAC, which a store does not use.
+// SAC, which a store does not use, or DAC 1 or 3.
 fn illegal_store(low: u16) -> bool
     ensures { λ r. ⌜ r ≡ illegalStore low ⌝ }
 {
+    if low / 4 % 4 != 0 {
+        return true;
+    }
     if low % 4 == 0 {
-        return low / 4 % 4 != 0;
+        return false;
     }
-    if low % 4 == 2 {
-        return low / 4 % 4 != 0;
-    }
-    true
+    low % 4 != 2
 }
 
 // DAC 2 waits until empty.
@@ -398,9 +400,8 @@ fn stored_two(
     b: Operand,
     y: Cell,
     data_tags: &[u8],
-    data_words: &[u64],
 ) -> Decision
-    ensures { λ r. ⌜ ((first : ℕ) (t : Cell) → r ≡ storeWord psw (record { first = foundWith Unused first Absent t; second = foundWith Source second a x; third = foundWith Source third b y }) low (y .word) p (cellAt (memory (now (data_tags .entry)) (now (data_words .entry))) p)) ⌝ }
+    ensures { λ r. ⌜ ((first : ℕ) (t : Cell) (dataWords : List ℕ) → r ≡ storeWord psw (record { first = foundWith Unused first Absent t; second = foundWith Source second a x; third = foundWith Source third b y }) low (y .word) p (cellAt (memory (now (data_tags .entry)) dataWords) p)) ⌝ }
 {
     if store_waits(low, window::tag_at(data_tags, p)) {
         return Decision::Waits(Wait::Data);
@@ -415,6 +416,7 @@ fn stored_two(
     })
 }
 
+// STOI from check 5 on.
 fn store_indirect_found(
     low: u16,
     row: Row,
@@ -427,9 +429,8 @@ fn store_indirect_found(
     words: &[u64],
     constants: &[u64],
     data_tags: &[u8],
-    data_words: &[u64],
 ) -> Decision
-    ensures { λ r. ⌜ ((i : Instruction) (first flag : ℕ) (program : List ℕ) → r ≡ decideFound (StoreIndirect low) (environmentOf row psw flag program (now (constants .entry)) (memory (now (tags .entry)) (now (words .entry))) (memory (now (data_tags .entry)) (now (data_words .entry)))) i (allFoundAt (memory (now (tags .entry)) (now (words .entry))) (now (constants .entry)) (roles Unused Source Source) first second third Absent a b)) ⌝ }
+    ensures { λ r. ⌜ ((i : Instruction) (first flag : ℕ) (program dataWords : List ℕ) → r ≡ decideFound (StoreIndirect low) (environmentOf row psw flag program (now (constants .entry)) (memory (now (tags .entry)) (now (words .entry))) (memory (now (data_tags .entry)) dataWords)) i (allFoundAt (memory (now (tags .entry)) (now (words .entry))) (now (constants .entry)) (roles Unused Source Source) first second third Absent a b)) ⌝ }
 {
     let x = operand::cell(tags, words, constants, a);
     let y = operand::cell(tags, words, constants, b);
@@ -441,19 +442,7 @@ fn store_indirect_found(
     }
     match word_place(low, row, indirect_address(x.word)) {
         Reach::Stops(k) => Decision::Traps(k, psw),
-        Reach::Reaches(p) => stored_two(
-            low,
-            p,
-            psw,
-            second,
-            a,
-            x,
-            third,
-            b,
-            y,
-            data_tags,
-            data_words,
-        ),
+        Reach::Reaches(p) => stored_two(low, p, psw, second, a, x, third, b, y, data_tags),
     }
 }
 
@@ -469,9 +458,8 @@ pub fn store_indirect(
     words: &[u64],
     constants: &[u64],
     data_tags: &[u8],
-    data_words: &[u64],
 ) -> Decision
-    ensures { λ r. ⌜ ((code flag : ℕ) (program : List ℕ) → r ≡ decideListed (roles Unused Source Source) (StoreIndirect low) (environmentOf row psw flag program (now (constants .entry)) (memory (now (tags .entry)) (now (words .entry))) (memory (now (data_tags .entry)) (now (data_words .entry)))) (instruction code first second third)) ⌝ }
+    ensures { λ r. ⌜ ((code flag : ℕ) (program dataWords : List ℕ) → r ≡ decideListed (roles Unused Source Source) (StoreIndirect low) (environmentOf row psw flag program (now (constants .entry)) (memory (now (tags .entry)) (now (words .entry))) (memory (now (data_tags .entry)) dataWords)) (instruction code first second third)) ⌝ }
 {
     if illegal_store_pair(low, first, second, third) {
         return Decision::Traps(Trap::IllegalInstruction, psw);
@@ -494,7 +482,6 @@ pub fn store_indirect(
         words,
         constants,
         data_tags,
-        data_words,
     )
 }
 
@@ -526,9 +513,8 @@ fn stored_sources(
     b: Operand,
     y: Cell,
     data_tags: &[u8],
-    data_words: &[u64],
 ) -> Decision
-    ensures { λ r. ⌜ r ≡ storeWord psw (record { first = foundWith Source first d t; second = foundWith Source second a x; third = foundWith Source third b y }) low (t .word) p (cellAt (memory (now (data_tags .entry)) (now (data_words .entry))) p) ⌝ }
+    ensures { λ r. ⌜ ((dataWords : List ℕ) → r ≡ storeWord psw (record { first = foundWith Source first d t; second = foundWith Source second a x; third = foundWith Source third b y }) low (t .word) p (cellAt (memory (now (data_tags .entry)) dataWords) p)) ⌝ }
 {
     if store_waits(low, window::tag_at(data_tags, p)) {
         return Decision::Waits(Wait::Data);
@@ -543,6 +529,7 @@ fn stored_sources(
     })
 }
 
+// STOX from check 5 on.
 fn store_indexed_found(
     low: u16,
     row: Row,
@@ -557,9 +544,8 @@ fn store_indexed_found(
     words: &[u64],
     constants: &[u64],
     data_tags: &[u8],
-    data_words: &[u64],
 ) -> Decision
-    ensures { λ r. ⌜ ((i : Instruction) (flag : ℕ) (program : List ℕ) → r ≡ decideFound (StoreIndexed low) (environmentOf row psw flag program (now (constants .entry)) (memory (now (tags .entry)) (now (words .entry))) (memory (now (data_tags .entry)) (now (data_words .entry)))) i (allFoundAt (memory (now (tags .entry)) (now (words .entry))) (now (constants .entry)) (roles Source Source Source) first second third d a b)) ⌝ }
+    ensures { λ r. ⌜ ((i : Instruction) (flag : ℕ) (program dataWords : List ℕ) → r ≡ decideFound (StoreIndexed low) (environmentOf row psw flag program (now (constants .entry)) (memory (now (tags .entry)) (now (words .entry))) (memory (now (data_tags .entry)) dataWords)) i (allFoundAt (memory (now (tags .entry)) (now (words .entry))) (now (constants .entry)) (roles Source Source Source) first second third d a b)) ⌝ }
 {
     let t = operand::cell(tags, words, constants, d);
     let x = operand::cell(tags, words, constants, a);
@@ -586,7 +572,6 @@ fn store_indexed_found(
             b,
             y,
             data_tags,
-            data_words,
         ),
     }
 }
@@ -603,9 +588,8 @@ pub fn store_indexed(
     words: &[u64],
     constants: &[u64],
     data_tags: &[u8],
-    data_words: &[u64],
 ) -> Decision
-    ensures { λ r. ⌜ ((code flag : ℕ) (program : List ℕ) → r ≡ decideListed (roles Source Source Source) (StoreIndexed low) (environmentOf row psw flag program (now (constants .entry)) (memory (now (tags .entry)) (now (words .entry))) (memory (now (data_tags .entry)) (now (data_words .entry)))) (instruction code first second third)) ⌝ }
+    ensures { λ r. ⌜ ((code flag : ℕ) (program dataWords : List ℕ) → r ≡ decideListed (roles Source Source Source) (StoreIndexed low) (environmentOf row psw flag program (now (constants .entry)) (memory (now (tags .entry)) (now (words .entry))) (memory (now (data_tags .entry)) dataWords)) (instruction code first second third)) ⌝ }
 {
     if illegal_store_sources(low, first, second, third) {
         return Decision::Traps(Trap::IllegalInstruction, psw);
@@ -633,6 +617,5 @@ pub fn store_indexed(
         words,
         constants,
         data_tags,
-        data_words,
     )
 }

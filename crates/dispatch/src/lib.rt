@@ -246,7 +246,6 @@ fn decide_listed(
             words,
             constants,
             data_tags,
-            data_words,
         ),
         Operation::StoreIndexed(low) => data_operations::store_indexed(
             low,
@@ -259,7 +258,6 @@ fn decide_listed(
             words,
             constants,
             data_tags,
-            data_words,
         ),
     }
 }
@@ -303,7 +301,7 @@ fn decide_code(
     }
 }
 
-// What the head process of a task decides, with the PSW psw. Check 1 first: PC outside the program window.
+// What the head process of a task decides; psw is its PSW. Check 1: PC outside the program window.
 pub fn decide(
     row: Row,
     psw: u64,

@@ -19,14 +19,14 @@ waits-d-s1-requires : tie.Need-waits-d-s1-requires
 waits-d-s1-requires c κs = search needs
 
 returns : tie.Need-returns
-unfolding decideFound operandsWait operandWaits waitsOf operandsMasked operandMasked maskedOf allFoundAt foundAt perform performLoad indirectAddress loadFrom environmentOf
+unfolding decideFound operandsWait operandWaits waitsOf allFoundAt foundAt
 returns c = λ i third flag program. simp (or-false, c .if1 .taken, ← c .before .waits-d-s1 .ensures, ← c .before .before .cell2 .ensures, ← c .before .before .before .cell .ensures)
 
 masked-requires : tie.Need-masked-requires
 masked-requires c κs = search needs
 
 returns-2 : tie.Need-returns-2
-unfolding decideFound operandsWait operandWaits waitsOf operandsMasked operandMasked maskedOf allFoundAt foundAt perform performLoad indirectAddress loadFrom environmentOf
+unfolding decideFound operandsWait operandWaits waitsOf operandsMasked operandMasked maskedOf allFoundAt foundAt environmentOf
 returns-2 c = λ i third flag program. simp (or-false, c .if2 .taken, ← c .before .masked .ensures, c .before .before .if1 .left, ← c .before .before .before .waits-d-s1 .ensures, ← c .before .before .before .before .cell2 .ensures, ← c .before .before .before .before .before .cell .ensures)
 
 indirect-address-requires : tie.Need-indirect-address-requires

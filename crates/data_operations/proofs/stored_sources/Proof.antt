@@ -12,7 +12,7 @@ store-waits-requires c κs = search needs
 
 returns : tie.Need-returns
 unfolding storeWord executed leftOf cellAt
-returns c = simp (c .if1 .taken, ← c .before .store-waits .ensures, ← c .before .before .tag-at .ensures)
+returns c = λ dataWords. simp (c .if1 .taken, ← c .before .store-waits .ensures, ← c .before .before .tag-at .ensures)
 
 access-requires : tie.Need-access-requires
 access-requires c κs = search needs
@@ -40,7 +40,7 @@ next-requires c κs = search needs
 
 returns-2 : tie.Need-returns-2
 unfolding storeWord executed leftOf cellAt
-returns-2 c = simp (← c .next .ensures, ← c .before .store-leaves .ensures, ← c .before .before .source-left3 .ensures, ← c .before .before .before .access3 .ensures, ← c .before .before .before .before .source-left2 .ensures, ← c .before .before .before .before .before .access2 .ensures, ← c .before .before .before .before .before .before .source-left .ensures, ← c .before .before .before .before .before .before .before .access .ensures, c .before .before .before .before .before .before .before .before .if1 .left, ← c .before .before .before .before .before .before .before .before .before .store-waits .ensures, ← c .before .before .before .before .before .before .before .before .before .before .tag-at .ensures)
+returns-2 c = λ dataWords. simp (← c .next .ensures, ← c .before .store-leaves .ensures, ← c .before .before .source-left3 .ensures, ← c .before .before .before .access3 .ensures, ← c .before .before .before .before .source-left2 .ensures, ← c .before .before .before .before .before .access2 .ensures, ← c .before .before .before .before .before .before .source-left .ensures, ← c .before .before .before .before .before .before .before .access .ensures, c .before .before .before .before .before .before .before .before .if1 .left, ← c .before .before .before .before .before .before .before .before .before .store-waits .ensures, ← c .before .before .before .before .before .before .before .before .before .before .tag-at .ensures)
 
 pub stored-sources-spec : {M : Type 1} → statement M
 stored-sources-spec =

@@ -13,7 +13,7 @@ store-waits-requires c κs = search needs
 
 returns : tie.Need-returns
 unfolding storeWord executed leftOf sourceLeft cellAt
-returns c = λ first t. simp (c .if1 .taken, ← c .before .store-waits .ensures, ← c .before .before .tag-at .ensures)
+returns c = λ first t dataWords. simp (c .if1 .taken, ← c .before .store-waits .ensures, ← c .before .before .tag-at .ensures)
 
 access-requires : tie.Need-access-requires
 access-requires c κs = search needs
@@ -35,7 +35,7 @@ next-requires c κs = search needs
 
 returns-2 : tie.Need-returns-2
 unfolding storeWord executed leftOf sourceLeft cellAt
-returns-2 c = λ first t. simp (← c .next .ensures, ← c .before .store-leaves .ensures, ← c .before .before .source-left2 .ensures, ← c .before .before .before .access2 .ensures, ← c .before .before .before .before .source-left .ensures, ← c .before .before .before .before .before .access .ensures, c .before .before .before .before .before .before .if1 .left, ← c .before .before .before .before .before .before .before .store-waits .ensures, ← c .before .before .before .before .before .before .before .before .tag-at .ensures)
+returns-2 c = λ first t dataWords. simp (← c .next .ensures, ← c .before .store-leaves .ensures, ← c .before .before .source-left2 .ensures, ← c .before .before .before .access2 .ensures, ← c .before .before .before .before .source-left .ensures, ← c .before .before .before .before .before .access .ensures, c .before .before .before .before .before .before .if1 .left, ← c .before .before .before .before .before .before .before .store-waits .ensures, ← c .before .before .before .before .before .before .before .before .tag-at .ensures)
 
 pub stored-two-spec : {M : Type 1} → statement M
 stored-two-spec =

@@ -121,11 +121,11 @@ returns-10 c = λ code program. c .load-indexed .ensures code _ program ∙ as-l
 
 returns-11 : tie.Need-returns-11
 unfolding decideCode rolesOf
-returns-11 c = λ code program. c .store-indirect .ensures code _ program ∙ as-listed _ _ _ _ (c .before .before .op10 .given .1)
+returns-11 c = λ code program. c .store-indirect .ensures code _ program _ ∙ as-listed _ _ _ _ (c .before .before .op10 .given .1)
 
 returns-12 : tie.Need-returns-12
 unfolding decideCode rolesOf
-returns-12 c = λ code program. c .store-indexed .ensures code _ program ∙ as-listed _ _ _ _ (c .before .before .op11 .given .1)
+returns-12 c = λ code program. c .store-indexed .ensures code _ program _ ∙ as-listed _ _ _ _ (c .before .before .op11 .given .1)
 
 pub decide-listed-spec : {M : Type 1} → statement M
 decide-listed-spec =
