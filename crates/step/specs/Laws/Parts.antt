@@ -1,12 +1,14 @@
 -- The parts of a step make the step.
 use mathlib.Core.Path.{_≡_, refl, sym, ap, ap₂, _∙_, subst}
+use mathlib.Core.Logic.{_≢_}
 use mathlib.Core.Bool.{Bool, true, false, cond, true≢false}
 use mathlib.Core.Option.{Option, none, some}
 use mathlib.Core.List.{List, [], _∷_}
 use Prim.Native.Nat.{ℕ, zero, suc, _-_}
 use lib.Dec.{leb, ltb}
+use lib.ListN.{getD}
 use lib.Seq.{set-getD}
-use borrow.Author.Tests.{lt-ltb, leb-false}
+use borrow.Author.Tests.{lt-ltb, leb-false, eq-eqb, ne-eqb}
 use Rattle.window.specs.declared.Row.{Row}
 use Rattle.window.specs.Windows.{registerWindow, dataWordWindow}
 use Rattle.window.specs.Memories.{Memory, written, storedAll}
@@ -18,16 +20,20 @@ use Rattle.operation.specs.Decide.{decide}
 use Rattle.step.specs.declared.Queue.{Queue}
 use Rattle.step.specs.declared.ProcessTable.{ProcessTable}
 use Rattle.step.specs.declared.Ending.{Ending}
-use Rattle.step.specs.declared.Ending.the-variants.{Trapped, Idle}
+use Rattle.step.specs.declared.Ending.the-variants.{Trapped}
+use Rattle.step.specs.declared.Ending.the-variants as ending
 use Rattle.step.specs.declared.Decided.{Decided}
+use Rattle.step.specs.declared.Decided.the-variants.{Idle, Decides}
 use Rattle.step.specs.declared.Motion.{Motion}
 use Rattle.step.specs.declared.Motion.the-variants.{Stays, Turns, Leaves, TurnsAndJoins, Joins}
 use Rattle.step.specs.declared.StepResult.{StepResult}
-use Rattle.step.specs.Queues.{headOf, turned, lowestFree}
-use Rattle.step.specs.State.{State, findRow, putRow, noQueue, queueIn, taskQueue, withQueue, processesOf}
+use Rattle.step.specs.Queues.{ring, listOf, headOf, turned, lowestFree}
+use Rattle.step.specs.State.{State, state, findRow, putRow, noQueue, queueIn, taskQueue, withQueue, pswsOf, processesOf, environment}
 use Rattle.step.specs.Act.{registerWrites, dataWrites, trappedRow, tableOf, Change, Stepped, changeOf, fateIn, createdIn, faultIn, createdPsw, headPsw, act}
-use Rattle.step.specs.Step.{rowDecides, acted, stepRow, stepBy, step}
+use Rattle.step.specs.Step.{noTrap, headDecides, rowDecides, acted, stepRow, stepBy, step}
 use Rattle.step.specs.Parts.{decidedAs, hasRoom, fateCreates, creates, fateResult, decisionResult, resultOf, fatePsws, decisionPsws, pswsAfter, registersWritten, dataWritten, movedQueue, moves, raised, rowAfter, Acts, steppedBy}
+use Rattle.step.specs.Laws.Occurrences.{Heads}
+use Rattle.step.specs.Laws.Queues.{heads}
 use Rattle.step.specs.Laws.Rows.{put-same, find-task}
 
 -- the task's own queue for its queue
@@ -51,6 +57,22 @@ unraised Turns len flag e = refl
 unraised Leaves len flag e = refl
 unraised (TurnsAndJoins p) len flag e = refl
 unraised (Joins p) len flag e = absurd (true≢false e)
+
+-- what is decided: a trapped task and one without processes decide nothing, else the head process does
+pub trapped-idle : (s : State) (r : Row) (psws : List ℕ) → r .kind ≢ noTrap → Idle ≡ decidedAs (rowDecides decide s r psws)
+unfolding rowDecides decidedAs
+trapped-idle s r psws h = simp (ne-eqb (r .kind) noTrap h)
+
+pub empty-idle : (s : State) (r : Row) (psw : List ℕ) (q : Queue) → r .kind ≡ noTrap → q .len ≡ 0 → Idle ≡ decidedAs (rowDecides decide s r (pswsOf psw (listOf q)))
+unfolding rowDecides headDecides decidedAs pswsOf listOf ring
+empty-idle s r psw q k e = simp (eq-eqb (r .kind) noTrap k, e)
+
+pub head-decides : (s : State) (r : Row) (psw : List ℕ) (q : Queue) (head word : ℕ) (d : Decision) → r .kind ≡ noTrap → q .len ≢ 0
+    → head ≡ headOf q → word ≡ getD psw head 0 → d ≡ decide (environment s r word) → Decides d ≡ decidedAs (rowDecides decide s r (pswsOf psw (listOf q)))
+unfolding rowDecides headDecides decidedAs pswsOf
+head-decides s r psw q head word d k n p w e =
+    let h : Heads (headOf q) (listOf q) = heads q n in
+    simp (eq-eqb (r .kind) noTrap k, h .is, e, w, p)
 
 -- what a result changes besides the two memories
 abbrev changed : ProcessTable → Row → StepResult → (psw : List ℕ) → Change
@@ -87,17 +109,7 @@ module _ (table : ProcessTable) (r : Row) (free : ℕ) (room : Bool) where
   change-parts (Executes e) g h = fate-parts (e .fate) g h
 
 abbrev after : State → List Row → ProcessTable → (registers dataWords : Memory) → Ending → Stepped
-after s rows table registers dataWords e = record {
-  state = record {
-    rows = rows;
-    table = table;
-    constants = s .constants;
-    registers = registers;
-    program = s .program;
-    dataWords = dataWords;
-  };
-  ending = e;
-}
+after s rows table registers dataWords e = record { state = state rows table (s .constants) registers (s .program) dataWords; ending = e }
 
 module _ (s : State) (r : Row) (head free : ℕ) (room : Bool) (x : StepResult) (psw : List ℕ) (m n : Memory) (stands : putRow (r .task) r (s .rows) ≡ s .rows)
     (heads : head ≡ headOf (taskQueue (s .table) (r .task))) where
@@ -107,7 +119,7 @@ module _ (s : State) (r : Row) (head free : ℕ) (room : Bool) (x : StepResult) 
   unfolding acted act steppedBy decidedAs resultOf pswsAfter registersWritten dataWritten written storedAll rowAfter movedQueue raised
   acted-parts none g h a =
       rw (a .ends, a .psws, a .registers, a .dataWords)
-      (ap₂ {C = Stepped} (λ rs qs. after s rs (tableOf (s .table .psw) qs (s .table .flag)) (s .registers) (s .dataWords) Idle)
+      (ap₂ {C = Stepped} (λ rs qs. after s rs (tableOf (s .table .psw) qs (s .table .flag)) (s .registers) (s .dataWords) ending.Idle)
       (sym stands)
       (sym (queue-same (s .table .queues) (r .task))))
   acted-parts (some d) g h a =
