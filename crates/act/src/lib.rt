@@ -5,7 +5,7 @@ ghost use Rattle.window.specs.Memories.{memory, written};
 ghost use Rattle.operation.specs.declared.Decision.the-variants.{Executes};
 ghost use Rattle.operation.specs.Environment.{kindOf};
 ghost use Rattle.step.specs.Act.{registerWrites, dataWrites, trappedRow};
-ghost use Rattle.step.specs.Parts.{fateCreates, creates, fateResult, fatePsws, movedQueue, moves, raised, Acts};
+ghost use Rattle.step.specs.Parts.{fateCreates, creates, fateResult, fatePsws, movedQueue, moves, raised, rowAfter, traps, Acts};
 use operation::Decision;
 use operation::Effects;
 use operation::Fate;
@@ -55,7 +55,7 @@ fn kind(k: Trap) -> u8
 }
 
 // A trap stores kind and PSW in the row.
-pub fn trapped_row(row: Row, k: Trap, psw: u64) -> Row
+fn trapped_row(row: Row, k: Trap, psw: u64) -> Row
     ensures { λ r. ⌜ r ≡ trappedRow row k psw ⌝ }
 {
     let mut next = row;
@@ -201,5 +201,28 @@ pub fn raised(m: Motion, flag: u8) -> u8
         Motion::Leaves => flag,
         Motion::TurnsAndJoins(_) => flag,
         Motion::Joins(_) => 1,
+    }
+}
+
+// Whether the row changes.
+pub fn traps(e: Ending) -> bool
+    ensures { λ r. ⌜ r ≡ traps e ⌝ }
+{
+    match e {
+        Ending::Executed => false,
+        Ending::Waved => false,
+        Ending::Trapped(_, _) => true,
+        Ending::Idle => false,
+    }
+}
+
+pub fn row_after(e: Ending, row: Row) -> Row
+    ensures { λ r. ⌜ r ≡ rowAfter e row ⌝ }
+{
+    match e {
+        Ending::Executed => row,
+        Ending::Waved => row,
+        Ending::Trapped(k, psw) => trapped_row(row, k, psw),
+        Ending::Idle => row,
     }
 }

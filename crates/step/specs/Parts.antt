@@ -124,6 +124,13 @@ rowAfter Waved r = r
 rowAfter (Trapped k p) r = trappedRow r k p
 rowAfter ending.Idle r = r
 
+-- whether the row changes
+unfoldable pub traps : Ending → Bool
+traps Executed = false
+traps Waved = false
+traps (Trapped k p) = true
+traps ending.Idle = false
+
 -- what is done about what is decided: the result, and every cell of the PSWs, the registers m and the data words n, before and after
 pub record Acts (r : Row) (d : Decided) (head free : ℕ) (room : Bool) (x : StepResult) (psw psw′ : List ℕ) (m m′ n n′ : Memory) : Type 0 where
   pub ends : x ≡ resultOf free room d

@@ -20,7 +20,7 @@ use Rattle.operation.specs.Decide.{decide}
 use Rattle.step.specs.declared.Queue.{Queue}
 use Rattle.step.specs.declared.ProcessTable.{ProcessTable}
 use Rattle.step.specs.declared.Ending.{Ending}
-use Rattle.step.specs.declared.Ending.the-variants.{Trapped}
+use Rattle.step.specs.declared.Ending.the-variants.{Executed, Waved, Trapped}
 use Rattle.step.specs.declared.Ending.the-variants as ending
 use Rattle.step.specs.declared.Decided.{Decided}
 use Rattle.step.specs.declared.Decided.the-variants.{Idle, Decides}
@@ -31,7 +31,7 @@ use Rattle.step.specs.Queues.{ring, listOf, headOf, turned, lowestFree}
 use Rattle.step.specs.State.{State, state, findRow, putRow, noQueue, queueIn, taskQueue, withQueue, pswsOf, processesOf, environment}
 use Rattle.step.specs.Act.{registerWrites, dataWrites, trappedRow, tableOf, Change, Stepped, changeOf, fateIn, createdIn, faultIn, createdPsw, headPsw, act}
 use Rattle.step.specs.Step.{noTrap, headDecides, rowDecides, acted, stepRow, stepBy, step}
-use Rattle.step.specs.Parts.{decidedAs, hasRoom, fateCreates, creates, fateResult, decisionResult, resultOf, fatePsws, decisionPsws, pswsAfter, registersWritten, dataWritten, movedQueue, moves, raised, rowAfter, Acts, steppedBy}
+use Rattle.step.specs.Parts.{decidedAs, hasRoom, fateCreates, creates, fateResult, decisionResult, resultOf, fatePsws, decisionPsws, pswsAfter, registersWritten, dataWritten, movedQueue, moves, raised, rowAfter, traps, Acts, steppedBy}
 use Rattle.step.specs.Laws.Occurrences.{Heads}
 use Rattle.step.specs.Laws.Queues.{heads}
 use Rattle.step.specs.Laws.Rows.{put-same, find-task}
@@ -57,6 +57,14 @@ unraised Turns len flag e = refl
 unraised Leaves len flag e = refl
 unraised (TurnsAndJoins p) len flag e = refl
 unraised (Joins p) len flag e = absurd (true≢false e)
+
+-- a row that does not change
+pub untrapped : (e : Ending) (r : Row) → traps e ≡ false → rowAfter e r ≡ r
+unfolding traps rowAfter
+untrapped Executed r n = refl
+untrapped Waved r n = refl
+untrapped (Trapped k p) r n = absurd (true≢false n)
+untrapped ending.Idle r n = refl
 
 -- what is decided: a trapped task and one without processes decide nothing, else the head process does
 pub trapped-idle : (s : State) (r : Row) (psws : List ℕ) → r .kind ≢ noTrap → Idle ≡ decidedAs (rowDecides decide s r psws)
