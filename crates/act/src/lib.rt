@@ -5,7 +5,7 @@ ghost use Rattle.window.specs.Memories.{memory, written};
 ghost use Rattle.operation.specs.declared.Decision.the-variants.{Executes};
 ghost use Rattle.operation.specs.Environment.{kindOf};
 ghost use Rattle.step.specs.Act.{registerWrites, dataWrites, trappedRow};
-ghost use Rattle.step.specs.Parts.{fateCreates, creates, fateResult, fatePsws, movedQueue, moves, raised, rowAfter, traps, Acts};
+ghost use Rattle.step.specs.Parts.{fateCreates, creates, result, fateResult, fatePsws, movedQueue, moves, raised, rowAfter, traps, Acts};
 use operation::Decision;
 use operation::Effects;
 use operation::Fate;
@@ -64,6 +64,12 @@ fn trapped_row(row: Row, k: Trap, psw: u64) -> Row
     next
 }
 
+fn ended(ending: Ending, motion: Motion) -> StepResult
+    ensures { λ r. ⌜ r ≡ result ending motion ⌝ }
+{
+    StepResult { ending, motion }
+}
+
 // What becomes of the process with the PT head. A create that makes 64 processes traps with kind 00, the creator staying head.
 fn act_fate(f: Fate, head: u8, free: u8, room: bool, psw: &mut [u64]) -> StepResult
     ensures { λ r. ⌜ (r ≡ fateResult free room f) × (now (psw .exit) ≡ fatePsws head free f (now (psw .entry))) ⌝ }
@@ -71,28 +77,16 @@ fn act_fate(f: Fate, head: u8, free: u8, room: bool, psw: &mut [u64]) -> StepRes
     match f {
         Fate::Continues(p) => {
             window::set_word(psw, head as usize, p);
-            StepResult {
-                ending: Ending::Executed,
-                motion: Motion::Turns,
-            }
+            ended(Ending::Executed, Motion::Turns)
         }
-        Fate::Quits => StepResult {
-            ending: Ending::Executed,
-            motion: Motion::Leaves,
-        },
+        Fate::Quits => ended(Ending::Executed, Motion::Leaves),
         Fate::Creates(p, new) => {
             window::set_word(psw, head as usize, p);
             window::set_word(psw, free as usize, new);
             if room {
-                return StepResult {
-                    ending: Ending::Executed,
-                    motion: Motion::TurnsAndJoins(free),
-                };
+                return ended(Ending::Executed, Motion::TurnsAndJoins(free));
             }
-            StepResult {
-                ending: Ending::Trapped(Trap::CreateFault, p),
-                motion: Motion::Joins(free),
-            }
+            ended(Ending::Trapped(Trap::CreateFault, p), Motion::Joins(free))
         }
     }
 }
@@ -113,22 +107,13 @@ pub fn act(
     ensures { λ r. ⌜ Acts row decided head free room r (now (psw .entry)) (now (psw .exit)) (memory (now (tags .entry)) (now (words .entry))) (memory (now (tags .exit)) (now (words .exit))) (memory (now (data_tags .entry)) (now (data_words .entry))) (memory (now (data_tags .exit)) (now (data_words .exit))) ⌝ }
 {
     let Decided::Decides(d) = decided else {
-        return StepResult {
-            ending: Ending::Idle,
-            motion: Motion::Stays,
-        };
+        return ended(Ending::Idle, Motion::Stays);
     };
     match d {
-        Decision::Waits(_) => StepResult {
-            ending: Ending::Waved,
-            motion: Motion::Turns,
-        },
+        Decision::Waits(_) => ended(Ending::Waved, Motion::Turns),
         Decision::Traps(k, p) => {
             window::set_word(psw, head as usize, p);
-            StepResult {
-                ending: Ending::Trapped(k, p),
-                motion: Motion::Stays,
-            }
+            ended(Ending::Trapped(k, p), Motion::Stays)
         }
         Decision::Executes(e) => {
             write_registers(row, e, tags, words);

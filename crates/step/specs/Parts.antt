@@ -27,8 +27,7 @@ use Rattle.step.specs.declared.Motion.{Motion}
 use Rattle.step.specs.declared.Motion.the-variants.{Stays, Turns, Leaves, TurnsAndJoins, Joins}
 use Rattle.step.specs.declared.StepResult.{StepResult}
 use Rattle.step.specs.Queues.{total, turned, shifted, joined, livePts}
-use Rattle.step.specs.State.{State, state, putRow, taskQueue, withQueue}
-use Rattle.step.specs.Act.{registerWrites, dataWrites, trappedRow, tableOf, Stepped}
+use Rattle.step.specs.Act.{registerWrites, dataWrites, trappedRow}
 
 -- a decision, or none, as an answer
 unfoldable pub decidedAs : Option Decision → Decided
@@ -137,19 +136,3 @@ pub record Acts (r : Row) (d : Decided) (head free : ℕ) (room : Bool) (x : Ste
   pub psws : psw′ ≡ pswsAfter head free d psw
   pub registers : m′ ≡ written (registerWindow r) (registersWritten d) m
   pub dataWords : n′ ≡ written (dataWordWindow r) (dataWritten d) n
-
--- the state that a step of the task with row r leaves, and its ending, from the parts
-unfoldable pub steppedBy : State → Row → StepResult → (psw : List ℕ) → (registers dataWords : Memory) → Stepped
-steppedBy s r x psw registers dataWords = record {
-  state =
-      state
-      (putRow (r .task) (rowAfter (x .ending) r) (s .rows))
-      (tableOf psw
-      (withQueue (s .table .queues) (r .task) (movedQueue (x .motion) (taskQueue (s .table) (r .task))))
-      (raised (x .motion) (s .table .flag)))
-      (s .constants)
-      registers
-      (s .program)
-      dataWords;
-  ending = x .ending;
-}

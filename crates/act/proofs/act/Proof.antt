@@ -11,23 +11,32 @@ enum-known-decided c = search needs
 enum-told : tie.Need-enum-told
 enum-told c = search needs
 
+ended-requires : tie.Need-ended-requires
+ended-requires c κs = search needs
+
 returns : tie.Need-returns
 unfolding resultOf decisionResult pswsAfter decisionPsws registersWritten registerWrites dataWritten dataWrites written storedAll
 returns c = record {
-  ends = simp (c .enum-told .given .1);
-  psws = simp (c .enum-told .given .1);
-  registers = simp (c .enum-told .given .1);
-  dataWords = simp (c .enum-told .given .1);
+  ends = simp (c .before .enum-told .given .1, ← c .ended .ensures);
+  psws = simp (c .before .enum-told .given .1);
+  registers = simp (c .before .enum-told .given .1);
+  dataWords = simp (c .before .enum-told .given .1);
 }
 
 enum-told-2 : tie.Need-enum-told-2
 enum-told-2 c = search needs
+
+ended-requires-2 : tie.Need-ended-requires-2
+ended-requires-2 c κs = search needs
 
 enum-known-d : tie.Need-enum-known-d
 enum-known-d c = search needs
 
 set-word-requires : tie.Need-set-word-requires
 set-word-requires c κs = search needs
+
+ended-requires-3 : tie.Need-ended-requires-3
+ended-requires-3 c κs = search needs
 
 enum-known-d-2 : tie.Need-enum-known-d-2
 enum-known-d-2 c = search needs
@@ -44,10 +53,10 @@ act-fate-requires c κs = search needs
 returns-2 : tie.Need-returns-2
 unfolding resultOf decisionResult pswsAfter decisionPsws registersWritten registerWrites dataWritten dataWrites written storedAll
 returns-2 c = record {
-  ends = simp (c .before .before .before .decided .given .1, c .enum-told2 .given .1);
-  psws = simp (c .before .before .before .decided .given .1, c .enum-told2 .given .1);
-  registers = simp (c .before .before .before .decided .given .1, c .enum-told2 .given .1);
-  dataWords = simp (c .before .before .before .decided .given .1, c .enum-told2 .given .1);
+  ends = simp (c .before .before .before .before .decided .given .1, c .before .enum-told2 .given .1, ← c .ended2 .ensures);
+  psws = simp (c .before .before .before .before .decided .given .1, c .before .enum-told2 .given .1);
+  registers = simp (c .before .before .before .before .decided .given .1, c .before .enum-told2 .given .1);
+  dataWords = simp (c .before .before .before .before .decided .given .1, c .before .enum-told2 .given .1);
 }
 
 same-length : tie.Need-same-length
@@ -56,10 +65,10 @@ same-length c = search needs
 returns-3 : tie.Need-returns-3
 unfolding resultOf decisionResult pswsAfter decisionPsws registersWritten registerWrites dataWritten dataWrites written storedAll
 returns-3 c = record {
-  ends = simp (c .before .before .before .before .before .before .before .before .decided .given .1, c .before .before .before .before .before .d .given .1);
-  psws = simp (c .before .before .before .before .before .before .before .before .decided .given .1, c .before .before .before .before .before .d .given .1, ← c .before .before .set-word .ensures);
-  registers = simp (c .before .before .before .before .before .before .before .before .decided .given .1, c .before .before .before .before .before .d .given .1);
-  dataWords = simp (c .before .before .before .before .before .before .before .before .decided .given .1, c .before .before .before .before .before .d .given .1);
+  ends = simp (c .before .before .before .before .before .before .before .before .before .decided .given .1, c .before .before .before .before .before .before .d .given .1, ← c .ended3 .ensures);
+  psws = simp (c .before .before .before .before .before .before .before .before .before .decided .given .1, c .before .before .before .before .before .before .d .given .1, ← c .before .before .before .set-word .ensures);
+  registers = simp (c .before .before .before .before .before .before .before .before .before .decided .given .1, c .before .before .before .before .before .before .d .given .1);
+  dataWords = simp (c .before .before .before .before .before .before .before .before .before .decided .given .1, c .before .before .before .before .before .before .d .given .1);
 }
 
 same-length-2 : tie.Need-same-length-2
@@ -92,10 +101,13 @@ act-spec =
     (tie.spec
     enum-known-decided
     enum-told
+    ended-requires
     returns
     enum-told-2
+    ended-requires-2
     enum-known-d
     set-word-requires
+    ended-requires-3
     enum-known-d-2
     write-registers-requires
     write-data-requires

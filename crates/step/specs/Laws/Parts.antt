@@ -3,10 +3,9 @@ use mathlib.Core.Path.{_≡_, refl, sym, ap, ap₂, _∙_, subst}
 use mathlib.Core.Logic.{_≢_}
 use mathlib.Core.Bool.{Bool, true, false, cond, true≢false}
 use mathlib.Core.Option.{Option, none, some}
-use mathlib.Core.List.{List, [], _∷_}
-use Prim.Native.Nat.{ℕ, zero, suc, _-_}
-use lib.Dec.{leb, ltb}
-use lib.ListN.{getD}
+use mathlib.Core.List.{List}
+use Prim.Native.Nat.{ℕ, _-_}
+use lib.ListN.{getD, set}
 use lib.Seq.{set-getD}
 use borrow.Author.Tests.{lt-ltb, leb-false, eq-eqb, ne-eqb}
 use Rattle.window.specs.declared.Row.{Row}
@@ -31,24 +30,36 @@ use Rattle.step.specs.Queues.{ring, listOf, headOf, turned, lowestFree}
 use Rattle.step.specs.State.{State, state, findRow, putRow, noQueue, queueIn, taskQueue, withQueue, pswsOf, processesOf, environment}
 use Rattle.step.specs.Act.{registerWrites, dataWrites, trappedRow, tableOf, Change, Stepped, changeOf, fateIn, createdIn, faultIn, createdPsw, headPsw, act}
 use Rattle.step.specs.Step.{noTrap, headDecides, rowDecides, acted, stepRow, stepBy, step}
-use Rattle.step.specs.Parts.{decidedAs, hasRoom, fateCreates, creates, fateResult, decisionResult, resultOf, fatePsws, decisionPsws, pswsAfter, registersWritten, dataWritten, movedQueue, moves, raised, rowAfter, traps, Acts, steppedBy}
+use Rattle.step.specs.Parts.{decidedAs, hasRoom, fateCreates, creates, fateResult, decisionResult, resultOf, fatePsws, decisionPsws, pswsAfter, registersWritten, dataWritten, movedQueue, moves, raised, rowAfter, traps, Acts}
 use Rattle.step.specs.Laws.Occurrences.{Heads}
 use Rattle.step.specs.Laws.Queues.{heads}
 use Rattle.step.specs.Laws.Rows.{put-same, find-task}
 
 -- the task's own queue for its queue
-pub queue-same : (qs : List Queue) (t : ℕ) → withQueue qs t (queueIn qs t) ≡ qs
+queue-same : (qs : List Queue) (t : ℕ) → withQueue qs t (queueIn qs t) ≡ qs
 unfolding withQueue queueIn
 queue-same qs t = set-getD qs (t - 1) noQueue
 
 -- a queue that does not move
-pub unmoved : (m : Motion) (q : Queue) → moves m (q .len) ≡ false → movedQueue m q ≡ q
+unmoved : (m : Motion) (q : Queue) → moves m (q .len) ≡ false → movedQueue m q ≡ q
 unfolding moves movedQueue turned
 unmoved Stays q e = refl
 unmoved Turns q e = simp (lt-ltb (q .len) 2 (leb-false 2 (q .len) e))
 unmoved Leaves q e = absurd (true≢false e)
 unmoved (TurnsAndJoins p) q e = absurd (true≢false e)
 unmoved (Joins p) q e = absurd (true≢false e)
+
+-- the queues with the moved queue at its index k, or as they are where it does not move
+pub queues-moved : (qs : List Queue) (t k : ℕ) (m : Motion) (q : Queue) → k ≡ t - 1 → q ≡ movedQueue m (getD qs k noQueue)
+    → set qs k q ≡ withQueue qs t (movedQueue m (queueIn qs t))
+unfolding withQueue queueIn
+queues-moved qs t k m q e p = rw (p, e)
+
+pub queues-kept : (qs : List Queue) (t k : ℕ) (m : Motion) → k ≡ t - 1 → moves m (getD qs k noQueue .len) ≡ false
+    → qs ≡ withQueue qs t (movedQueue m (queueIn qs t))
+queues-kept qs t k m e n =
+    let i : getD qs k noQueue ≡ queueIn qs t = unfold queueIn in (ap (λ (j : ℕ). getD qs j noQueue) e) in
+    sym (ap (withQueue qs t) (unmoved m (queueIn qs t) (rw (← i) n)) ∙ queue-same qs t)
 
 pub unraised : (m : Motion) (len flag : ℕ) → moves m len ≡ false → raised m flag ≡ flag
 unfolding moves raised
@@ -119,6 +130,11 @@ module _ (table : ProcessTable) (r : Row) (free : ℕ) (room : Bool) where
 abbrev after : State → List Row → ProcessTable → (registers dataWords : Memory) → Ending → Stepped
 after s rows table registers dataWords e = record { state = state rows table (s .constants) registers (s .program) dataWords; ending = e }
 
+-- the state that a step of the task with row r leaves, and its ending, from the parts
+unfoldable steppedBy : State → Row → StepResult → (psw : List ℕ) → (registers dataWords : Memory) → Stepped
+steppedBy s r x psw registers dataWords =
+    let c : Change = changed (s .table) r x psw in after s (putRow (r .task) (c .row) (s .rows)) (c .table) registers dataWords (c .ending)
+
 module _ (s : State) (r : Row) (head free : ℕ) (room : Bool) (x : StepResult) (psw : List ℕ) (m n : Memory) (stands : putRow (r .task) r (s .rows) ≡ s .rows)
     (heads : head ≡ headOf (taskQueue (s .table) (r .task))) where
   acted-parts : (o : Option Decision) → (creates (decidedAs o) ≡ true → free ≡ lowestFree (s .table .queues))
@@ -151,7 +167,7 @@ pub record Parts (t : ℕ) (s : State) (r : Row) (d : Decided) (x : StepResult) 
   pub places : creates d ≡ true → room ≡ hasRoom (s .table .queues)
   pub acts : Acts r d head free room x (s .table .psw) psw (s .registers) m (s .dataWords) n
 
-pub step-parts : (t : ℕ) (s : State) (r : Row) (d : Decided) (x : StepResult) (psw : List ℕ) (m n : Memory) → Parts t s r d x psw m n
+step-parts : (t : ℕ) (s : State) (r : Row) (d : Decided) (x : StepResult) (psw : List ℕ) (m n : Memory) → Parts t s r d x psw m n
     → step t s ≡ steppedBy s r x psw m n
 unfolding step stepBy stepRow
 step-parts t s r d x psw m n p =
@@ -164,3 +180,14 @@ step-parts t s r d x psw m n p =
     (subst (λ (d : Decided). creates d ≡ true → p .free ≡ lowestFree (s .table .queues)) (p .decides) (p .lowest))
     (subst (λ (d : Decided). creates d ≡ true → p .room ≡ hasRoom (s .table .queues)) (p .decides) (p .places))
     (subst (λ (d : Decided). Acts r d (p .head) (p .free) (p .room) x (s .table .psw) psw (s .registers) m (s .dataWords) n) (p .decides) (p .acts)))
+
+-- with what a run holds after the step: the row, the queues and the flag, each left as it is where it does not change
+pub step-made : (t : ℕ) (s : State) (r r′ : Row) (d : Decided) (x : StepResult) (psw : List ℕ) (m n : Memory) (queues : List Queue) (flag : ℕ) → Parts t s r d x psw m n
+    → r′ ≡ rowAfter (x .ending) r
+    → queues ≡ withQueue (s .table .queues) t (movedQueue (x .motion) (taskQueue (s .table) t))
+    → flag ≡ raised (x .motion) (s .table .flag)
+    → step t s ≡ after s (putRow t r′ (s .rows)) (tableOf psw queues flag) m n (x .ending)
+unfolding steppedBy
+step-made t s r r′ d x psw m n queues flag p a b c =
+    let e : t ≡ r .task = sym (find-task t (s .rows) r (p .row)) in
+    step-parts t s r d x psw m n p ∙ rw (a, b, c, e)
