@@ -1,4 +1,5 @@
 // One step of a task: queues, the process table, and how a step ends.
+use operation::Decision;
 use operation::Trap;
 
 // The PTs of a task's processes in a ring: the head stands at head, and len of them follow one another.
@@ -21,4 +22,29 @@ pub enum Ending {
     Waved,
     Trapped(Trap, u64),
     Idle,
+}
+
+// What the head process of a task decides; nothing where the task is trapped or without processes.
+pub enum Decided {
+    Idle,
+    Decides(Decision),
+}
+
+// What becomes of a task's queue.
+pub enum Motion {
+    Stays,
+    // head to tail
+    Turns,
+    // the head leaves
+    Leaves,
+    // head to tail, and a created PT behind it
+    TurnsAndJoins(u8),
+    // a created PT at the tail, the head staying head
+    Joins(u8),
+}
+
+// How a step ends, and what becomes of the queue.
+pub struct StepResult {
+    pub ending: Ending,
+    pub motion: Motion,
 }

@@ -1,0 +1,133 @@
+// Queues by value: head to tail, leave and join; the lowest free PT and the room for one more over the queues of all tasks.
+ghost use mathlib.Core.Path.{_≡_};
+ghost use Prim.Native.Nat.{suc};
+ghost use lib.Dec.{ltb};
+ghost use lib.ListN.{length};
+ghost use Rattle.step.specs.Queues.{total, headOf, afterHead, tailIndex, listOf, turned, shifted, joined, livePts, lowestFree};
+ghost use Rattle.queue.specs.Mask.{without, freeAfter};
+use step::Queue;
+
+// A word of the free PTs, PT p at digit p from the right: all are free.
+const ALL: u64 = 0xffff_ffff_ffff_ffff;
+
+pub fn head_pt(q: Queue) -> u8
+    ensures { λ r. ⌜ r ≡ headOf q ⌝ }
+{
+    let head = q.head % 64;
+    q.pts[head]
+}
+
+// The place behind the head.
+fn after_head(q: Queue) -> usize
+    ensures { λ r. ⌜ r ≡ afterHead q ⌝ }
+{
+    (q.head % 64 + 1) % 64
+}
+
+// The place behind the last.
+fn tail_index(q: Queue) -> usize
+    ensures { λ r. ⌜ r ≡ tailIndex q ⌝ }
+{
+    (q.head % 64 + q.len % 64) % 64
+}
+
+// Head to tail; a queue of fewer than two processes is its own turn.
+pub fn turn(q: Queue) -> Queue
+    ensures { λ r. ⌜ r ≡ turned q ⌝ }
+{
+    if q.len < 2 {
+        return q;
+    }
+    let tail = tail_index(q);
+    let pt = head_pt(q);
+    let mut next = q;
+    next.pts[tail] = pt;
+    next.head = after_head(q);
+    next
+}
+
+// The head leaves.
+pub fn leave(q: Queue) -> Queue
+    ensures { λ r. ⌜ r ≡ shifted q ⌝ }
+{
+    if q.len == 0 {
+        return q;
+    }
+    let mut next = q;
+    next.head = after_head(q);
+    next.len = q.len - 1;
+    next
+}
+
+// A PT joins at the tail; a full queue stays.
+pub fn join(q: Queue, pt: u8) -> Queue
+    ensures { λ r. ⌜ r ≡ joined q pt ⌝ }
+{
+    if 64 <= q.len {
+        return q;
+    }
+    let tail = tail_index(q);
+    let mut next = q;
+    next.pts[tail] = pt;
+    next.len = q.len + 1;
+    next
+}
+
+// The word of free PTs without one.
+fn without(free: u64, pt: u8) -> u64
+    ensures { λ r. ⌜ r ≡ without free pt ⌝ }
+{
+    if 64 <= pt {
+        return free;
+    }
+    if (free >> pt) % 2 == 0 {
+        return free;
+    }
+    free - (1u64 << pt)
+}
+
+// The word of free PTs without those of a queue.
+fn free_after(free: u64, q: Queue) -> u64
+    ensures { λ r. ⌜ r ≡ freeAfter (listOf q) free ⌝ }
+{
+    let mut free = free;
+    let mut at = q.head % 64;
+    let mut left = q.len;
+    while 0 < left {
+        free = without(free, q.pts[at]);
+        at = (at + 1) % 64;
+        left -= 1;
+    }
+    free
+}
+
+// The lowest free PT, 64 where none is.
+pub fn lowest_free(queues: [Queue; 7]) -> u8
+    ensures { λ r. ⌜ r ≡ lowestFree queues ⌝ }
+{
+    let mut free = ALL;
+    let mut k = 0;
+    while k < 7 {
+        if 0 < queues[k].len {
+            free = free_after(free, queues[k]);
+        }
+        k += 1;
+    }
+    u64::trailing_zeros(free) as u8
+}
+
+// One process more is fewer than 64.
+pub fn has_room(queues: [Queue; 7]) -> bool
+    ensures { λ r. ⌜ r ≡ ltb (suc (length (livePts queues))) total ⌝ }
+{
+    let mut room = 64;
+    let mut k = 0;
+    while k < 7 {
+        if room <= queues[k].len {
+            return false;
+        }
+        room -= queues[k].len;
+        k += 1;
+    }
+    1 < room
+}

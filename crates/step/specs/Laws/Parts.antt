@@ -1,0 +1,193 @@
+-- The parts of a step make the step.
+use mathlib.Core.Path.{_≡_, refl, sym, ap, ap₂, _∙_, subst}
+use mathlib.Core.Logic.{_≢_}
+use mathlib.Core.Bool.{Bool, true, false, cond, true≢false}
+use mathlib.Core.Option.{Option, none, some}
+use mathlib.Core.List.{List}
+use Prim.Native.Nat.{ℕ, _-_}
+use lib.ListN.{getD, set}
+use lib.Seq.{set-getD}
+use borrow.Author.Tests.{lt-ltb, leb-false, eq-eqb, ne-eqb}
+use Rattle.window.specs.declared.Row.{Row}
+use Rattle.window.specs.Windows.{registerWindow, dataWordWindow}
+use Rattle.window.specs.Memories.{Memory, written, storedAll}
+use Rattle.operation.specs.declared.Fate.{Fate}
+use Rattle.operation.specs.declared.Fate.the-variants.{Continues, Quits, Creates}
+use Rattle.operation.specs.declared.Decision.{Decision}
+use Rattle.operation.specs.declared.Decision.the-variants.{Waits, Traps, Executes}
+use Rattle.operation.specs.Decide.{decide}
+use Rattle.step.specs.declared.Queue.{Queue}
+use Rattle.step.specs.declared.ProcessTable.{ProcessTable}
+use Rattle.step.specs.declared.Ending.{Ending}
+use Rattle.step.specs.declared.Ending.the-variants.{Executed, Waved, Trapped}
+use Rattle.step.specs.declared.Ending.the-variants as ending
+use Rattle.step.specs.declared.Decided.{Decided}
+use Rattle.step.specs.declared.Decided.the-variants.{Idle, Decides}
+use Rattle.step.specs.declared.Motion.{Motion}
+use Rattle.step.specs.declared.Motion.the-variants.{Stays, Turns, Leaves, TurnsAndJoins, Joins}
+use Rattle.step.specs.declared.StepResult.{StepResult}
+use Rattle.step.specs.Queues.{ring, listOf, headOf, turned, lowestFree}
+use Rattle.step.specs.State.{State, state, findRow, putRow, noQueue, queueIn, taskQueue, withQueue, pswsOf, processesOf, environment}
+use Rattle.step.specs.Act.{registerWrites, dataWrites, trappedRow, tableOf, Change, Stepped, changeOf, fateIn, createdIn, faultIn, createdPsw, headPsw, act}
+use Rattle.step.specs.Step.{noTrap, headDecides, rowDecides, acted, stepRow, stepBy, step}
+use Rattle.step.specs.Parts.{decidedAs, hasRoom, fateCreates, creates, fateResult, decisionResult, resultOf, fatePsws, decisionPsws, pswsAfter, registersWritten, dataWritten, movedQueue, moves, raised, rowAfter, traps, Acts}
+use Rattle.step.specs.Laws.Occurrences.{Heads}
+use Rattle.step.specs.Laws.Queues.{heads}
+use Rattle.step.specs.Laws.Rows.{put-same, find-task}
+
+-- the task's own queue for its queue
+queue-same : (qs : List Queue) (t : ℕ) → withQueue qs t (queueIn qs t) ≡ qs
+unfolding withQueue queueIn
+queue-same qs t = set-getD qs (t - 1) noQueue
+
+-- a queue that does not move
+unmoved : (m : Motion) (q : Queue) → moves m (q .len) ≡ false → movedQueue m q ≡ q
+unfolding moves movedQueue turned
+unmoved Stays q e = refl
+unmoved Turns q e = simp (lt-ltb (q .len) 2 (leb-false 2 (q .len) e))
+unmoved Leaves q e = absurd (true≢false e)
+unmoved (TurnsAndJoins p) q e = absurd (true≢false e)
+unmoved (Joins p) q e = absurd (true≢false e)
+
+-- the queues with the moved queue at its index k, or as they are where it does not move
+pub queues-moved : (qs : List Queue) (t k : ℕ) (m : Motion) (q : Queue) → k ≡ t - 1 → q ≡ movedQueue m (getD qs k noQueue)
+    → set qs k q ≡ withQueue qs t (movedQueue m (queueIn qs t))
+unfolding withQueue queueIn
+queues-moved qs t k m q e p = rw (p, e)
+
+pub queues-kept : (qs : List Queue) (t k : ℕ) (m : Motion) → k ≡ t - 1 → moves m (getD qs k noQueue .len) ≡ false
+    → qs ≡ withQueue qs t (movedQueue m (queueIn qs t))
+queues-kept qs t k m e n =
+    let i : getD qs k noQueue ≡ queueIn qs t = unfold queueIn in (ap (λ (j : ℕ). getD qs j noQueue) e) in
+    sym (ap (withQueue qs t) (unmoved m (queueIn qs t) (rw (← i) n)) ∙ queue-same qs t)
+
+pub unraised : (m : Motion) (len flag : ℕ) → moves m len ≡ false → raised m flag ≡ flag
+unfolding moves raised
+unraised Stays len flag e = refl
+unraised Turns len flag e = refl
+unraised Leaves len flag e = refl
+unraised (TurnsAndJoins p) len flag e = refl
+unraised (Joins p) len flag e = absurd (true≢false e)
+
+-- a row that does not change
+pub untrapped : (e : Ending) (r : Row) → traps e ≡ false → rowAfter e r ≡ r
+unfolding traps rowAfter
+untrapped Executed r n = refl
+untrapped Waved r n = refl
+untrapped (Trapped k p) r n = absurd (true≢false n)
+untrapped ending.Idle r n = refl
+
+-- what is decided: a trapped task and one without processes decide nothing, else the head process does
+pub trapped-idle : (s : State) (r : Row) (psws : List ℕ) → r .kind ≢ noTrap → Idle ≡ decidedAs (rowDecides decide s r psws)
+unfolding rowDecides decidedAs
+trapped-idle s r psws h = simp (ne-eqb (r .kind) noTrap h)
+
+pub empty-idle : (s : State) (r : Row) (psw : List ℕ) (q : Queue) → r .kind ≡ noTrap → q .len ≡ 0 → Idle ≡ decidedAs (rowDecides decide s r (pswsOf psw (listOf q)))
+unfolding rowDecides headDecides decidedAs pswsOf listOf ring
+empty-idle s r psw q k e = simp (eq-eqb (r .kind) noTrap k, e)
+
+pub head-decides : (s : State) (r : Row) (psw : List ℕ) (q : Queue) (head word : ℕ) (d : Decision) → r .kind ≡ noTrap → q .len ≢ 0
+    → head ≡ headOf q → word ≡ getD psw head 0 → d ≡ decide (environment s r word) → Decides d ≡ decidedAs (rowDecides decide s r (pswsOf psw (listOf q)))
+unfolding rowDecides headDecides decidedAs pswsOf
+head-decides s r psw q head word d k n p w e =
+    let h : Heads (headOf q) (listOf q) = heads q n in
+    simp (eq-eqb (r .kind) noTrap k, h .is, e, w, p)
+
+-- what a result changes besides the two memories
+abbrev changed : ProcessTable → Row → StepResult → (psw : List ℕ) → Change
+changed table r x psw = record {
+  row = rowAfter (x .ending) r;
+  table =
+      tableOf psw
+      (withQueue (table .queues) (r .task) (movedQueue (x .motion) (taskQueue table (r .task))))
+      (raised (x .motion) (table .flag));
+  ending = x .ending;
+}
+
+module _ (table : ProcessTable) (r : Row) (free : ℕ) (room : Bool) where
+  fate-parts : (f : Fate) → (fateCreates f ≡ true → free ≡ lowestFree (table .queues)) → (fateCreates f ≡ true → room ≡ hasRoom (table .queues))
+      → fateIn table r f ≡ changed table r (fateResult free room f) (fatePsws (headOf (taskQueue table (r .task))) free f (table .psw))
+  unfolding fateIn fateCreates fateResult fatePsws headPsw createdIn createdPsw faultIn rowAfter movedQueue raised
+  fate-parts (Continues p) g h = refl
+  fate-parts Quits g h = refl
+  fate-parts (Creates p new) g h = rw (g refl, h refl) (go (hasRoom (table .queues)))
+    where
+      go : (b : Bool) → cond b (createdIn table r p new) (faultIn table r p new)
+          ≡ changed table r (fateResult (lowestFree (table .queues)) b (Creates p new)) (createdPsw table r p new)
+      go true = refl
+      go false = refl
+
+  change-parts : (d : Decision) → (creates (decidedAs (some d)) ≡ true → free ≡ lowestFree (table .queues))
+      → (creates (decidedAs (some d)) ≡ true → room ≡ hasRoom (table .queues))
+      → changeOf table r d ≡ changed table r (decisionResult free room d) (decisionPsws (headOf (taskQueue table (r .task))) free d (table .psw))
+  unfolding changeOf creates decidedAs decisionResult decisionPsws headPsw rowAfter movedQueue raised
+  change-parts (Waits w) g h = refl
+  change-parts (Traps k p) g h =
+      ap (λ (qs : List Queue). record { row = trappedRow r k p; table = tableOf (headPsw table (r .task) p) qs (table .flag); ending = Trapped k p })
+      (sym (queue-same (table .queues) (r .task)))
+  change-parts (Executes e) g h = fate-parts (e .fate) g h
+
+abbrev after : State → List Row → ProcessTable → (registers dataWords : Memory) → Ending → Stepped
+after s rows table registers dataWords e = record { state = state rows table (s .constants) registers (s .program) dataWords; ending = e }
+
+-- the state that a step of the task with row r leaves, and its ending, from the parts
+unfoldable steppedBy : State → Row → StepResult → (psw : List ℕ) → (registers dataWords : Memory) → Stepped
+steppedBy s r x psw registers dataWords =
+    let c : Change = changed (s .table) r x psw in after s (putRow (r .task) (c .row) (s .rows)) (c .table) registers dataWords (c .ending)
+
+module _ (s : State) (r : Row) (head free : ℕ) (room : Bool) (x : StepResult) (psw : List ℕ) (m n : Memory) (stands : putRow (r .task) r (s .rows) ≡ s .rows)
+    (heads : head ≡ headOf (taskQueue (s .table) (r .task))) where
+  acted-parts : (o : Option Decision) → (creates (decidedAs o) ≡ true → free ≡ lowestFree (s .table .queues))
+      → (creates (decidedAs o) ≡ true → room ≡ hasRoom (s .table .queues)) → Acts r (decidedAs o) head free room x (s .table .psw) psw (s .registers) m (s .dataWords) n
+      → acted decide s r o ≡ steppedBy s r x psw m n
+  unfolding acted act steppedBy decidedAs resultOf pswsAfter registersWritten dataWritten written storedAll rowAfter movedQueue raised
+  acted-parts none g h a =
+      rw (a .ends, a .psws, a .registers, a .dataWords)
+      (ap₂ {C = Stepped} (λ rs qs. after s rs (tableOf (s .table .psw) qs (s .table .flag)) (s .registers) (s .dataWords) ending.Idle)
+      (sym stands)
+      (sym (queue-same (s .table .queues) (r .task))))
+  acted-parts (some d) g h a =
+      rw (a .ends, a .psws, a .registers, a .dataWords, heads)
+      (ap
+      (λ (c : Change). after s (putRow (r .task) (c .row) (s .rows)) (c .table)
+      (written (registerWindow r) (registerWrites d) (s .registers))
+      (written (dataWordWindow r) (dataWrites d) (s .dataWords))
+      (c .ending))
+      (change-parts (s .table) r free room d g h))
+
+-- the parts that a step of task t makes, one after another
+pub record Parts (t : ℕ) (s : State) (r : Row) (d : Decided) (x : StepResult) (psw : List ℕ) (m n : Memory) : Type 0 where
+  pub head : ℕ
+  pub free : ℕ
+  pub room : Bool
+  pub row : findRow t (s .rows) ≡ some r
+  pub decides : d ≡ decidedAs (rowDecides decide s r (processesOf (s .table) t))
+  pub heads : head ≡ headOf (taskQueue (s .table) t)
+  pub lowest : creates d ≡ true → free ≡ lowestFree (s .table .queues)
+  pub places : creates d ≡ true → room ≡ hasRoom (s .table .queues)
+  pub acts : Acts r d head free room x (s .table .psw) psw (s .registers) m (s .dataWords) n
+
+step-parts : (t : ℕ) (s : State) (r : Row) (d : Decided) (x : StepResult) (psw : List ℕ) (m n : Memory) → Parts t s r d x psw m n
+    → step t s ≡ steppedBy s r x psw m n
+unfolding step stepBy stepRow
+step-parts t s r d x psw m n p =
+    let e : t ≡ r .task = sym (find-task t (s .rows) r (p .row)) in
+    rw (p .row)
+    (acted-parts s r (p .head) (p .free) (p .room) x psw m n
+    (subst (λ (u : ℕ). putRow u r (s .rows) ≡ s .rows) e (put-same t (s .rows) r (p .row)))
+    (subst (λ (u : ℕ). p .head ≡ headOf (taskQueue (s .table) u)) e (p .heads))
+    (rowDecides decide s r (processesOf (s .table) t))
+    (subst (λ (d : Decided). creates d ≡ true → p .free ≡ lowestFree (s .table .queues)) (p .decides) (p .lowest))
+    (subst (λ (d : Decided). creates d ≡ true → p .room ≡ hasRoom (s .table .queues)) (p .decides) (p .places))
+    (subst (λ (d : Decided). Acts r d (p .head) (p .free) (p .room) x (s .table .psw) psw (s .registers) m (s .dataWords) n) (p .decides) (p .acts)))
+
+-- with what a run holds after the step: the row, the queues and the flag, each left as it is where it does not change
+pub step-made : (t : ℕ) (s : State) (r r′ : Row) (d : Decided) (x : StepResult) (psw : List ℕ) (m n : Memory) (queues : List Queue) (flag : ℕ) → Parts t s r d x psw m n
+    → r′ ≡ rowAfter (x .ending) r
+    → queues ≡ withQueue (s .table .queues) t (movedQueue (x .motion) (taskQueue (s .table) t))
+    → flag ≡ raised (x .motion) (s .table .flag)
+    → step t s ≡ after s (putRow t r′ (s .rows)) (tableOf psw queues flag) m n (x .ending)
+unfolding steppedBy
+step-made t s r r′ d x psw m n queues flag p a b c =
+    let e : t ≡ r .task = sym (find-task t (s .rows) r (p .row)) in
+    step-parts t s r d x psw m n p ∙ rw (a, b, c, e)
