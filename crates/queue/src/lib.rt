@@ -1,9 +1,7 @@
 // Queues by value: head to tail, leave and join; the lowest free PT and the room for one more over the queues of all tasks.
 ghost use mathlib.Core.Path.{_≡_};
-ghost use Prim.Native.Nat.{suc};
-ghost use lib.Dec.{ltb};
-ghost use lib.ListN.{length};
-ghost use Rattle.step.specs.Queues.{total, headOf, afterHead, tailIndex, listOf, turned, shifted, joined, livePts, lowestFree};
+ghost use Rattle.step.specs.Queues.{headOf, afterHead, tailIndex, listOf, turned, shifted, joined, lowestFree};
+ghost use Rattle.step.specs.Parts.{hasRoom};
 ghost use Rattle.queue.specs.Mask.{without, freeAfter};
 use step::Queue;
 
@@ -118,7 +116,7 @@ pub fn lowest_free(queues: [Queue; 7]) -> u8
 
 // One process more is fewer than 64.
 pub fn has_room(queues: [Queue; 7]) -> bool
-    ensures { λ r. ⌜ r ≡ ltb (suc (length (livePts queues))) total ⌝ }
+    ensures { λ r. ⌜ r ≡ hasRoom queues ⌝ }
 {
     let mut room = 64;
     let mut k = 0;
