@@ -2,7 +2,7 @@
 use mathlib.Core.Path.{_≡_, refl, sym, ap, _∙_}
 use mathlib.Core.Bool.{Bool, true, false, not, _&&_, _||_}
 use mathlib.Core.List.{List, [], _∷_, _++_}
-use Prim.Native.Nat.{ℕ, suc, _+_, _≤_, _<_, _^_, min}
+use Prim.Native.Nat.{ℕ, suc, _+_, _≤_, _<_, min}
 use native.Mathlib.Nat.{min-eq-left, min-eq-right}
 use native.Mathlib.Omega.{arith}
 use lib.ListN.{length, getD, take, drop, length-take, length-append, drop-of-length-le}
@@ -10,9 +10,7 @@ use lib.Seq.{drop-cons, getD-take}
 use lib.Dec.{eqb, leb, ltb}
 use borrow.Author.Tests.{lt-ltb, eq-eqb, ne-eqb}
 use Rattle.word.specs.Laws.Bools.{Le?, below, above, le?}
-use Rattle.word.specs.Laws.Conjunctions.{also, and-assoc}
-use Rattle.window.specs.Sound.{wordSound}
-use Rattle.window.specs.Laws.Sound.{word-sound}
+use Rattle.word.specs.Laws.Conjunctions.{and-assoc}
 use Rattle.window.specs.declared.Row.{Row}
 use Rattle.step.specs.declared.Queue.{Queue}
 use Rattle.step.specs.Queues.{listOf, livePts}
@@ -138,11 +136,11 @@ module _ (qs : List Queue) (k : ℕ) where
 
 -- ---- the room for processes
 
-and-true : (b : Bool) → (b && true) ≡ b
+pub and-true : (b : Bool) → (b && true) ≡ b
 and-true true = refl
 and-true false = refl
 
-and-false : (b : Bool) → (b && false) ≡ false
+pub and-false : (b : Bool) → (b && false) ≡ false
 and-false true = refl
 and-false false = refl
 
@@ -169,9 +167,3 @@ module _ (f : ℕ → Bool) where
   pub every-ends : (l : List ℕ) (i : ℕ) (good : Bool) → length l ≤ i → (good && every f (drop i l)) ≡ good
   unfolding every
   every-ends l i good h = rw (none-of l i h) (and-true good)
-
--- the elements of a slice of words are words
-pub words-of : (l : List ℕ) → ((i : ℕ) → getD l i 0 < 2 ^ 64) → every wordSound l ≡ true
-unfolding every
-words-of [] h = refl
-words-of (x ∷ l) h = also (word-sound x (h 0)) (words-of l (λ i. h (suc i)))

@@ -136,7 +136,13 @@ fn row_ends_in(row: Row, registers: usize, program: usize, data_words: usize) ->
 }
 
 // The windows of the first n rows.
-fn windows_sound(rows: [Row; 7], n: usize, registers: usize, program: usize, data_words: usize) -> bool
+fn windows_sound(
+    rows: [Row; 7],
+    n: usize,
+    registers: usize,
+    program: usize,
+    data_words: usize,
+) -> bool
     ensures { λ r. ⌜ r ≡ windowsSound registers program data_words (take n rows) ⌝ }
 {
     let mut i = 0;

@@ -1,3 +1,9 @@
+use Prim.Native.Nat.{_^_}
+use mathlib.Core.Path.{sym, _∙_}
+use borrow.Author.Tests.{not-true, not-false}
+use Rattle.step.specs.Soundness.{memoriesSound}
+use Rattle.soundness.specs.Held.{stateIn, tagTest}
+use Rattle.soundness.proofs.Memories.{words-long, words-few}
 use borrow.Author.Needs.{needs}
 use Rattle.soundness.proofs.memories_sound.Statement.{statement}
 use Rattle.soundness.proofs.memories_sound.Tie as tie
@@ -7,7 +13,9 @@ use Rattle.soundness.proofs.memory_sound.Reads as memory-sound-reads
 
 -- src/lib.rt:354:9
 returns : tie.Need-returns
-returns c = ?
+unfolding memoriesSound stateIn
+returns c = λ all k t.
+    let a = c .before .before .before .before .before .before .before .args in simp (words-long 4096 (a .constants .now) (c .if1 .taken))
 
 -- src/lib.rt:356:9
 memory-sound-requires : tie.Need-memory-sound-requires
@@ -15,11 +23,19 @@ memory-sound-requires c κs = search needs
 
 -- src/lib.rt:357:9
 returns-2 : tie.Need-returns-2
-returns-2 c = ?
+unfolding memoriesSound stateIn tagTest
+returns-2 c = λ all k t.
+    let a = c .before .before .before .before .before .before .before .before .before .args in
+    let m = c .before .memory-sound in
+    simp (words-few 4096 (a .constants .now) (c .before .before .if1 .left) (λ i. c .before .before .before .before .before .before .before .before .shared-slice-known .given i .fits), sym (m .ensures) ∙ not-true (m .result) (c .if2 .taken))
 
 -- src/lib.rt:360:9
 returns-3 : tie.Need-returns-3
-returns-3 c = ?
+unfolding memoriesSound stateIn tagTest
+returns-3 c = λ all k t.
+    let a = c .before .before .before .before .before .before .before .before .before .before .args in
+    let m = c .before .before .memory-sound in
+    simp (words-few 4096 (a .constants .now) (c .before .before .before .if1 .left) (λ i. c .before .before .before .before .before .before .before .before .before .shared-slice-known .given i .fits), sym (m .ensures) ∙ not-false (m .result) (c .before .if2 .left), words-long (2 ^ 20) (a .program .now) (c .if3 .taken))
 
 -- src/lib.rt:362:5
 memory-sound-requires-2 : tie.Need-memory-sound-requires-2
@@ -27,7 +43,11 @@ memory-sound-requires-2 c κs = search needs
 
 -- src/lib.rt:343:1
 returns-4 : tie.Need-returns-4
-returns-4 c = ?
+unfolding memoriesSound stateIn tagTest
+returns-4 c = λ all k t.
+    let a = c .before .before .before .before .before .before .before .before .before .before .before .args in
+    let m = c .before .before .before .memory-sound in
+    simp (words-few 4096 (a .constants .now) (c .before .before .before .before .if1 .left) (λ i. c .before .before .before .before .before .before .before .before .before .before .shared-slice-known .given i .fits), sym (m .ensures) ∙ not-false (m .result) (c .before .before .if2 .left), words-few (2 ^ 20) (a .program .now) (c .before .if3 .left) (λ i. c .before .before .before .before .before .before .before .shared-slice-known4 .given i .fits), ← c .memory-sound2 .ensures)
 
 pub memories-sound-spec : {M : Type 1} → statement M
 memories-sound-spec =

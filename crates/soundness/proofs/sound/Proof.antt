@@ -1,3 +1,7 @@
+use mathlib.Core.Path.{sym, _∙_}
+use borrow.Author.Tests.{not-true, not-false, le-leb, lt-leb}
+use Rattle.step.specs.Soundness.{sound}
+use Rattle.soundness.specs.Held.{stateIn, soundIn}
 use borrow.Author.Needs.{needs}
 use Rattle.soundness.proofs.sound.Statement.{statement}
 use Rattle.soundness.proofs.sound.Tie as tie
@@ -10,7 +14,8 @@ use Rattle.soundness.proofs.windows_sound.Reads as windows-sound-reads
 
 -- src/lib.rt:382:9
 returns : tie.Need-returns
-returns c = ?
+unfolding soundIn
+returns c = simp (lt-leb _ _ (c .if1 .taken))
 
 -- src/lib.rt:384:9
 rows-sound-requires : tie.Need-rows-sound-requires
@@ -18,7 +23,8 @@ rows-sound-requires c κs = search needs
 
 -- src/lib.rt:385:9
 returns-2 : tie.Need-returns-2
-returns-2 c = ?
+unfolding soundIn sound stateIn
+returns-2 c = let r = c .before .rows-sound in simp (le-leb _ _ (c .before .before .if1 .left), sym (r .ensures) ∙ not-true (r .result) (c .if2 .taken))
 
 -- src/lib.rt:387:9
 table-sound-requires : tie.Need-table-sound-requires
@@ -26,7 +32,10 @@ table-sound-requires c κs = search needs
 
 -- src/lib.rt:388:9
 returns-3 : tie.Need-returns-3
-returns-3 c = ?
+unfolding soundIn sound stateIn
+returns-3 c = let r = c .before .before .before .rows-sound in
+    let t = c .before .table-sound in
+    simp (le-leb _ _ (c .before .before .before .before .if1 .left), sym (r .ensures) ∙ not-false (r .result) (c .before .before .if2 .left), sym (t .ensures) ∙ not-true (t .result) (c .if3 .taken))
 
 -- src/lib.rt:390:9
 memories-sound-requires : tie.Need-memories-sound-requires
@@ -34,7 +43,13 @@ memories-sound-requires c κs = search needs
 
 -- src/lib.rt:391:9
 returns-4 : tie.Need-returns-4
-returns-4 c = ?
+unfolding soundIn sound stateIn
+returns-4 c =
+    let a = c .before .before .before .before .before .before .before .before .before .before .before .before .before .args in
+    let r = c .before .before .before .before .before .rows-sound in
+    let t = c .before .before .before .table-sound in
+    let m = c .before .memories-sound in
+    simp (le-leb _ _ (c .before .before .before .before .before .before .if1 .left), sym (r .ensures) ∙ not-false (r .result) (c .before .before .before .before .if2 .left), sym (t .ensures) ∙ not-false (t .result) (c .before .before .if3 .left), sym (m .ensures (a .rows) (a .n) (a .table)) ∙ not-true (m .result) (c .if4 .taken))
 
 -- src/lib.rt:393:5
 windows-sound-requires : tie.Need-windows-sound-requires
@@ -42,7 +57,13 @@ windows-sound-requires c κs = search needs
 
 -- src/lib.rt:368:1
 returns-5 : tie.Need-returns-5
-returns-5 c = ?
+unfolding soundIn sound stateIn
+returns-5 c =
+    let a = c .before .before .before .before .before .before .before .before .before .before .before .before .before .before .args in
+    let r = c .before .before .before .before .before .before .rows-sound in
+    let t = c .before .before .before .before .table-sound in
+    let m = c .before .before .memories-sound in
+    simp (le-leb _ _ (c .before .before .before .before .before .before .before .if1 .left), sym (r .ensures) ∙ not-false (r .result) (c .before .before .before .before .before .if2 .left), sym (t .ensures) ∙ not-false (t .result) (c .before .before .before .if3 .left), sym (m .ensures (a .rows) (a .n) (a .table)) ∙ not-false (m .result) (c .before .if4 .left), ← c .windows-sound .ensures)
 
 pub sound-spec : {M : Type 1} → statement M
 sound-spec =

@@ -1,6 +1,4 @@
-use Prim.Native.Nat.{ℕ}
 use mathlib.Core.Bool.{_&&_}
-use mathlib.Core.List.{List, [], _∷_, map}
 use lib.ListN.{take}
 use Rattle.step.specs.Queues.{livePts}
 use Rattle.step.specs.Soundness.{queuesSound, processesSound, roomSound}
@@ -17,9 +15,6 @@ use Rattle.soundness.proofs.processes_sound.Reads as processes-sound-re
 use Rattle.soundness.proofs.queues_sound.Reads as queues-sound-reads
 use Rattle.soundness.proofs.room_sound.Reads as room-sound-reads
 
-length-mapped : {A B : Type 0} (f : A → B) (l : List A) (n : ℕ) → length (map f l) ≡ n → length l ≡ n
-length-mapped f l n e = sym (length-map l f) ∙ e
-
 -- the arrays have their lengths, so the tests of the rest decide
 opened : (c : tie.Start) → (let rows = take (c .args .n) (c .args .rows) in let t = c .args .table in
     tableSound rows t
@@ -28,7 +23,7 @@ opened : (c : tie.Start) → (let rows = take (c .args .n) (c .args .rows) in le
 unfolding tableSound
 opened c =
     let wide : length (c .args .table .psw) ≡ 64 = search needs in
-    let seven : length (c .args .table .queues) ≡ 7 = length-mapped _ _ _ (c .good .1 .1 .0 .1 .1 .1 .0 .1 .0 .1) in
+    let seven : length (c .args .table .queues) ≡ 7 = simp length-map at (c .good .1 .1 .0 .1 .1 .1 .0 .1 .0 .1) in
     simp (eq-eqb _ _ wide, eq-eqb _ _ seven)
 
 -- src/lib.rt:278:9
