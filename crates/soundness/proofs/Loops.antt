@@ -1,21 +1,20 @@
 -- The loops over rows and queues: a turn, and the ends.
+use Prim.Native.Nat.{ℕ, suc, _+_, _≤_, _<_, min}
 use mathlib.Core.Path.{_≡_, refl, sym, ap, _∙_}
 use mathlib.Core.Bool.{Bool, true, false, not, _&&_, _||_}
 use mathlib.Core.List.{List, [], _∷_, _++_}
-use Prim.Native.Nat.{ℕ, suc, _+_, _≤_, _<_, min}
 use native.Mathlib.Nat.{min-eq-left, min-eq-right}
 use native.Mathlib.Omega.{arith}
 use lib.ListN.{length, getD, take, drop, length-take, length-append, drop-of-length-le}
 use lib.Seq.{drop-cons, getD-take}
-use lib.Dec.{eqb, leb, ltb}
+use lib.Dec.{leb, ltb}
 use borrow.Author.Tests.{lt-ltb, eq-eqb, ne-eqb}
 use Rattle.word.specs.Laws.Bools.{Le?, below, above, le?}
-use Rattle.word.specs.Laws.Conjunctions.{and-assoc}
 use Rattle.window.specs.declared.Row.{Row}
 use Rattle.step.specs.declared.Queue.{Queue}
 use Rattle.step.specs.Queues.{listOf, livePts}
 use Rattle.step.specs.State.{noQueue}
-use Rattle.step.specs.Soundness.{rowSound, rowsSound, hasRow, windowsSound, queuesSound, roomSound, every}
+use Rattle.step.specs.Soundness.{rowSound, rowsSound, hasRow, windowsSound, queuesSound, roomSound}
 use Rattle.soundness.specs.Held.{rowEndsIn, queueSound}
 use Rattle.step.specs.Laws.Queues.{length-list}
 
@@ -156,14 +155,3 @@ module _ (live flag : ℕ) where
       go : (b : Bool) → Le? 64 live b → ltb (min 64 live) 64 ≡ not (b && true)
       go true (below k) = rw (min-eq-left k)
       go false (above k) = let h : live ≤ 64 = omega arith in rw (min-eq-right h) (lt-ltb live 64 k)
-
--- ---- a test of every number of a list
-
-module _ (f : ℕ → Bool) where
-  pub every-goes : (l : List ℕ) (i : ℕ) (good : Bool) → i < length l → ((good && f (getD l i 0)) && every f (drop (i + 1) l)) ≡ (good && every f (drop i l))
-  unfolding every
-  every-goes l i good h = rw (next-of l i 0 h) (and-assoc good _ _)
-
-  pub every-ends : (l : List ℕ) (i : ℕ) (good : Bool) → length l ≤ i → (good && every f (drop i l)) ≡ good
-  unfolding every
-  every-ends l i good h = rw (none-of l i h) (and-true good)

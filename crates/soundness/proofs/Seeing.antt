@@ -1,16 +1,16 @@
 -- The PTs one by one: the loops over a ring and over the queues, and what it says that they stay sound.
-use mathlib.Core.Path.{_≡_, refl, sym, ap, ap₂, _∙_, subst}
-use mathlib.Core.Logic.{_≢_}
-use mathlib.Core.Bool.{Bool, true, false, cond, not, _&&_, false≢true, true≢false}
-use mathlib.Core.List.{List, [], _∷_, _++_}
 use Prim.Native.Nat.{ℕ, zero, suc, _+_, _-_, _%_, _≤_, _<_}
+use mathlib.Core.Path.{_≡_, refl, sym, ap, ap₂, _∙_}
+use mathlib.Core.Logic.{_≢_}
+use mathlib.Core.Bool.{Bool, true, false, cond, not, _&&_, false≢true}
+use mathlib.Core.List.{List, [], _∷_, _++_}
 use native.Mathlib.Omega.{arith}
-use lib.ListN.{length, getD, set, drop, replicate, length-set, length-replicate, getD-replicate}
+use lib.ListN.{length, getD, set, drop, replicate, length-set, getD-replicate}
 use lib.Seq.{getD-set-same, getD-set-other}
 use lib.Dec.{eqb}
 use borrow.Author.Tests.{ltb-true}
 use Rattle.word.specs.Fields.{pswSound}
-use Rattle.word.specs.Laws.Bools.{Eq?, same, differ, eq?, and-left, and-right, clash}
+use Rattle.word.specs.Laws.Bools.{Eq?, same, differ, eq?, and-left, and-right}
 use Rattle.word.specs.Laws.Conjunctions.{also}
 use Rattle.step.specs.declared.Queue.{Queue}
 use Rattle.step.specs.Queues.{ring, listOf, livePts, occ}

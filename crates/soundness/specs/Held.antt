@@ -1,13 +1,12 @@
 -- A state as the code holds it: an array of seven rows of which the first n count, the process table, and lent slices.
 use Prim.Native.Nat.{ℕ}
-use mathlib.Core.Bool.{Bool, true, false, _&&_, _||_}
+use mathlib.Core.Bool.{Bool, _&&_, _||_}
 use mathlib.Core.List.{List}
 use lib.Dec.{eqb, leb}
 use lib.ListN.{take}
 use Rattle.window.specs.declared.Row.{Row}
 use Rattle.window.specs.Windows.{registerWindow, programWindow, dataWordWindow}
 use Rattle.window.specs.Memories.{memory}
-use Rattle.window.specs.Sound.{tagSound, stateSound}
 use Rattle.step.specs.declared.Queue.{Queue}
 use Rattle.step.specs.declared.ProcessTable.{ProcessTable}
 use Rattle.step.specs.State.{State}
@@ -31,11 +30,6 @@ rowEndsIn nr np nd r = endsIn (registerWindow r) nr && (endsIn (programWindow r)
 -- the queue of task t: in its array, and empty where t is unlisted
 unfoldable pub queueSound : List Row → (t : ℕ) → Queue → Bool
 queueSound rows t q = queueShaped q && (eqb (q .len) 0 || hasRow t rows)
-
--- the tag of a register, or the state of a data word
-unfoldable pub tagTest : (register : Bool) → ℕ → Bool
-tagTest true = tagSound
-tagTest false = stateSound
 
 -- a sound state is held: no more rows than there are, and the tests of a state
 unfoldable pub soundIn : (n : ℕ) → State → Bool

@@ -1,6 +1,5 @@
 // Whether a state is sound, so that some image reads as it: the tests of refusal 8.
 ghost use mathlib.Core.Path.{_≡_};
-ghost use mathlib.Core.Bool.{_&&_};
 ghost use mathlib.Core.List.{List};
 ghost use Prim.Native.Nat.{ℕ, min};
 ghost use lib.ListN.{length, take};
@@ -8,8 +7,9 @@ ghost use Rattle.window.specs.Memories.{memory};
 ghost use Rattle.window.specs.declared.Row.{Row};
 ghost use Rattle.step.specs.declared.ProcessTable.{ProcessTable};
 ghost use Rattle.step.specs.Queues.{total, listOf, livePts};
-ghost use Rattle.step.specs.Soundness.{taskSound, kindSound, recordSound, basesSound, rowSound, rowsSound, hasRow, endsIn, windowsSound, queuesSound, processesSound, roomSound, tableSound, every, memorySound, memoriesSound};
-ghost use Rattle.soundness.specs.Held.{stateIn, soundIn, rowEndsIn, queueSound, tagTest};
+ghost use Rattle.step.specs.Soundness.{taskSound, kindSound, recordSound, basesSound, rowSound, rowsSound, hasRow, endsIn, windowsSound, queuesSound, processesSound, roomSound, tableSound, memorySound, memoriesSound};
+ghost use Rattle.image_words.specs.Scanning.{tagTest};
+ghost use Rattle.soundness.specs.Held.{stateIn, soundIn, rowEndsIn, queueSound};
 ghost use Rattle.soundness.specs.Seen.{fresh, seenOne, seenAfter};
 use step::ProcessTable;
 use step::Queue;
@@ -298,40 +298,6 @@ fn table_sound(rows: [Row; 7], n: usize, table: ProcessTable) -> bool
 
 // ---- the memories
 
-// The tag of a register, or the state of a data word.
-fn tag_sound(register: bool, t: u8) -> bool
-    ensures { λ r. ⌜ r ≡ tagTest register t ⌝ }
-{
-    if register {
-        t <= 6 || (8 <= t && t <= 14)
-    } else {
-        t <= 1
-    }
-}
-
-// Whether all tags so far and this one are sound. With no early return the loop over tags goes many at a time.
-fn still(good: bool, register: bool, t: u8) -> bool
-    ensures { λ r. ⌜ r ≡ (good && tagTest register t) ⌝ }
-{
-    if good {
-        return tag_sound(register, t);
-    }
-    false
-}
-
-fn tags_sound(register: bool, tags: &[u8]) -> bool
-    ensures { λ r. ⌜ r ≡ every (tagTest register) (now (tags .entry)) ⌝ }
-{
-    let n = tags.len();
-    let mut good = true;
-    let mut i = 0;
-    while i < n {
-        good = still(good, register, tags[i]);
-        i += 1;
-    }
-    good
-}
-
 // At most `most` tags and words, of one length. A word of 64 bits is any u64.
 fn memory_sound(register: bool, tags: &[u8], words: &[u64], most: usize) -> bool
     ensures { λ r. ⌜ r ≡ memorySound most (tagTest register) (memory (now (tags .entry)) (now (words .entry))) ⌝ }
@@ -342,7 +308,7 @@ fn memory_sound(register: bool, tags: &[u8], words: &[u64], most: usize) -> bool
     if most < words.len() {
         return false;
     }
-    tags_sound(register, tags)
+    image_words::tags_ok(register, tags)
 }
 
 // Whatever else the state holds.

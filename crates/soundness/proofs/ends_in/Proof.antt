@@ -1,16 +1,12 @@
-use borrow.Author.Tests.{lt-ltb, le-ltb, le-leb, lt-leb, eq-eqb, ne-eqb}
+use borrow.Author.Tests.{lt-ltb, le-ltb}
 use Rattle.step.specs.Soundness.{endsIn}
 use Rattle.soundness.proofs.ends_in.Statement.{statement}
 use Rattle.soundness.proofs.ends_in.Tie as tie
-use Rattle.soundness.proofs.ends_in.Reads as reads
-use Rattle.soundness.proofs.ends_in.Lts as lts
 
--- src/lib.rt:117:1
 returns : tie.Need-returns
 unfolding endsIn
 returns c = simp (lt-ltb _ _ (c .if1 .taken))
 
--- src/lib.rt:117:1
 returns-2 : tie.Need-returns-2
 unfolding endsIn
 returns-2 c = simp (le-ltb _ _ (c .before .if1 .left))

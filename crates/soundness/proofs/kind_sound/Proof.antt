@@ -1,18 +1,14 @@
-use borrow.Author.Tests.{ne-eqb}
 use mathlib.Core.Logic.{inl, inr, ⊎-elim}
+use borrow.Author.Tests.{ne-eqb}
 use Rattle.operation.specs.Environment.{kindOf}
 use Rattle.step.specs.Soundness.{kindSound, member, kinds}
 use Rattle.soundness.proofs.kind_sound.Statement.{statement}
 use Rattle.soundness.proofs.kind_sound.Tie as tie
-use Rattle.soundness.proofs.kind_sound.Reads as reads
-use Rattle.soundness.proofs.kind_sound.Lts as lts
 
--- src/lib.rt:43:1
 returns : tie.Need-returns
 unfolding kindSound member kinds kindOf
 returns c = ⊎-elim (λ e. rw e) (⊎-elim (λ e. rw e) (⊎-elim (λ e. rw e) (⊎-elim (λ e. rw e) (⊎-elim (λ e. rw e) (⊎-elim (λ e. rw e) (⊎-elim (λ e. rw e) (λ e. rw e))))))) (c .match .keys1)
 
--- src/lib.rt:43:1
 returns-2 : tie.Need-returns-2
 unfolding kindSound member kinds kindOf
 returns-2 c = simp (ne-eqb _ 0 (λ e. c .match .rest .1 (inl e)), ne-eqb _ 18 (λ e. c .match .rest .1 (inr (inl e))), ne-eqb _ 20 (λ e. c .match .rest .1 (inr (inr (inl e)))), ne-eqb _ 22 (λ e. c .match .rest .1 (inr (inr (inr (inl e))))), ne-eqb _ 26 (λ e. c .match .rest .1 (inr (inr (inr (inr (inl e)))))), ne-eqb _ 28 (λ e. c .match .rest .1 (inr (inr (inr (inr (inr (inl e))))))), ne-eqb _ 30 (λ e. c .match .rest .1 (inr (inr (inr (inr (inr (inr (inl e)))))))), ne-eqb _ 255 (λ e. c .match .rest .1 (inr (inr (inr (inr (inr (inr (inr e)))))))))

@@ -1,13 +1,11 @@
-use native.Mathlib.Omega.{arith}
 use Prim.Native.Nat.{_+_, _-_, _≤_, _<_}
 use mathlib.Core.Path.{_≡_}
+use native.Mathlib.Omega.{arith}
 use lib.ListN.{length, drop}
 use Rattle.step.specs.Queues.{livePts}
 use Rattle.soundness.proofs.Loops.{count-goes, count-full, count-ends}
 use Rattle.soundness.proofs.live.Statement.{statement}
 use Rattle.soundness.proofs.live.Tie as tie
-use Rattle.soundness.proofs.live.Reads as reads
-use Rattle.soundness.proofs.live.Lts as lts
 
 abbrev Inv-loop : tie.InvT-loop
 Inv-loop queues n₀ k₀ n k = (k ≤ 7) × ((n < 64) × (n + length (livePts (drop k queues)) ≡ length (livePts queues)))
@@ -15,51 +13,39 @@ Inv-loop queues n₀ k₀ n k = (k ≤ 7) × ((n < 64) × (n + length (livePts (
 abbrev μ-loop : tie.MeasureT-loop
 μ-loop queues n₀ k₀ n k = 7 - k
 
--- src/lib.rt:252:5
 loop-holds : tie.Need-loop-holds Inv-loop μ-loop
 loop-holds c = (omega arith, (omega arith, omega arith))
 
--- src/lib.rt:253:12
 sub-if1 : tie.Need-sub-if1 Inv-loop μ-loop
 sub-if1 c = omega arith
 
--- src/lib.rt:253:22
 mul-if1 : tie.Need-mul-if1 Inv-loop μ-loop
 mul-if1 c = omega arith
 
--- src/lib.rt:253:22
 element-copy-out-if1 : tie.Need-element-copy-out-if1 Inv-loop μ-loop
 element-copy-out-if1 c = omega arith
 
--- src/lib.rt:254:13
 returns : tie.Need-returns Inv-loop μ-loop
 returns c = let l = c .before .before in count-full (l .before .args .t1) (l .loop .k) (l .loop .n) _ (omega arith) (omega arith) (l .loop .inv .1 .1)
 
--- src/lib.rt:256:14
 mul-n : tie.Need-mul-n Inv-loop μ-loop
 mul-n c = omega arith
 
--- src/lib.rt:256:14
 element-copy-out-n : tie.Need-element-copy-out-n Inv-loop μ-loop
 element-copy-out-n c = omega arith
 
--- src/lib.rt:256:9
 add-n : tie.Need-add-n Inv-loop μ-loop
 add-n c = omega arith
 
--- src/lib.rt:257:9
 add-k : tie.Need-add-k Inv-loop μ-loop
 add-k c = omega arith
 
--- src/lib.rt:252:5
 loop-less : tie.Need-loop-less Inv-loop μ-loop
 loop-less c = omega arith
 
--- src/lib.rt:252:5
 loop-again : tie.Need-loop-again Inv-loop μ-loop
 loop-again c = let l = c .before .before in (omega arith, (omega arith, count-goes (l .before .args .t1) (l .loop .k) (l .loop .n) _ (omega arith) (l .loop .inv .1 .1)))
 
--- src/lib.rt:247:1
 returns-2 : tie.Need-returns-2 Inv-loop μ-loop
 returns-2 c = let l = c .before in count-ends (l .before .args .t1) (l .loop .k) (l .loop .n) _ (omega arith) (l .loop .inv .1 .0) (l .loop .inv .1 .1)
 

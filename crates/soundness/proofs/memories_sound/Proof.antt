@@ -1,27 +1,22 @@
 use Prim.Native.Nat.{_^_}
 use mathlib.Core.Path.{sym, _∙_}
 use borrow.Author.Tests.{not-true, not-false}
-use Rattle.step.specs.Soundness.{memoriesSound}
-use Rattle.soundness.specs.Held.{stateIn, tagTest}
-use Rattle.soundness.proofs.Memories.{words-long, words-few}
 use borrow.Author.Needs.{needs}
+use Rattle.image_words.specs.Scanning.{tagTest}
+use Rattle.step.specs.Soundness.{memoriesSound}
+use Rattle.soundness.specs.Held.{stateIn}
+use Rattle.soundness.proofs.Memories.{words-long, words-few}
 use Rattle.soundness.proofs.memories_sound.Statement.{statement}
 use Rattle.soundness.proofs.memories_sound.Tie as tie
-use Rattle.soundness.proofs.memories_sound.Reads as reads
-use Rattle.soundness.proofs.memories_sound.Lts as lts
-use Rattle.soundness.proofs.memory_sound.Reads as memory-sound-reads
 
--- src/lib.rt:354:9
 returns : tie.Need-returns
 unfolding memoriesSound stateIn
 returns c = λ all k t.
     let a = c .before .before .before .before .before .before .before .args in simp (words-long 4096 (a .constants .now) (c .if1 .taken))
 
--- src/lib.rt:356:9
 memory-sound-requires : tie.Need-memory-sound-requires
 memory-sound-requires c κs = search needs
 
--- src/lib.rt:357:9
 returns-2 : tie.Need-returns-2
 unfolding memoriesSound stateIn tagTest
 returns-2 c = λ all k t.
@@ -29,7 +24,6 @@ returns-2 c = λ all k t.
     let m = c .before .memory-sound in
     simp (words-few 4096 (a .constants .now) (c .before .before .if1 .left) (λ i. c .before .before .before .before .before .before .before .before .shared-slice-known .given i .fits), sym (m .ensures) ∙ not-true (m .result) (c .if2 .taken))
 
--- src/lib.rt:360:9
 returns-3 : tie.Need-returns-3
 unfolding memoriesSound stateIn tagTest
 returns-3 c = λ all k t.
@@ -37,11 +31,9 @@ returns-3 c = λ all k t.
     let m = c .before .before .memory-sound in
     simp (words-few 4096 (a .constants .now) (c .before .before .before .if1 .left) (λ i. c .before .before .before .before .before .before .before .before .before .shared-slice-known .given i .fits), sym (m .ensures) ∙ not-false (m .result) (c .before .if2 .left), words-long (2 ^ 20) (a .program .now) (c .if3 .taken))
 
--- src/lib.rt:362:5
 memory-sound-requires-2 : tie.Need-memory-sound-requires-2
 memory-sound-requires-2 c κs = search needs
 
--- src/lib.rt:343:1
 returns-4 : tie.Need-returns-4
 unfolding memoriesSound stateIn tagTest
 returns-4 c = λ all k t.

@@ -1,7 +1,6 @@
-use native.Mathlib.Omega.{arith}
 use Prim.Native.Nat.{_-_, _≤_}
 use mathlib.Core.Path.{_≡_, refl, ap, _∙_}
-use mathlib.Core.Bool.{Bool}
+use native.Mathlib.Omega.{arith}
 use lib.ListN.{drop}
 use borrow.Author.Needs.{needs}
 use Rattle.step.specs.Queues.{livePts}
@@ -10,9 +9,6 @@ use Rattle.soundness.specs.Seen.{seenAfter}
 use Rattle.soundness.proofs.Seeing.{queues-go, queues-end, seen-sound}
 use Rattle.soundness.proofs.processes_sound.Statement.{statement}
 use Rattle.soundness.proofs.processes_sound.Tie as tie
-use Rattle.soundness.proofs.processes_sound.Reads as reads
-use Rattle.soundness.proofs.processes_sound.Lts as lts
-use Rattle.soundness.proofs.see_queue.Reads as see-queue-reads
 
 abbrev Inv-loop : tie.InvT-loop
 Inv-loop psw queues seen₀ k₀ seen k = (k ≤ 7) × (seenAfter psw (livePts (drop k queues)) seen ≡ seenAfter psw (livePts queues) seen₀)
@@ -20,35 +16,27 @@ Inv-loop psw queues seen₀ k₀ seen k = (k ≤ 7) × (seenAfter psw (livePts (
 abbrev μ-loop : tie.MeasureT-loop
 μ-loop psw queues seen₀ k₀ seen k = 7 - k
 
--- src/lib.rt:239:5
 loop-holds : tie.Need-loop-holds Inv-loop μ-loop
 loop-holds c = (omega arith, refl)
 
--- src/lib.rt:240:37
 mul-see-queue : tie.Need-mul-see-queue Inv-loop μ-loop
 mul-see-queue c = omega arith
 
--- src/lib.rt:240:37
 array-copy-out-see-queue : tie.Need-array-copy-out-see-queue Inv-loop μ-loop
 array-copy-out-see-queue c = omega arith
 
--- src/lib.rt:240:9
 see-queue-requires : tie.Need-see-queue-requires Inv-loop μ-loop
 see-queue-requires c κs = search needs
 
--- src/lib.rt:241:9
 add-k : tie.Need-add-k Inv-loop μ-loop
 add-k c = omega arith
 
--- src/lib.rt:239:5
 loop-less : tie.Need-loop-less Inv-loop μ-loop
 loop-less c = omega arith
 
--- src/lib.rt:239:5
 loop-again : tie.Need-loop-again Inv-loop μ-loop
 loop-again c = let l = c .before .before .before in (omega arith, queues-go _ (l .before .args .t2) (l .loop .k) _ _ _ (omega arith) (c .see-queue .ensures) (l .loop .inv .1))
 
--- src/lib.rt:231:1
 returns : tie.Need-returns Inv-loop μ-loop
 returns c = let l = c .before in ap (λ (s : Seen). s .sound) (queues-end _ (l .before .args .t2) (l .loop .k) _ _ (omega arith) (l .loop .inv .1)) ∙ seen-sound _ _
 

@@ -1,31 +1,23 @@
-use native.Mathlib.Omega.{arith}
-use borrow.Author.Tests.{le-leb, lt-leb, eq-eqb, ne-eqb}
 use mathlib.Core.Path.{_≡_}
 use lib.ListN.{length}
+use borrow.Author.Tests.{le-leb, lt-leb, eq-eqb, ne-eqb}
+use borrow.Author.Needs.{needs}
 use Rattle.step.specs.Soundness.{queueShaped}
 use Rattle.soundness.specs.Held.{queueSound}
-use borrow.Author.Needs.{needs}
 use Rattle.soundness.proofs.queue_sound.Statement.{statement}
 use Rattle.soundness.proofs.queue_sound.Tie as tie
-use Rattle.soundness.proofs.queue_sound.Reads as reads
-use Rattle.soundness.proofs.queue_sound.Lts as lts
-use Rattle.soundness.proofs.has_row.Reads as has-row-reads
 
--- src/lib.rt:159:9
 returns : tie.Need-returns
 unfolding queueSound queueShaped
 returns c = let a : length (c .before .before .args .q .pts) ≡ 64 = search needs in simp (eq-eqb _ _ a, lt-leb _ _ (c .if1 .taken))
 
--- src/lib.rt:162:9
 returns-2 : tie.Need-returns-2
 unfolding queueSound queueShaped
 returns-2 c = let a : length (c .before .before .before .before .args .q .pts) ≡ 64 = search needs in simp (eq-eqb _ _ a, le-leb _ _ (c .before .before .if1 .left), eq-eqb _ _ (c .if2 .taken))
 
--- src/lib.rt:164:5
 has-row-requires : tie.Need-has-row-requires
 has-row-requires c κs = search needs
 
--- src/lib.rt:155:1
 returns-3 : tie.Need-returns-3
 unfolding queueSound queueShaped
 returns-3 c = let a : length (c .before .before .before .before .before .args .q .pts) ≡ 64 = search needs in simp (← c .has-row .ensures, eq-eqb _ _ a, le-leb _ _ (c .before .before .before .if1 .left), ne-eqb _ _ (c .before .if2 .left))

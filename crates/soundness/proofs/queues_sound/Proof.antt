@@ -1,17 +1,14 @@
-use Rattle.soundness.proofs.Loops.{next-of, none-of, queues-tested, goes, fails, ends}
+use Prim.Native.Nat.{_+_, _-_, _≤_}
+use mathlib.Core.Path.{_≡_, refl, sym, _∙_}
 use native.Mathlib.Omega.{arith}
 use native.Mathlib.Numerals.{add-one}
-use Prim.Native.Nat.{suc, _+_, _-_, _≤_}
-use mathlib.Core.Path.{_≡_, refl, sym, _∙_}
 use lib.ListN.{take, drop}
 use borrow.Author.Needs.{needs}
 use borrow.Author.Tests.{not-true, not-false}
+use Rattle.soundness.proofs.Loops.{next-of, none-of, queues-tested, goes, fails, ends}
 use Rattle.step.specs.Soundness.{queuesSound}
 use Rattle.soundness.proofs.queues_sound.Statement.{statement}
 use Rattle.soundness.proofs.queues_sound.Tie as tie
-use Rattle.soundness.proofs.queues_sound.Reads as reads
-use Rattle.soundness.proofs.queues_sound.Lts as lts
-use Rattle.soundness.proofs.queue_sound.Reads as queue-sound-reads
 
 abbrev Inv-loop : tie.InvT-loop
 Inv-loop rows n queues t₀ k₀ t k = (k ≤ 7) × ((t ≡ k + 1) × (queuesSound (take n rows) t (drop k queues) ≡ queuesSound (take n rows) 1 queues))
@@ -19,43 +16,33 @@ Inv-loop rows n queues t₀ k₀ t k = (k ≤ 7) × ((t ≡ k + 1) × (queuesSou
 abbrev μ-loop : tie.MeasureT-loop
 μ-loop rows n queues t₀ k₀ t k = 7 - k
 
--- src/lib.rt:172:5
 loop-holds : tie.Need-loop-holds Inv-loop μ-loop
 loop-holds c = (omega arith, (refl, refl))
 
--- src/lib.rt:173:37
 mul-queue-sound : tie.Need-mul-queue-sound Inv-loop μ-loop
 mul-queue-sound c = omega arith
 
--- src/lib.rt:173:37
 array-copy-out-queue-sound : tie.Need-array-copy-out-queue-sound Inv-loop μ-loop
 array-copy-out-queue-sound c = omega arith
 
--- src/lib.rt:173:13
 queue-sound-requires : tie.Need-queue-sound-requires Inv-loop μ-loop
 queue-sound-requires c κs = search needs
 
--- src/lib.rt:174:13
 returns : tie.Need-returns Inv-loop μ-loop
 returns c = let l = c .before .before .before .before in fails (queues-tested _) (next-of (l .before .args .t3) (l .loop .k) _ (omega arith)) (sym (c .before .queue-sound .ensures) ∙ not-true (c .before .queue-sound .result) (c .if1 .taken)) (l .loop .inv .1 .1)
 
--- src/lib.rt:176:9
 add-t : tie.Need-add-t Inv-loop μ-loop
 add-t c = omega arith
 
--- src/lib.rt:177:9
 add-k : tie.Need-add-k Inv-loop μ-loop
 add-k c = omega arith
 
--- src/lib.rt:172:5
 loop-less : tie.Need-loop-less Inv-loop μ-loop
 loop-less c = omega arith
 
--- src/lib.rt:172:5
 loop-again : tie.Need-loop-again Inv-loop μ-loop
 loop-again c = let l = c .before .before .before .before in (omega arith, (omega arith, rw add-one (goes (queues-tested _) (next-of (l .before .args .t3) (l .loop .k) _ (omega arith)) (sym (c .before .queue-sound .ensures) ∙ not-false (c .before .queue-sound .result) (c .if1 .left)) (l .loop .inv .1 .1))))
 
--- src/lib.rt:167:1
 returns-2 : tie.Need-returns-2 Inv-loop μ-loop
 returns-2 c = let l = c .before in ends (queues-tested _) (none-of (l .before .args .t3) (l .loop .k) (omega arith)) (l .loop .inv .1 .1)
 

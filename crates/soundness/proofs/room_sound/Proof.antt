@@ -1,23 +1,17 @@
-use mathlib.Core.Path.{ap, _∙_}
 use Prim.Native.Nat.{ℕ}
+use mathlib.Core.Path.{ap, _∙_}
 use lib.Dec.{ltb}
-use Rattle.soundness.proofs.Loops.{room-up, room-down}
 use borrow.Author.Needs.{needs}
+use Rattle.soundness.proofs.Loops.{room-up, room-down}
 use Rattle.soundness.proofs.room_sound.Statement.{statement}
 use Rattle.soundness.proofs.room_sound.Tie as tie
-use Rattle.soundness.proofs.room_sound.Reads as reads
-use Rattle.soundness.proofs.room_sound.Lts as lts
-use Rattle.soundness.proofs.live.Reads as live-reads
 
--- src/lib.rt:267:9
 returns : tie.Need-returns
 returns c = room-up _ _ (c .if1 .taken)
 
--- src/lib.rt:269:5
 live-requires : tie.Need-live-requires
 live-requires c κs = search needs
 
--- src/lib.rt:263:1
 returns-2 : tie.Need-returns-2
 returns-2 c = ap (λ (n : ℕ). ltb n 64) (c .live .ensures) ∙ room-down _ _ (c .before .if1 .left)
 

@@ -1,50 +1,35 @@
-use Rattle.soundness.specs.Held.{rowEndsIn}
 use borrow.Author.Tests.{not-true, not-false}
 use borrow.Author.Needs.{needs}
+use Rattle.soundness.specs.Held.{rowEndsIn}
 use Rattle.soundness.proofs.row_ends_in.Statement.{statement}
 use Rattle.soundness.proofs.row_ends_in.Tie as tie
-use Rattle.soundness.proofs.row_ends_in.Reads as reads
-use Rattle.soundness.proofs.row_ends_in.Lts as lts
-use Rattle.soundness.proofs.ends_in.Reads as ends-in-reads
-use Rattle.window.proofs.data_word_window.Reads as data-word-window-reads
-use Rattle.window.proofs.program_window.Reads as program-window-reads
-use Rattle.window.proofs.register_window.Reads as register-window-reads
 
--- src/lib.rt:126:17
 register-window-requires : tie.Need-register-window-requires
 register-window-requires c κs = search needs
 
--- src/lib.rt:126:9
 ends-in-requires : tie.Need-ends-in-requires
 ends-in-requires c κs = search needs
 
--- src/lib.rt:127:9
 returns : tie.Need-returns
 unfolding rowEndsIn
 returns c = simp (not-true (c .before .ends-in .result) (c .if1 .taken), ← c .before .ends-in .ensures, ← c .before .before .register-window .ensures)
 
--- src/lib.rt:129:17
 program-window-requires : tie.Need-program-window-requires
 program-window-requires c κs = search needs
 
--- src/lib.rt:129:9
 ends-in-requires-2 : tie.Need-ends-in-requires-2
 ends-in-requires-2 c κs = search needs
 
--- src/lib.rt:130:9
 returns-2 : tie.Need-returns-2
 unfolding rowEndsIn
 returns-2 c = simp (not-true (c .before .ends-in2 .result) (c .if2 .taken), ← c .before .ends-in2 .ensures, ← c .before .before .program-window .ensures, not-false (c .before .before .before .before .ends-in .result) (c .before .before .before .if1 .left), ← c .before .before .before .before .ends-in .ensures, ← c .before .before .before .before .before .register-window .ensures)
 
--- src/lib.rt:132:13
 data-word-window-requires : tie.Need-data-word-window-requires
 data-word-window-requires c κs = search needs
 
--- src/lib.rt:132:5
 ends-in-requires-3 : tie.Need-ends-in-requires-3
 ends-in-requires-3 c κs = search needs
 
--- src/lib.rt:123:1
 returns-3 : tie.Need-returns-3
 unfolding rowEndsIn
 returns-3 c = simp (← c .ends-in3 .ensures, ← c .before .data-word-window .ensures, not-false (c .before .before .before .ends-in2 .result) (c .before .before .if2 .left), ← c .before .before .before .ends-in2 .ensures, ← c .before .before .before .before .program-window .ensures, not-false (c .before .before .before .before .before .before .ends-in .result) (c .before .before .before .before .before .if1 .left), ← c .before .before .before .before .before .before .ends-in .ensures, ← c .before .before .before .before .before .before .before .register-window .ensures)

@@ -1,47 +1,33 @@
 use borrow.Author.Tests.{not-true, not-false}
-use Rattle.step.specs.Soundness.{rowSound}
 use borrow.Author.Needs.{needs}
+use Rattle.step.specs.Soundness.{rowSound}
 use Rattle.soundness.proofs.row_sound.Statement.{statement}
 use Rattle.soundness.proofs.row_sound.Tie as tie
-use Rattle.soundness.proofs.row_sound.Reads as reads
-use Rattle.soundness.proofs.row_sound.Lts as lts
-use Rattle.soundness.proofs.bases_sound.Reads as bases-sound-reads
-use Rattle.soundness.proofs.kind_sound.Reads as kind-sound-reads
-use Rattle.soundness.proofs.record_sound.Reads as record-sound-reads
-use Rattle.soundness.proofs.task_sound.Reads as task-sound-reads
 
--- src/lib.rt:65:9
 task-sound-requires : tie.Need-task-sound-requires
 task-sound-requires c κs = search needs
 
--- src/lib.rt:66:9
 returns : tie.Need-returns
 unfolding rowSound
 returns c = simp (not-true (c .before .task-sound .result) (c .if1 .taken), ← c .before .task-sound .ensures)
 
--- src/lib.rt:68:9
 bases-sound-requires : tie.Need-bases-sound-requires
 bases-sound-requires c κs = search needs
 
--- src/lib.rt:69:9
 returns-2 : tie.Need-returns-2
 unfolding rowSound
 returns-2 c = simp (not-true (c .before .bases-sound .result) (c .if2 .taken), ← c .before .bases-sound .ensures, not-false (c .before .before .before .task-sound .result) (c .before .before .if1 .left), ← c .before .before .before .task-sound .ensures)
 
--- src/lib.rt:71:9
 kind-sound-requires : tie.Need-kind-sound-requires
 kind-sound-requires c κs = search needs
 
--- src/lib.rt:72:9
 returns-3 : tie.Need-returns-3
 unfolding rowSound
 returns-3 c = simp (not-true (c .before .kind-sound .result) (c .if3 .taken), ← c .before .kind-sound .ensures, not-false (c .before .before .before .bases-sound .result) (c .before .before .if2 .left), ← c .before .before .before .bases-sound .ensures, not-false (c .before .before .before .before .before .task-sound .result) (c .before .before .before .before .if1 .left), ← c .before .before .before .before .before .task-sound .ensures)
 
--- src/lib.rt:74:5
 record-sound-requires : tie.Need-record-sound-requires
 record-sound-requires c κs = search needs
 
--- src/lib.rt:62:1
 returns-4 : tie.Need-returns-4
 unfolding rowSound
 returns-4 c = simp (← c .record-sound .ensures, not-false (c .before .before .kind-sound .result) (c .before .if3 .left), ← c .before .before .kind-sound .ensures, not-false (c .before .before .before .before .bases-sound .result) (c .before .before .before .if2 .left), ← c .before .before .before .before .bases-sound .ensures, not-false (c .before .before .before .before .before .before .task-sound .result) (c .before .before .before .before .before .if1 .left), ← c .before .before .before .before .before .before .task-sound .ensures)

@@ -1,28 +1,21 @@
 use mathlib.Core.Path.{sym, _∙_}
-use Rattle.soundness.proofs.Seeing.{fresh-low}
 use borrow.Author.Tests.{not-true, not-false}
-use Rattle.soundness.specs.Seen.{seenOne}
 use borrow.Author.Needs.{needs}
+use Rattle.soundness.proofs.Seeing.{fresh-low}
+use Rattle.soundness.specs.Seen.{seenOne}
 use Rattle.soundness.proofs.see.Statement.{statement}
 use Rattle.soundness.proofs.see.Tie as tie
-use Rattle.soundness.proofs.see.Reads as reads
-use Rattle.soundness.proofs.see.Lts as lts
-use Rattle.soundness.proofs.is_fresh.Reads as is-fresh-reads
 
--- src/lib.rt:206:9
 is-fresh-requires : tie.Need-is-fresh-requires
 is-fresh-requires c κs = search needs
 
--- src/lib.rt:208:9
 returns : tie.Need-returns
 unfolding seenOne
 returns c = simp (not-true (c .before .is-fresh .result) (c .if1 .taken), ← c .before .is-fresh .ensures)
 
--- src/lib.rt:211:5
 element-write-next : tie.Need-element-write-next
 element-write-next c = fresh-low _ _ _ (sym (c .before .is-fresh .ensures) ∙ not-false (c .before .is-fresh .result) (c .if1 .left))
 
--- src/lib.rt:202:1
 returns-2 : tie.Need-returns-2
 unfolding seenOne
 returns-2 c = simp (not-false (c .before .is-fresh .result) (c .if1 .left), ← c .before .is-fresh .ensures)

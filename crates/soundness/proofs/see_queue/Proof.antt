@@ -1,15 +1,12 @@
-use native.Mathlib.Omega.{arith}
 use Prim.Native.Nat.{_<_}
 use mathlib.Core.Path.{_≡_}
+use native.Mathlib.Omega.{arith}
 use borrow.Author.Needs.{needs}
 use Rattle.step.specs.Queues.{ring, listOf}
 use Rattle.soundness.specs.Seen.{seenAfter}
 use Rattle.soundness.proofs.Seeing.{ring-starts, ring-goes, ring-ends}
 use Rattle.soundness.proofs.see_queue.Statement.{statement}
 use Rattle.soundness.proofs.see_queue.Tie as tie
-use Rattle.soundness.proofs.see_queue.Reads as reads
-use Rattle.soundness.proofs.see_queue.Lts as lts
-use Rattle.soundness.proofs.see.Reads as see-reads
 
 abbrev Inv-loop : tie.InvT-loop
 Inv-loop psw q seen₀ at₀ left₀ seen at left = (at < 64) × (seenAfter psw (ring (q .pts) at left) seen ≡ seenAfter psw (listOf q) seen₀)
@@ -17,35 +14,27 @@ Inv-loop psw q seen₀ at₀ left₀ seen at left = (at < 64) × (seenAfter psw 
 abbrev μ-loop : tie.MeasureT-loop
 μ-loop psw q seen₀ at₀ left₀ seen at left = left
 
--- src/lib.rt:222:5
 loop-holds : tie.Need-loop-holds Inv-loop μ-loop
 loop-holds c = (omega arith, ring-starts _ _ _)
 
--- src/lib.rt:223:31
 element-copy-out-see : tie.Need-element-copy-out-see Inv-loop μ-loop
 element-copy-out-see c = omega arith
 
--- src/lib.rt:223:9
 see-requires : tie.Need-see-requires Inv-loop μ-loop
 see-requires c κs = search needs
 
--- src/lib.rt:224:15
 add-at : tie.Need-add-at Inv-loop μ-loop
 add-at c = omega arith
 
--- src/lib.rt:225:9
 sub-left : tie.Need-sub-left Inv-loop μ-loop
 sub-left c = omega arith
 
--- src/lib.rt:222:5
 loop-less : tie.Need-loop-less Inv-loop μ-loop
 loop-less c = omega arith
 
--- src/lib.rt:222:5
 loop-again : tie.Need-loop-again Inv-loop μ-loop
 loop-again c = (omega arith, ring-goes _ _ _ _ _ _ _ (c .before .before .before .loop .inv .0) (omega arith) (c .see .ensures) (c .before .before .before .loop .inv .1))
 
--- src/lib.rt:216:1
 returns : tie.Need-returns Inv-loop μ-loop
 returns c = ring-ends _ _ _ _ _ _ (omega arith) (c .before .loop .inv .1)
 

@@ -1,47 +1,35 @@
 use mathlib.Core.Path.{sym, _∙_}
 use borrow.Author.Tests.{not-true, not-false, le-leb, lt-leb}
+use borrow.Author.Needs.{needs}
 use Rattle.step.specs.Soundness.{sound}
 use Rattle.soundness.specs.Held.{stateIn, soundIn}
-use borrow.Author.Needs.{needs}
 use Rattle.soundness.proofs.sound.Statement.{statement}
 use Rattle.soundness.proofs.sound.Tie as tie
-use Rattle.soundness.proofs.sound.Reads as reads
-use Rattle.soundness.proofs.sound.Lts as lts
-use Rattle.soundness.proofs.memories_sound.Reads as memories-sound-reads
-use Rattle.soundness.proofs.rows_sound.Reads as rows-sound-reads
-use Rattle.soundness.proofs.table_sound.Reads as table-sound-reads
-use Rattle.soundness.proofs.windows_sound.Reads as windows-sound-reads
 
--- src/lib.rt:382:9
 returns : tie.Need-returns
 unfolding soundIn
 returns c = simp (lt-leb _ _ (c .if1 .taken))
 
--- src/lib.rt:384:9
 rows-sound-requires : tie.Need-rows-sound-requires
 rows-sound-requires c κs = search needs
 
--- src/lib.rt:385:9
 returns-2 : tie.Need-returns-2
 unfolding soundIn sound stateIn
 returns-2 c = let r = c .before .rows-sound in simp (le-leb _ _ (c .before .before .if1 .left), sym (r .ensures) ∙ not-true (r .result) (c .if2 .taken))
 
--- src/lib.rt:387:9
 table-sound-requires : tie.Need-table-sound-requires
 table-sound-requires c κs = search needs
 
--- src/lib.rt:388:9
 returns-3 : tie.Need-returns-3
 unfolding soundIn sound stateIn
-returns-3 c = let r = c .before .before .before .rows-sound in
+returns-3 c =
+    let r = c .before .before .before .rows-sound in
     let t = c .before .table-sound in
     simp (le-leb _ _ (c .before .before .before .before .if1 .left), sym (r .ensures) ∙ not-false (r .result) (c .before .before .if2 .left), sym (t .ensures) ∙ not-true (t .result) (c .if3 .taken))
 
--- src/lib.rt:390:9
 memories-sound-requires : tie.Need-memories-sound-requires
 memories-sound-requires c κs = search needs
 
--- src/lib.rt:391:9
 returns-4 : tie.Need-returns-4
 unfolding soundIn sound stateIn
 returns-4 c =
@@ -51,11 +39,9 @@ returns-4 c =
     let m = c .before .memories-sound in
     simp (le-leb _ _ (c .before .before .before .before .before .before .if1 .left), sym (r .ensures) ∙ not-false (r .result) (c .before .before .before .before .if2 .left), sym (t .ensures) ∙ not-false (t .result) (c .before .before .if3 .left), sym (m .ensures (a .rows) (a .n) (a .table)) ∙ not-true (m .result) (c .if4 .taken))
 
--- src/lib.rt:393:5
 windows-sound-requires : tie.Need-windows-sound-requires
 windows-sound-requires c κs = search needs
 
--- src/lib.rt:368:1
 returns-5 : tie.Need-returns-5
 unfolding soundIn sound stateIn
 returns-5 c =

@@ -1,6 +1,6 @@
-use native.Mathlib.Omega.{arith}
 use Prim.Native.Nat.{_-_, _≤_}
 use mathlib.Core.Path.{_≡_, refl, sym, _∙_}
+use native.Mathlib.Omega.{arith}
 use lib.ListN.{take, drop}
 use borrow.Author.Needs.{needs}
 use borrow.Author.Tests.{not-true, not-false}
@@ -8,9 +8,6 @@ use Rattle.step.specs.Soundness.{windowsSound}
 use Rattle.soundness.proofs.Loops.{next-in, past-count, past-end, windows-tested, goes, fails, ends}
 use Rattle.soundness.proofs.windows_sound.Statement.{statement}
 use Rattle.soundness.proofs.windows_sound.Tie as tie
-use Rattle.soundness.proofs.windows_sound.Reads as reads
-use Rattle.soundness.proofs.windows_sound.Lts as lts
-use Rattle.soundness.proofs.row_ends_in.Reads as row-ends-in-reads
 
 abbrev Inv-loop : tie.InvT-loop
 Inv-loop n registers program data-words rows i₀ i = (i ≤ 7) × (windowsSound registers program data-words (drop i (take n rows)) ≡ windowsSound registers program data-words (take n rows))
@@ -18,43 +15,33 @@ Inv-loop n registers program data-words rows i₀ i = (i ≤ 7) × (windowsSound
 abbrev μ-loop : tie.MeasureT-loop
 μ-loop n registers program data-words rows i₀ i = 7 - i
 
--- src/lib.rt:140:5
 loop-holds : tie.Need-loop-holds Inv-loop μ-loop
 loop-holds c = (omega arith, refl)
 
--- src/lib.rt:142:13
 returns : tie.Need-returns Inv-loop μ-loop
 returns c = ends (windows-tested _ _ _) (past-count _ _ _ (c .if1 .taken)) (c .before .before .loop .inv .1)
 
--- src/lib.rt:144:25
 mul-row-ends-in : tie.Need-mul-row-ends-in Inv-loop μ-loop
 mul-row-ends-in c = omega arith
 
--- src/lib.rt:144:25
 array-copy-out-row-ends-in : tie.Need-array-copy-out-row-ends-in Inv-loop μ-loop
 array-copy-out-row-ends-in c = omega arith
 
--- src/lib.rt:144:13
 row-ends-in-requires : tie.Need-row-ends-in-requires Inv-loop μ-loop
 row-ends-in-requires c κs = search needs
 
--- src/lib.rt:145:13
 returns-2 : tie.Need-returns-2 Inv-loop μ-loop
 returns-2 c = fails (windows-tested _ _ _) (next-in (c .before .before .before .before .before .before .args .t1) _ (c .before .before .before .before .before .loop .i) _ (c .before .before .before .if1 .left) (omega arith)) (sym (c .before .row-ends-in .ensures) ∙ not-true (c .before .row-ends-in .result) (c .if2 .taken)) (c .before .before .before .before .before .loop .inv .1)
 
--- src/lib.rt:147:9
 add-i : tie.Need-add-i Inv-loop μ-loop
 add-i c = omega arith
 
--- src/lib.rt:140:5
 loop-less : tie.Need-loop-less Inv-loop μ-loop
 loop-less c = omega arith
 
--- src/lib.rt:140:5
 loop-again : tie.Need-loop-again Inv-loop μ-loop
 loop-again c = (omega arith, goes (windows-tested _ _ _) (next-in (c .before .before .before .before .before .before .args .t1) _ (c .before .before .before .before .before .loop .i) _ (c .before .before .before .if1 .left) (omega arith)) (sym (c .before .row-ends-in .ensures) ∙ not-false (c .before .row-ends-in .result) (c .if2 .left)) (c .before .before .before .before .before .loop .inv .1))
 
--- src/lib.rt:136:1
 returns-3 : tie.Need-returns-3 Inv-loop μ-loop
 returns-3 c = ends (windows-tested _ _ _) (past-end (c .before .before .args .t1) (c .before .before .args .n) (c .before .loop .i) (omega arith)) (c .before .loop .inv .1)
 

@@ -1,15 +1,14 @@
--- `soundness::tags_sound` meets its contract. The invariant: what was tested and the tags still to come settle the answer. Assumes nothing.
-use borrow.Author.Needs.{needs}
-use native.Mathlib.Omega.{arith}
+-- `image_words::tags_ok` meets its contract: what was tested and the tags still to come settle the answer.
 use Prim.Native.Nat.{_-_}
 use mathlib.Core.Bool.{_&&_}
-use mathlib.Core.Path.{_≡_, refl, sym, ap, _∙_}
-use lib.ListN.{length, drop}
+use mathlib.Core.Path.{_≡_, refl, sym, _∙_}
+use lib.ListN.{drop}
 use Rattle.step.specs.Soundness.{every}
-use Rattle.soundness.specs.Held.{tagTest}
-use Rattle.soundness.proofs.Loops.{every-goes, every-ends}
-use Rattle.soundness.proofs.tags_sound.Statement.{statement}
-use Rattle.soundness.proofs.tags_sound.Tie as tie
+use Rattle.image_words.specs.Scanning.{tagTest}
+use Rattle.image_words.proofs.Testing.{every-step, every-end}
+use borrow.Author.Needs.{needs}
+use Rattle.image_words.proofs.tags_ok.Statement.{statement}
+use Rattle.image_words.proofs.tags_ok.Tie as tie
 
 abbrev Inv-loop : tie.InvT-loop
 Inv-loop register tags n good₀ i₀ good i = (good && every (tagTest register) (drop i tags)) ≡ every (tagTest register) tags
@@ -35,13 +34,12 @@ loop-less c = search needs
 loop-again : tie.Need-loop-again Inv-loop μ-loop
 loop-again c =
     let l = c .before .before .before .loop in
-    let a = c .before .before .before .before .before .args in
-    rw (c .still .ensures) (every-goes (tagTest (a .register)) (a .tags .now) (l .i) (l .good) (c .before .before .loop-test .taken) ∙ l .inv)
+    rw (c .still .ensures) (every-step (tagTest (c .before .before .before .before .before .args .register)) (c .before .before .before .before .before .args .tags .now) (l .i) (l .good) (c .before .before .loop-test .taken) ∙ l .inv)
 
 returns : tie.Need-returns Inv-loop μ-loop
-returns c = sym (every-ends _ _ _ _ (c .loop-test .left)) ∙ c .before .loop .inv
+returns c = sym (every-end _ _ _ _ (c .loop-test .left)) ∙ c .before .loop .inv
 
-pub tags-sound-spec : {M : Type 1} → statement M
-tags-sound-spec =
+pub tags-ok-spec : {M : Type 1} → statement M
+tags-ok-spec =
     tie.close
     (tie.spec Inv-loop μ-loop loop-holds shared-slice-read-still still-requires add-i loop-less loop-again returns)

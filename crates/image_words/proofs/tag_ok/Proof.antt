@@ -1,9 +1,9 @@
--- `soundness::tag_sound` meets its contract: the tests that led to each return settle `tagTest`. Assumes nothing.
+-- `image_words::tag_ok` meets its contract: the tests that led to each return settle `tagTest`.
 use borrow.Author.Tests.{le-leb, lt-leb}
 use Rattle.window.specs.Sound.{tagSound, stateSound}
-use Rattle.soundness.specs.Held.{tagTest}
-use Rattle.soundness.proofs.tag_sound.Statement.{statement}
-use Rattle.soundness.proofs.tag_sound.Tie as tie
+use Rattle.image_words.specs.Scanning.{tagTest}
+use Rattle.image_words.proofs.tag_ok.Statement.{statement}
+use Rattle.image_words.proofs.tag_ok.Tie as tie
 
 returns : tie.Need-returns
 unfolding tagTest tagSound
@@ -21,5 +21,7 @@ returns-4 : tie.Need-returns-4
 unfolding tagTest stateSound
 returns-4 c = simp (c .if1 .left)
 
-pub tag-sound-spec : {M : Type 1} → statement M
-tag-sound-spec = tie.close (tie.spec returns returns-2 returns-3 returns-4)
+pub tag-ok-spec : {M : Type 1} → statement M
+tag-ok-spec =
+    tie.close
+    (tie.spec returns returns-2 returns-3 returns-4)
