@@ -28,7 +28,7 @@ put-not at xs l h = rw (lt-leb (at + length xs) (length l) h)
 
 -- ---- bytes laid over others
 
-laid-nil : (at : ℕ) (l : List ℕ) → laid at [] l ≡ l
+pub laid-nil : (at : ℕ) (l : List ℕ) → laid at [] l ≡ l
 unfolding laid
 laid-nil at l = rw add-zero (take-append-drop at l)
 
@@ -41,7 +41,7 @@ laid-snoc at xs d l h =
     let e : at + length (xs ++ (d ∷ [])) ≡ suc p = rw length-append (omega arith) in
     rw (take-set-le at l p d (omega arith), c, e, append-assoc)
 
-length-laid : (at : ℕ) (xs l : List ℕ) → at + length xs ≤ length l → length (laid at xs l) ≡ length l
+pub length-laid : (at : ℕ) (xs l : List ℕ) → at + length xs ≤ length l → length (laid at xs l) ≡ length l
 unfolding laid
 length-laid at xs l h = simp (length-append, length-take-le at l (omega arith), length-drop) (omega arith)
 

@@ -135,10 +135,6 @@ module _ (qs : List Queue) (k : ℕ) where
 
 -- ---- the room for processes
 
-pub and-true : (b : Bool) → (b && true) ≡ b
-and-true true = refl
-and-true false = refl
-
 pub and-false : (b : Bool) → (b && false) ≡ false
 and-false true = refl
 and-false false = refl

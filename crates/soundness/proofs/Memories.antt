@@ -10,7 +10,8 @@ use Rattle.window.specs.Memories.{Memory}
 use Rattle.window.specs.Sound.{wordSound}
 use Rattle.window.specs.Laws.Sound.{word-sound}
 use Rattle.step.specs.Soundness.{every, wordsSound, memorySound}
-use Rattle.soundness.proofs.Loops.{and-true, and-false}
+use Rattle.image.specs.Laws.Conjoined.{and-true}
+use Rattle.soundness.proofs.Loops.{and-false}
 
 words-of : (l : List ℕ) → ((i : ℕ) → getD l i 0 < 2 ^ 64) → every wordSound l ≡ true
 unfolding every

@@ -30,13 +30,17 @@ processes-sound-requires c κs = search needs
 
 returns-2 : tie.Need-returns-2
 returns-2 c =
-    let s = c .before .before .before .before .before .before in let q = c .before .before .before .queues-sound in let p = c .before .processes-sound in
+    let s = c .before .before .before .before .before .before in
+    let q = c .before .before .before .queues-sound in
+    let p = c .before .processes-sound in
     sym (opened s ∙ simp (sym (q .ensures) ∙ not-false (q .result) (c .before .before .if1 .left), sym (p .ensures) ∙ not-true (p .result) (c .if2 .taken)))
 
 returns-3 : tie.Need-returns-3
 unfolding flagSound
 returns-3 c =
-    let s = c .before .before .before .before .before .before .before in let q = c .before .before .before .before .queues-sound in let p = c .before .before .processes-sound in
+    let s = c .before .before .before .before .before .before .before in
+    let q = c .before .before .before .before .queues-sound in
+    let p = c .before .before .processes-sound in
     sym (opened s ∙ simp (sym (q .ensures) ∙ not-false (q .result) (c .before .before .before .if1 .left), sym (p .ensures) ∙ not-false (p .result) (c .before .if2 .left), lt-leb _ _ (c .if3 .taken)))
 
 room-sound-requires : tie.Need-room-sound-requires
@@ -45,7 +49,9 @@ room-sound-requires c κs = search needs
 returns-4 : tie.Need-returns-4
 unfolding flagSound
 returns-4 c =
-    let s = c .before .before .before .before .before .before .before .before in let q = c .before .before .before .before .before .queues-sound in let p = c .before .before .before .processes-sound in
+    let s = c .before .before .before .before .before .before .before .before in
+    let q = c .before .before .before .before .before .queues-sound in
+    let p = c .before .before .before .processes-sound in
     sym (opened s ∙ simp (sym (q .ensures) ∙ not-false (q .result) (c .before .before .before .before .if1 .left), sym (p .ensures) ∙ not-false (p .result) (c .before .before .if2 .left), le-leb _ _ (c .before .if3 .left), ← c .room-sound .ensures))
 
 pub table-sound-spec : {M : Type 1} → statement M
