@@ -1,0 +1,135 @@
+-- Bytes laid over others, and the loops that write: their invariants, and a turn of each.
+use Prim.Native.Nat.{ℕ, zero, suc, _+_, _-_, _*_, _/_, _%_, _≤_, _<_}
+use mathlib.Core.Path.{_≡_, refl, sym, ap, _∙_}
+use mathlib.Core.Bool.{true}
+use mathlib.Core.List.{List, [], _∷_, _++_, append-assoc}
+use native.Mathlib.Nat.{sub-zero, add-zero, mul-zero, mul-suc}
+use native.Mathlib.Numerals.{add-one}
+use native.Mathlib.Omega.{arith}
+use lib.ListN.{length, take, drop, set, length-set, length-append, length-drop, take-append-drop, drop-of-length-le}
+use lib.Seq.{take-set-le, drop-set-lt, drop-cons, getD-set-same, drop-append-add, length-take-le, drop-drop, take-at}
+use borrow.Author.Tests.{le-leb, lt-leb, eq-eqb, ne-eqb}
+use Rattle.window.specs.Memories.{cell}
+use Rattle.image.specs.Codec.{Codec, digits, num, seq, via, encMany, noState}
+use Rattle.image.specs.Image.{wordCodec, cellCodec}
+use Rattle.image.specs.Laws.Numbers.{length-digits}
+use Rattle.image_words.specs.Writing.{laid, putAt, cellBytes, putCells}
+use Rattle.image_words.specs.Laws.Bytes.{uniform-length}
+
+-- ---- where they fit, and where not
+
+pub put-fits : (at : ℕ) (xs l : List ℕ) → at + length xs ≤ length l → laid at xs l ≡ putAt at xs l
+unfolding putAt
+put-fits at xs l h = rw (le-leb (at + length xs) (length l) h)
+
+pub put-not : (at : ℕ) (xs l : List ℕ) → length l < at + length xs → l ≡ putAt at xs l
+unfolding putAt
+put-not at xs l h = rw (lt-leb (at + length xs) (length l) h)
+
+-- ---- bytes laid over others
+
+pub laid-nil : (at : ℕ) (l : List ℕ) → laid at [] l ≡ l
+unfolding laid
+laid-nil at l = rw add-zero (take-append-drop at l)
+
+laid-snoc : (at : ℕ) (xs : List ℕ) (d : ℕ) (l : List ℕ) → at + length xs < length l → laid at xs (set l (at + length xs) d) ≡ laid at (xs ++ (d ∷ [])) l
+unfolding laid
+laid-snoc at xs d l h =
+    let p = at + length xs in
+    let c : drop p (set l p d) ≡ d ∷ drop (suc p) l =
+    drop-cons (set l p d) p 0 (rw length-set h) ∙ rw (getD-set-same l p d 0 h, drop-set-lt (suc p) l p d (omega arith)) in
+    let e : at + length (xs ++ (d ∷ [])) ≡ suc p = rw length-append (omega arith) in
+    rw (take-set-le at l p d (omega arith), c, e, append-assoc)
+
+pub length-laid : (at : ℕ) (xs l : List ℕ) → at + length xs ≤ length l → length (laid at xs l) ≡ length l
+unfolding laid
+length-laid at xs l h = simp (length-append, length-take-le at l (omega arith), length-drop) (omega arith)
+
+-- writing goes on where it stopped
+pub laid-append : (at : ℕ) (xs ys l : List ℕ) → at + length xs ≤ length l → laid (at + length xs) ys (laid at xs l) ≡ laid at (xs ++ ys) l
+unfolding laid
+laid-append at xs ys l h =
+    let q = at + length xs in
+    let lp : length (take at l ++ xs) ≡ at + length xs = rw (length-append, length-take-le at l (omega arith)) in
+    let a : take q (take at l ++ (xs ++ drop q l)) ≡ take at l ++ xs =
+    rw (← append-assoc (take at l) xs (drop q l)) (take-at (take at l ++ xs) (drop q l) q lp) in
+    let b : drop (q + length ys) (take at l ++ (xs ++ drop q l)) ≡ drop (q + length ys) l =
+    rw (← append-assoc (take at l) xs (drop q l))
+    (ap (λ (k : ℕ). drop (k + length ys) ((take at l ++ xs) ++ drop q l)) (sym lp)
+    ∙ drop-append-add (take at l ++ xs) (drop q l) (length ys)
+    ∙ drop-drop (length ys) q l) in
+    let e : at + length (xs ++ ys) ≡ q + length ys = rw length-append (omega arith) in
+    rw (a, b, e) (simp append-assoc)
+
+-- ---- a number: the highest k digits are still to be written
+
+pub put-step : (at k x : ℕ) (l : List ℕ) → 0 < k → at + k ≤ length l
+    → laid at (digits (k - 1) (x / 256)) (set l (at + (k - 1)) (x % 256)) ≡ laid at (digits k x) l
+unfolding digits
+put-step at k x l hk h =
+    let e : k ≡ suc (k - 1) = omega arith in
+    let d : digits k x ≡ digits (k - 1) (x / 256) ++ (x % 256 ∷ []) = ap (λ (j : ℕ). digits j x) e in
+    let s = laid-snoc at (digits (k - 1) (x / 256)) (x % 256) l (rw length-digits (omega arith)) in
+    rw d (rw length-digits at s)
+
+pub put-done : (at k x : ℕ) (l : List ℕ) → k ≤ 0 → laid at (digits k x) l ≡ l
+unfolding digits
+put-done at k x l h = let e : k ≡ 0 = omega arith in rw e (laid-nil at l)
+
+-- ---- values of one format, of `size` bytes each
+
+module _ {A : Type 0} (c : Codec A) (size : ℕ) (long : (a : A) → length (c .enc a) ≡ size) (at : ℕ) (xs : List A) (l₀ : List ℕ) where
+  -- i of the values are in l, which was l₀; the next goes to p
+  pub record Putting (l : List ℕ) (p i : ℕ) : Type 0 where
+    pub most : i ≤ length xs
+    pub inside : p + size * (length xs - i) ≤ length l₀
+    pub same : length l ≡ length l₀
+    pub all : laid p (encMany (λ _. c) noState tt (drop i xs)) l ≡ laid at (encMany (λ _. c) noState tt xs) l₀
+
+  pub start : at + size * length xs ≤ length l₀ → Putting l₀ at 0
+  start h = record { most = omega arith; inside = rw sub-zero h; same = refl; all = refl }
+
+  module _ {l : List ℕ} {p i : ℕ} (z : Putting l p i) where
+    pub fits : i < length xs → p + size ≤ length l₀
+    fits h =
+        let e : length xs - i ≡ suc (length xs - (i + 1)) = omega arith in
+        let m : size * (length xs - i) ≡ size * (length xs - (i + 1)) + size = rw (e, mul-suc) in
+        omega (arith, z .inside)
+
+    pub step : {a : A} {l₁ : List ℕ} → i < length xs → drop i xs ≡ a ∷ drop (suc i) xs → l₁ ≡ laid p (c .enc a) l → Putting l₁ (p + size) (i + 1)
+    unfolding encMany
+    step {a} {l₁} h d e1 =
+        let e : length xs - i ≡ suc (length xs - (i + 1)) = omega arith in
+        let m : size * (length xs - i) ≡ size * (length xs - (i + 1)) + size = rw (e, mul-suc) in
+        let r : p + length (c .enc a) ≤ length l = rw (long a, z .same) (fits h) in
+        let o = laid-append p (c .enc a) (encMany (λ _. c) noState tt (drop (suc i) xs)) l r in
+        record {
+          most = omega arith;
+          inside = omega (arith, z .inside);
+          same = rw e1 (length-laid p (c .enc a) l r) ∙ z .same;
+          all = rw (e1, add-one i) (rw (long a) at o) ∙ rw d at (z .all);
+        }
+
+    pub done : length xs ≤ i → at + size * length xs ≤ length l₀ → l ≡ putAt at (encMany (λ _. c) noState tt xs) l₀
+    unfolding encMany
+    done h fit =
+        let d : drop i xs ≡ [] = drop-of-length-le xs h in
+        let n : at + length (encMany (λ _. c) noState tt xs) ≤ length l₀ = rw (uniform-length c size long xs) fit in
+        sym (laid-nil p l) ∙ rw d at (z .all) ∙ put-fits at (encMany (λ _. c) noState tt xs) l₀ n
+
+-- ---- cells: of one length, and each in two parts
+
+pub cell-laid : (at t w : ℕ) (l : List ℕ) {x : ℕ} {l₁ l₂ : List ℕ} → at + 9 ≤ length l → x ≡ t → l₁ ≡ laid at (digits 1 x) l → l₂ ≡ laid (at + 1) (digits 8 w) l₁
+    → l₂ ≡ laid at (cellCodec (λ _. true) .enc (cell t w)) l
+unfolding cellCodec via seq wordCodec num
+cell-laid at t w l h ex e1 e2 =
+    let o = laid-append at (digits 1 t) (digits 8 w) l (rw length-digits (omega arith)) in
+    rw (e2, e1, ex) (rw length-digits at o)
+
+pub cells-unpaired : (at : ℕ) (tags words l : List ℕ) → (length tags ≡ length words → ⊥) → l ≡ putCells at tags words l
+unfolding putCells
+cells-unpaired at tags words l h = rw (ne-eqb (length tags) (length words) h)
+
+pub cells-paired : (at : ℕ) (tags words l : List ℕ) {l₁ : List ℕ} → length tags ≡ length words → l₁ ≡ putAt at (cellBytes tags words) l → l₁ ≡ putCells at tags words l
+unfolding putCells
+cells-paired at tags words l e h = rw (eq-eqb (length tags) (length words) e) h

@@ -1,0 +1,40 @@
+-- `image_words::check_words` meets its contract: each return by one law of words at a place.
+use Prim.Native.Nat.{_-_}
+use Rattle.image_words.specs.Laws.Scans.{stays, at-place}
+use Rattle.image_words.specs.Laws.Cells.{words-whole, words-short}
+use borrow.Author.Needs.{needs}
+use native.Mathlib.Omega.{arith}
+use Rattle.image_words.proofs.check_words.Statement.{statement}
+use Rattle.image_words.proofs.check_words.Tie as tie
+
+enum-known-c : tie.Need-enum-known-c
+enum-known-c c = search needs
+
+enum-told : tie.Need-enum-told
+enum-told c = search needs
+
+returns : tie.Need-returns
+returns c = stays _ (c .before .before .before .args .s .now) (c .before .before .before .args .c) (c .enum-told .given .1)
+
+left-from-requires : tie.Need-left-from-requires
+left-from-requires c κs = search needs
+
+returns-2 : tie.Need-returns-2
+returns-2 c = at-place _ (c .before .before .before .before .before .before .args .s .now) (c .before .before .before .before .before .before .args .c) (c .before .before .before .c .given .0 .0) (c .before .before .before .c .given .1) (words-short (c .before .before .before .before .before .before .args .s .now) (c .before .before .before .before .before .before .args .n) (c .before .before .before .c .given .0 .0) (omega (arith, c .before .left-from .ensures, c .if1 .taken)))
+
+mul-t9 : tie.Need-mul-t9
+mul-t9 c = search needs
+
+sub-t10 : tie.Need-sub-t10
+sub-t10 c = search needs
+
+sub-t11 : tie.Need-sub-t11
+sub-t11 c = search needs
+
+returns-3 : tie.Need-returns-3
+returns-3 c = rw (c .before .left-from .ensures) (at-place _ (c .before .before .before .before .before .before .args .s .now) (c .before .before .before .before .before .before .args .c) (c .before .before .before .c .given .0 .0) (c .before .before .before .c .given .1) (words-whole (c .before .before .before .before .before .before .args .s .now) (c .before .before .before .before .before .before .args .n) (c .before .before .before .c .given .0 .0) (omega (arith, c .before .left-from .ensures, c .if1 .left))))
+
+pub check-words-spec : {M : Type 1} → statement M
+check-words-spec =
+    tie.close
+    (tie.spec enum-known-c enum-told returns left-from-requires returns-2 mul-t9 sub-t10 sub-t11 returns-3)

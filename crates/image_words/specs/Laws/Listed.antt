@@ -1,0 +1,26 @@
+-- Values at every so many bytes.
+use Prim.Native.Nat.{ℕ, zero, suc, _+_, _*_}
+use mathlib.Core.Path.{_≡_, refl, ap, ap₂, _∙_}
+use mathlib.Core.List.{List, [], _∷_, map}
+use native.Mathlib.Omega.{arith}
+use lib.ListN.{length}
+use Rattle.image_words.specs.Reading.{listed}
+
+module _ {A : Type 0} (stride : ℕ) where
+  pub length-listed : (f : ℕ → A) (n at : ℕ) → length (listed stride f n at) ≡ n
+  unfolding listed
+  length-listed f zero at = refl
+  length-listed f (suc n) at = ap suc (length-listed f n (at + stride))
+
+  pub map-listed : {B : Type 0} (g : A → B) (f : ℕ → A) (n at : ℕ) → map g (listed stride f n at) ≡ listed stride (λ p. g (f p)) n at
+  unfolding listed
+  map-listed g f zero at = refl
+  map-listed g f (suc n) at = ap (λ (l : List _). g (f at) ∷ l) (map-listed g f n (at + stride))
+
+  -- the same values, counted from another place
+  pub shifted : (f g : ℕ → A) (k : ℕ) → ((p : ℕ) → f p ≡ g (k + p)) → (n at : ℕ) → listed stride f n at ≡ listed stride g n (k + at)
+  unfolding listed
+  shifted f g k e zero at = refl
+  shifted f g k e (suc n) at =
+      let q : k + (at + stride) ≡ k + at + stride = omega arith in
+      ap₂ _∷_ (e at) (shifted f g k e n (at + stride) ∙ ap (listed stride g n) q)

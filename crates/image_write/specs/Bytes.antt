@@ -1,0 +1,34 @@
+-- The bytes of an image part by part: what a field must be plays no part in how it is written.
+use Prim.Native.Nat.{ℕ}
+use mathlib.Core.List.{List, [], _++_}
+use lib.ListN.{length}
+use Rattle.window.specs.declared.Row.{Row}
+use Rattle.image.specs.declared.Process.{Process}
+use Rattle.image.specs.Codec.{digits, encMany, noState}
+use Rattle.image.specs.Image.{rowCodec, processCodec}
+use Rattle.image_words.specs.Writing.{wordBytes, cellBytes}
+
+unfoldable pub rowBytes : Row → List ℕ
+rowBytes r = rowCodec 0 .enc r
+
+unfoldable pub processBytes : Process → List ℕ
+processBytes p = processCodec [] 0 .enc p
+
+unfoldable pub rowsBytes : List Row → List ℕ
+rowsBytes rows = encMany (λ _. rowCodec 0) noState tt rows
+
+unfoldable pub processesBytes : List Process → List ℕ
+processesBytes ps = encMany (λ _. processCodec [] 0) noState tt ps
+
+-- the sections, each after its count
+unfoldable pub tasksSection : List Row → List ℕ
+tasksSection rows = digits 1 (length rows) ++ rowsBytes rows
+
+unfoldable pub processesSection : (flag : ℕ) → List Process → List ℕ
+processesSection flag ps = digits 1 (length ps) ++ (digits 1 flag ++ processesBytes ps)
+
+unfoldable pub wordsSection : (w : ℕ) → (words : List ℕ) → List ℕ
+wordsSection w words = digits w (length words) ++ wordBytes words
+
+unfoldable pub cellsSection : (w : ℕ) → (tags words : List ℕ) → List ℕ
+cellsSection w tags words = digits w (length words) ++ cellBytes tags words

@@ -1,0 +1,107 @@
+// Writing an image: a sound state's fields, section by section.
+ghost use mathlib.Core.Path.{_≡_};
+ghost use Prim.Native.Nat.{_+_, _*_, _≤_};
+ghost use lib.ListN.{length, take, getD};
+ghost use Rattle.step.specs.Queues.{listOf, livePts};
+ghost use Rattle.image.specs.Image.{toProcess, processesIn, processesFrom};
+ghost use Rattle.image_words.specs.Writing.{putAt};
+ghost use Rattle.image_write.specs.Bytes.{rowBytes, processBytes, rowsBytes, processesBytes, tasksSection, processesSection, wordsSection, cellsSection};
+use refusal::Refusal;
+use step::ProcessTable;
+use step::Queue;
+use window::Row;
+
+// A refusal, or the length of the image.
+pub enum Writing {
+    Refused(Refusal),
+    Wrote(usize),
+}
+
+// ---- tasks
+
+fn put_row(out: &mut [u8], at: usize, row: Row)
+    requires { ⌜ at + 28 ≤ length (now out) ⌝ }
+    ensures { λ _. ⌜ now (out .exit) ≡ putAt at (rowBytes row) (now (out .entry)) ⌝ }
+{
+    image_words::put_number(out, at, 1, row.task as u64);
+    image_words::put_number(out, at + 1, 2, row.cb as u64);
+    image_words::put_number(out, at + 3, 2, row.rb as u64);
+    image_words::put_number(out, at + 5, 2, row.rl as u64);
+    image_words::put_number(out, at + 7, 2, row.pb as u64);
+    image_words::put_number(out, at + 9, 2, row.pl as u64);
+    image_words::put_number(out, at + 11, 4, row.db as u64);
+    image_words::put_number(out, at + 15, 4, row.dl as u64);
+    image_words::put_number(out, at + 19, 1, row.kind as u64);
+    image_words::put_number(out, at + 20, 8, row.psw);
+}
+
+// Each function below answers the place behind what it puts.
+
+fn put_rows(out: &mut [u8], at: usize, rows: [Row; 7], n: usize) -> usize
+    requires { ⌜ (n ≤ 7) × (at + 28 * n ≤ length (now out)) ⌝ }
+    ensures { λ r. ⌜ r ≡ at + length (rowsBytes (take n rows)) ⌝ }
+    ensures { λ _. ⌜ now (out .exit) ≡ putAt at (rowsBytes (take n rows)) (now (out .entry)) ⌝ }
+{
+    let mut p = at;
+    let mut i = 0;
+    while i < n {
+        put_row(out, p, rows[i]);
+        p += 28;
+        i += 1;
+    }
+    p
+}
+
+// ---- processes
+
+fn put_process(out: &mut [u8], at: usize, pt: u8, task: u8, psw: u64)
+    requires { ⌜ at + 10 ≤ length (now out) ⌝ }
+    ensures { λ _. ⌜ now (out .exit) ≡ putAt at (processBytes (toProcess (pt, (task, psw)))) (now (out .entry)) ⌝ }
+{
+    image_words::put_number(out, at, 1, pt as u64);
+    image_words::put_number(out, at + 1, 1, task as u64);
+    image_words::put_number(out, at + 2, 8, psw);
+}
+
+fn psw_of(psw: [u64; 64], pt: u8) -> u64
+    ensures { λ r. ⌜ r ≡ getD psw pt 0 ⌝ }
+{
+    let i = pt as usize;
+    if i < 64 { psw[i] } else { 0 }
+}
+
+// The processes of a task in queue order: from the head of the ring on.
+fn put_queue(out: &mut [u8], at: usize, psw: [u64; 64], task: u8, q: Queue) -> usize
+    requires { ⌜ at + 10 * q .len ≤ length (now out) ⌝ }
+    ensures { λ r. ⌜ r ≡ at + length (processesBytes (processesIn psw task (listOf q))) ⌝ }
+    ensures { λ _. ⌜ now (out .exit) ≡ putAt at (processesBytes (processesIn psw task (listOf q))) (now (out .entry)) ⌝ }
+{
+    let mut p = at;
+    let mut head = q.head % 64;
+    let mut left = q.len;
+    while 0 < left {
+        let pt = q.pts[head];
+        put_process(out, p, pt, task, psw_of(psw, pt));
+        p += 10;
+        head = (head + 1) % 64;
+        left -= 1;
+    }
+    p
+}
+
+// The queues by ascending task.
+fn put_queues(out: &mut [u8], at: usize, psw: [u64; 64], queues: [Queue; 7]) -> usize
+    requires { ⌜ at + 10 * length (livePts queues) ≤ length (now out) ⌝ }
+    ensures { λ r. ⌜ r ≡ at + length (processesBytes (processesFrom psw 1 queues)) ⌝ }
+    ensures { λ _. ⌜ now (out .exit) ≡ putAt at (processesBytes (processesFrom psw 1 queues)) (now (out .entry)) ⌝ }
+{
+    let mut p = at;
+    let mut task = 1;
+    let mut k = 0;
+    while k < 7 {
+        p = put_queue(out, p, psw, task, queues[k]);
+        task += 1;
+        k += 1;
+    }
+    p
+}

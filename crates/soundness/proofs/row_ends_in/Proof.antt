@@ -1,0 +1,49 @@
+use borrow.Author.Tests.{not-true, not-false}
+use borrow.Author.Needs.{needs}
+use Rattle.soundness.specs.Held.{rowEndsIn}
+use Rattle.soundness.proofs.row_ends_in.Statement.{statement}
+use Rattle.soundness.proofs.row_ends_in.Tie as tie
+
+register-window-requires : tie.Need-register-window-requires
+register-window-requires c κs = search needs
+
+ends-in-requires : tie.Need-ends-in-requires
+ends-in-requires c κs = search needs
+
+returns : tie.Need-returns
+unfolding rowEndsIn
+returns c = simp (not-true (c .before .ends-in .result) (c .if1 .taken), ← c .before .ends-in .ensures, ← c .before .before .register-window .ensures)
+
+program-window-requires : tie.Need-program-window-requires
+program-window-requires c κs = search needs
+
+ends-in-requires-2 : tie.Need-ends-in-requires-2
+ends-in-requires-2 c κs = search needs
+
+returns-2 : tie.Need-returns-2
+unfolding rowEndsIn
+returns-2 c = simp (not-true (c .before .ends-in2 .result) (c .if2 .taken), ← c .before .ends-in2 .ensures, ← c .before .before .program-window .ensures, not-false (c .before .before .before .before .ends-in .result) (c .before .before .before .if1 .left), ← c .before .before .before .before .ends-in .ensures, ← c .before .before .before .before .before .register-window .ensures)
+
+data-word-window-requires : tie.Need-data-word-window-requires
+data-word-window-requires c κs = search needs
+
+ends-in-requires-3 : tie.Need-ends-in-requires-3
+ends-in-requires-3 c κs = search needs
+
+returns-3 : tie.Need-returns-3
+unfolding rowEndsIn
+returns-3 c = simp (← c .ends-in3 .ensures, ← c .before .data-word-window .ensures, not-false (c .before .before .before .ends-in2 .result) (c .before .before .if2 .left), ← c .before .before .before .ends-in2 .ensures, ← c .before .before .before .before .program-window .ensures, not-false (c .before .before .before .before .before .before .ends-in .result) (c .before .before .before .before .before .if1 .left), ← c .before .before .before .before .before .before .ends-in .ensures, ← c .before .before .before .before .before .before .before .register-window .ensures)
+
+pub row-ends-in-spec : {M : Type 1} → statement M
+row-ends-in-spec =
+    tie.close
+    (tie.spec
+    register-window-requires
+    ends-in-requires
+    returns
+    program-window-requires
+    ends-in-requires-2
+    returns-2
+    data-word-window-requires
+    ends-in-requires-3
+    returns-3)

@@ -1,0 +1,36 @@
+-- A state as the code holds it: an array of seven rows of which the first n count, the process table, and lent slices.
+use Prim.Native.Nat.{ℕ}
+use mathlib.Core.Bool.{Bool, _&&_, _||_}
+use mathlib.Core.List.{List}
+use lib.Dec.{eqb, leb}
+use lib.ListN.{take}
+use Rattle.window.specs.declared.Row.{Row}
+use Rattle.window.specs.Windows.{registerWindow, programWindow, dataWordWindow}
+use Rattle.window.specs.Memories.{memory}
+use Rattle.step.specs.declared.Queue.{Queue}
+use Rattle.step.specs.declared.ProcessTable.{ProcessTable}
+use Rattle.step.specs.State.{State}
+use Rattle.step.specs.Soundness.{hasRow, endsIn, queueShaped, sound}
+
+-- the state that is held
+unfoldable pub stateIn : (rows : List Row) → (n : ℕ) → ProcessTable → (constants tags words program dataTags dataWords : List ℕ) → State
+stateIn rows n table constants tags words program dataTags dataWords = record {
+  rows = take n rows;
+  table = table;
+  constants = constants;
+  registers = memory tags words;
+  program = program;
+  dataWords = memory dataTags dataWords;
+}
+
+-- the windows of a row end in memories of so many places
+unfoldable pub rowEndsIn : (registers program dataWords : ℕ) → Row → Bool
+rowEndsIn nr np nd r = endsIn (registerWindow r) nr && (endsIn (programWindow r) np && endsIn (dataWordWindow r) nd)
+
+-- the queue of task t: in its array, and empty where t is unlisted
+unfoldable pub queueSound : List Row → (t : ℕ) → Queue → Bool
+queueSound rows t q = queueShaped q && (eqb (q .len) 0 || hasRow t rows)
+
+-- a sound state is held: no more rows than there are, and the tests of a state
+unfoldable pub soundIn : (n : ℕ) → State → Bool
+soundIn n s = leb n 7 && sound s

@@ -1,0 +1,366 @@
+// Whether a state is sound, so that some image reads as it: the tests of refusal 8.
+ghost use mathlib.Core.Path.{_≡_};
+ghost use mathlib.Core.List.{List};
+ghost use Prim.Native.Nat.{ℕ, min};
+ghost use lib.ListN.{length, take};
+ghost use Rattle.window.specs.Memories.{memory};
+ghost use Rattle.window.specs.declared.Row.{Row};
+ghost use Rattle.step.specs.declared.ProcessTable.{ProcessTable};
+ghost use Rattle.step.specs.Queues.{total, listOf, livePts};
+ghost use Rattle.step.specs.Soundness.{taskSound, kindSound, recordSound, basesSound, rowSound, rowsSound, hasRow, endsIn, windowsSound, queuesSound, processesSound, roomSound, tableSound, memorySound, memoriesSound};
+ghost use Rattle.image_words.specs.Scanning.{tagTest};
+ghost use Rattle.soundness.specs.Held.{stateIn, soundIn, rowEndsIn, queueSound};
+ghost use Rattle.soundness.specs.Seen.{fresh, seenOne, seenAfter};
+use step::ProcessTable;
+use step::Queue;
+use window::Row;
+use window::Window;
+
+// ---- rows
+
+fn task_sound(before: u8, task: u8) -> bool
+    ensures { λ r. ⌜ r ≡ taskSound before task ⌝ }
+{
+    before < task && task <= 7
+}
+
+// The widths of PB and PL are those of their types.
+fn bases_sound(row: Row) -> bool
+    ensures { λ r. ⌜ r ≡ basesSound row ⌝ }
+{
+    if 0x1000 <= row.cb {
+        return false;
+    }
+    if 0x400 <= row.rb {
+        return false;
+    }
+    if 0x400 <= row.rl {
+        return false;
+    }
+    if 0x100_0000 <= row.db {
+        return false;
+    }
+    row.dl < 0x100_0000
+}
+
+fn kind_sound(kind: u8) -> bool
+    ensures { λ r. ⌜ r ≡ kindSound kind ⌝ }
+{
+    match kind {
+        0x00 | 0x12 | 0x14 | 0x16 | 0x1A | 0x1C | 0x1E | 0xFF => true,
+        _ => false,
+    }
+}
+
+fn record_sound(kind: u8, psw: u64) -> bool
+    ensures { λ r. ⌜ r ≡ recordSound kind psw ⌝ }
+{
+    if kind == 0xFF {
+        return psw == 0;
+    }
+    word::psw_sound(psw)
+}
+
+// A row after the row of task `before`.
+fn row_sound(before: u8, row: Row) -> bool
+    ensures { λ r. ⌜ r ≡ rowSound before row ⌝ }
+{
+    if !task_sound(before, row.task) {
+        return false;
+    }
+    if !bases_sound(row) {
+        return false;
+    }
+    if !kind_sound(row.kind) {
+        return false;
+    }
+    record_sound(row.kind, row.psw)
+}
+
+// The first n rows, in ascending number.
+fn rows_sound(rows: [Row; 7], n: usize) -> bool
+    ensures { λ r. ⌜ r ≡ rowsSound 0 (take n rows) ⌝ }
+{
+    let mut before = 0;
+    let mut i = 0;
+    while i < 7 {
+        if n <= i {
+            return true;
+        }
+        let row = rows[i];
+        if !row_sound(before, row) {
+            return false;
+        }
+        before = row.task;
+        i += 1;
+    }
+    true
+}
+
+// Whether task t has one of the first n rows.
+fn has_row(t: u8, rows: [Row; 7], n: usize) -> bool
+    ensures { λ r. ⌜ r ≡ hasRow t (take n rows) ⌝ }
+{
+    let mut i = 0;
+    while i < 7 {
+        if n <= i {
+            return false;
+        }
+        if rows[i].task == t {
+            return true;
+        }
+        i += 1;
+    }
+    false
+}
+
+// ---- windows
+
+// A window that isn't empty ends in its memory of n places.
+fn ends_in(w: Window, n: usize) -> bool
+    ensures { λ r. ⌜ r ≡ endsIn w n ⌝ }
+{
+    w.last < w.first || w.last < n
+}
+
+fn row_ends_in(row: Row, registers: usize, program: usize, data_words: usize) -> bool
+    ensures { λ r. ⌜ r ≡ rowEndsIn registers program data_words row ⌝ }
+{
+    if !ends_in(window::register_window(row), registers) {
+        return false;
+    }
+    if !ends_in(window::program_window(row), program) {
+        return false;
+    }
+    ends_in(window::data_word_window(row), data_words)
+}
+
+// The windows of the first n rows.
+fn windows_sound(
+    rows: [Row; 7],
+    n: usize,
+    registers: usize,
+    program: usize,
+    data_words: usize,
+) -> bool
+    ensures { λ r. ⌜ r ≡ windowsSound registers program data_words (take n rows) ⌝ }
+{
+    let mut i = 0;
+    while i < 7 {
+        if n <= i {
+            return true;
+        }
+        if !row_ends_in(rows[i], registers, program, data_words) {
+            return false;
+        }
+        i += 1;
+    }
+    true
+}
+
+// ---- the process table
+
+// The queue of task t in its array, and empty where t has none of the first n rows.
+fn queue_sound(rows: [Row; 7], n: usize, t: u8, q: Queue) -> bool
+    ensures { λ r. ⌜ r ≡ queueSound (take n rows) t q ⌝ }
+{
+    if 64 < q.len {
+        return false;
+    }
+    if q.len == 0 {
+        return true;
+    }
+    has_row(t, rows, n)
+}
+
+fn queues_sound(rows: [Row; 7], n: usize, queues: [Queue; 7]) -> bool
+    ensures { λ r. ⌜ r ≡ queuesSound (take n rows) 1 queues ⌝ }
+{
+    let mut t = 1;
+    let mut k = 0;
+    while k < 7 {
+        if !queue_sound(rows, n, t, queues[k]) {
+            return false;
+        }
+        t += 1;
+        k += 1;
+    }
+    true
+}
+
+// The PTs that came so far; sound while each came once, is below 64 and has a sound PSW.
+pub struct Seen {
+    pub sound: bool,
+    pub pts: [bool; 64],
+}
+
+fn is_fresh(psw: [u64; 64], seen: Seen, pt: u8) -> bool
+    ensures { λ r. ⌜ r ≡ fresh psw seen pt ⌝ }
+{
+    if 64 <= pt {
+        return false;
+    }
+    let i = pt as usize;
+    if seen.pts[i] {
+        return false;
+    }
+    word::psw_sound(psw[i])
+}
+
+// One PT more.
+fn see(psw: [u64; 64], seen: Seen, pt: u8) -> Seen
+    ensures { λ r. ⌜ r ≡ seenOne psw seen pt ⌝ }
+{
+    let mut next = seen;
+    if !is_fresh(psw, seen, pt) {
+        next.sound = false;
+        return next;
+    }
+    let i = pt as usize;
+    next.pts[i] = true;
+    next
+}
+
+// The PTs of a queue, from its head on.
+fn see_queue(psw: [u64; 64], seen: Seen, q: Queue) -> Seen
+    ensures { λ r. ⌜ r ≡ seenAfter psw (listOf q) seen ⌝ }
+{
+    let mut seen = seen;
+    let mut at = q.head % 64;
+    let mut left = q.len;
+    while 0 < left {
+        seen = see(psw, seen, q.pts[at]);
+        at = (at + 1) % 64;
+        left -= 1;
+    }
+    seen
+}
+
+// No PT twice, and every process has a PT and a PSW.
+fn processes_sound(psw: [u64; 64], queues: [Queue; 7]) -> bool
+    ensures { λ r. ⌜ r ≡ processesSound psw (livePts queues) ⌝ }
+{
+    let mut seen = Seen {
+        sound: true,
+        pts: [false; 64],
+    };
+    let mut k = 0;
+    while k < 7 {
+        seen = see_queue(psw, seen, queues[k]);
+        k += 1;
+    }
+    seen.sound
+}
+
+// How many processes live, counted to 64.
+pub fn live(queues: [Queue; 7]) -> usize
+    ensures { λ r. ⌜ r ≡ min total (length (livePts queues)) ⌝ }
+{
+    let mut n = 0;
+    let mut k = 0;
+    while k < 7 {
+        if 64 - n <= queues[k].len {
+            return 64;
+        }
+        n += queues[k].len;
+        k += 1;
+    }
+    n
+}
+
+// Not all processes with the flag down.
+fn room_sound(queues: [Queue; 7], flag: u8) -> bool
+    ensures { λ r. ⌜ r ≡ roomSound (length (livePts queues)) flag ⌝ }
+{
+    if flag != 0 {
+        return true;
+    }
+    live(queues) < 64
+}
+
+fn table_sound(rows: [Row; 7], n: usize, table: ProcessTable) -> bool
+    ensures { λ r. ⌜ r ≡ tableSound (take n rows) table ⌝ }
+{
+    let psw = table.psw;
+    let queues = table.queues;
+    let flag = table.flag;
+    if !queues_sound(rows, n, queues) {
+        return false;
+    }
+    if !processes_sound(psw, queues) {
+        return false;
+    }
+    if 1 < flag {
+        return false;
+    }
+    room_sound(queues, flag)
+}
+
+// ---- the memories
+
+// At most `most` tags and words, of one length. A word of 64 bits is any u64.
+fn memory_sound(register: bool, tags: &[u8], words: &[u64], most: usize) -> bool
+    ensures { λ r. ⌜ r ≡ memorySound most (tagTest register) (memory (now (tags .entry)) (now (words .entry))) ⌝ }
+{
+    if tags.len() != words.len() {
+        return false;
+    }
+    if most < words.len() {
+        return false;
+    }
+    image_words::tags_ok(register, tags)
+}
+
+// Whatever else the state holds.
+fn memories_sound(
+    constants: &[u64],
+    tags: &[u8],
+    words: &[u64],
+    program: &[u64],
+    data_tags: &[u8],
+    data_words: &[u64],
+) -> bool
+    ensures { λ r. ⌜ ((all : List Row) (k : ℕ) (t : ProcessTable) → r ≡ memoriesSound (stateIn all k t (now (constants .entry)) (now (tags .entry)) (now (words .entry)) (now (program .entry)) (now (data_tags .entry)) (now (data_words .entry)))) ⌝ }
+{
+    if 4096 < constants.len() {
+        return false;
+    }
+    if !memory_sound(true, tags, words, 2048) {
+        return false;
+    }
+    if 0x10_0000 < program.len() {
+        return false;
+    }
+    memory_sound(false, data_tags, data_words, 0x10_0000)
+}
+
+// ---- the state
+
+// Whether the state of the first n rows, the table and the slices, each in its whole length, is sound.
+pub fn sound(
+    rows: [Row; 7],
+    n: usize,
+    table: ProcessTable,
+    constants: &[u64],
+    tags: &[u8],
+    words: &[u64],
+    program: &[u64],
+    data_tags: &[u8],
+    data_words: &[u64],
+) -> bool
+    ensures { λ r. ⌜ r ≡ soundIn n (stateIn rows n table (now (constants .entry)) (now (tags .entry)) (now (words .entry)) (now (program .entry)) (now (data_tags .entry)) (now (data_words .entry))) ⌝ }
+{
+    if 7 < n {
+        return false;
+    }
+    if !rows_sound(rows, n) {
+        return false;
+    }
+    if !table_sound(rows, n, table) {
+        return false;
+    }
+    if !memories_sound(constants, tags, words, program, data_tags, data_words) {
+        return false;
+    }
+    windows_sound(rows, n, words.len(), program.len(), data_words.len())
+}
