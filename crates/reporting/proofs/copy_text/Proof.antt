@@ -1,0 +1,68 @@
+use Rattle.reporting.proofs.copy_text.Statement.{statement}
+use Rattle.reporting.proofs.copy_text.Tie as tie
+use Rattle.reporting.proofs.copy_text.Reads as reads
+use Rattle.reporting.proofs.copy_text.Lts as lts
+use Rattle.reporting.proofs.text_len.Reads as text-len-reads
+
+abbrev Inv-loop : tie.InvT-loop
+Inv-loop out₀ n bytes i₀ out i = ?
+
+abbrev μ-loop : tie.MeasureT-loop
+μ-loop out₀ n bytes i₀ out i = ?
+
+-- src/lib.rt:193:9
+text-len-requires : tie.Need-text-len-requires Inv-loop μ-loop
+text-len-requires c κs = ?
+
+-- src/lib.rt:195:9
+returns : tie.Need-returns Inv-loop μ-loop
+returns c = ?
+
+-- src/lib.rt:199:5
+loop-holds : tie.Need-loop-holds Inv-loop μ-loop
+loop-holds c = ?
+
+-- src/lib.rt:200:18
+array-read-out : tie.Need-array-read-out Inv-loop μ-loop
+array-read-out c = ?
+
+-- src/lib.rt:200:9
+slice-write-out : tie.Need-slice-write-out Inv-loop μ-loop
+slice-write-out c = ?
+
+-- src/lib.rt:201:9
+add-i : tie.Need-add-i Inv-loop μ-loop
+add-i c = ?
+
+-- src/lib.rt:199:5
+loop-less : tie.Need-loop-less Inv-loop μ-loop
+loop-less c = ?
+
+-- src/lib.rt:199:5
+loop-again : tie.Need-loop-again Inv-loop μ-loop
+loop-again c = ?
+
+-- src/lib.rt:189:1
+same-length : tie.Need-same-length Inv-loop μ-loop
+same-length c = ?
+
+-- src/lib.rt:189:1
+returns-2 : tie.Need-returns-2 Inv-loop μ-loop
+returns-2 c = ?
+
+pub copy-text-spec : {M : Type 1} → statement M
+copy-text-spec =
+    tie.close
+    (tie.spec
+    Inv-loop
+    μ-loop
+    text-len-requires
+    returns
+    loop-holds
+    array-read-out
+    slice-write-out
+    add-i
+    loop-less
+    loop-again
+    same-length
+    returns-2)

@@ -1,0 +1,63 @@
+use borrow.Author.Needs.{needs}
+use Rattle.reporting.proofs.push_pc.Statement.{statement}
+use Rattle.reporting.proofs.push_pc.Tie as tie
+use Rattle.reporting.proofs.push_pc.Reads as reads
+use Rattle.reporting.proofs.push_pc.Lts as lts
+use Rattle.reporting.proofs.push.Reads as push-reads
+use Rattle.reporting.proofs.push_hex.Reads as push-hex-reads
+use Rattle.word.proofs.pc.Reads as pc-reads
+
+-- src/lib.rt:102:36
+push-requires : tie.Need-push-requires
+push-requires c κs = search needs
+
+-- src/lib.rt:102:31
+push-requires-2 : tie.Need-push-requires-2
+push-requires-2 c κs = search needs
+
+-- src/lib.rt:102:26
+push-requires-3 : tie.Need-push-requires-3
+push-requires-3 c κs = search needs
+
+-- src/lib.rt:102:21
+push-requires-4 : tie.Need-push-requires-4
+push-requires-4 c κs = search needs
+
+-- src/lib.rt:102:9
+push-requires-5 : tie.Need-push-requires-5
+push-requires-5 c κs = search needs
+
+-- src/lib.rt:102:9
+returns : tie.Need-returns
+returns c = ?
+
+-- src/lib.rt:104:20
+pc-requires : tie.Need-pc-requires
+pc-requires c κs = search needs
+
+-- src/lib.rt:104:20
+cast-push-hex : tie.Need-cast-push-hex
+cast-push-hex c = search needs
+
+-- src/lib.rt:104:5
+push-hex-requires : tie.Need-push-hex-requires
+push-hex-requires c κs = search needs
+
+-- src/lib.rt:98:1
+returns-2 : tie.Need-returns-2
+returns-2 c = ?
+
+pub push-pc-spec : {M : Type 1} → statement M
+push-pc-spec =
+    tie.close
+    (tie.spec
+    push-requires
+    push-requires-2
+    push-requires-3
+    push-requires-4
+    push-requires-5
+    returns
+    pc-requires
+    cast-push-hex
+    push-hex-requires
+    returns-2)

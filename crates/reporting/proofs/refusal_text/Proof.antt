@@ -1,0 +1,44 @@
+use borrow.Author.Needs.{needs}
+use Rattle.reporting.proofs.refusal_text.Statement.{statement}
+use Rattle.reporting.proofs.refusal_text.Tie as tie
+use Rattle.reporting.proofs.refusal_text.Reads as reads
+use Rattle.reporting.proofs.refusal_text.Lts as lts
+use Rattle.reporting.proofs.empty.Reads as empty-reads
+use Rattle.reporting.proofs.number.Reads as number-reads
+use Rattle.reporting.proofs.push.Reads as push-reads
+use Rattle.reporting.proofs.push_count.Reads as push-count-reads
+
+-- src/lib.rt:188:21
+empty-requires : tie.Need-empty-requires
+empty-requires c κs = search needs
+
+-- src/lib.rt:188:36
+number-requires : tie.Need-number-requires
+number-requires c κs = search needs
+
+-- src/lib.rt:188:36
+cast-push-count : tie.Need-cast-push-count
+cast-push-count c = search needs
+
+-- src/lib.rt:188:10
+push-count-requires : tie.Need-push-count-requires
+push-count-requires c κs = search needs
+
+-- src/lib.rt:188:5
+push-requires : tie.Need-push-requires
+push-requires c κs = search needs
+
+-- src/lib.rt:185:1
+returns : tie.Need-returns
+returns c = ?
+
+pub refusal-text-spec : {M : Type 1} → statement M
+refusal-text-spec =
+    tie.close
+    (tie.spec
+    empty-requires
+    number-requires
+    cast-push-count
+    push-count-requires
+    push-requires
+    returns)
