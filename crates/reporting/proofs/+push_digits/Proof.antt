@@ -1,100 +1,53 @@
+use mathlib.Core.Path.{_≡_, sym, _∙_, ap}
+use mathlib.Core.List.{[]}
+use borrow.Author.Needs.{needs}
+use native.Mathlib.Omega.{arith}
+use lib.ListN.{length}
+use Rattle.report.specs.Report.{decimalBy}
+use Rattle.reporting.specs.Texts.{shown, appended}
+use Rattle.reporting.specs.Laws.Texts.{appended-none, appended-twice, shown-fits}
+use Rattle.reporting.specs.Laws.Digits.{decimal-lowest, decimal-more}
 use Prim.Native.Nat.{ℕ, _<_}
 use borrow.Fn.Kinds.{In}
 use borrow.Fn.PlainCycle.{Measures, is, falls, and}
-use Rattle.reporting.proofs.push_digits.Reads as push-digits
-use Rattle.reporting.proofs.push_digits.Kinds as push-digits-kinds
-use Rattle.reporting.proofs.+push_digits.Lts-push_digits as push-digits-lts
-use Rattle.reporting.proofs.push_digit.Reads as push-digit-reads
+use Rattle.reporting.proofs.push_digits.Reads as reads
+use Rattle.reporting.proofs.push_digits.Kinds as kinds
+use Rattle.reporting.proofs.+push_digits.Lts-push_digits as lts
+use Rattle.reporting.proofs.push_digit.Reads as push-digit
 use Rattle.reporting.proofs.+push_digits.{statement}
 use Rattle.reporting.proofs.+push_digits.Tie.{close}
 
-abbrev μ-push-digits : Measures 0 push-digits-kinds.ps ℕ
-μ-push-digits κs a = ?
+-- how many digits are left
+abbrev μ : Measures 0 kinds.ps ℕ
+μ κs a = a .1 .0
 
-abbrev push-digits-at : ℕ → In 0 push-digits-kinds.ps
-push-digits-at t =
-    and 0 push-digits-kinds.ps (is 0 push-digits-kinds.ps μ-push-digits t) push-digits.Pre
+abbrev given : ℕ → In 0 kinds.ps
+given t = and 0 kinds.ps (is 0 kinds.ps μ t) reads.Pre
 
-abbrev push-digits-below : ℕ → In 0 push-digits-kinds.ps
-push-digits-below t =
-    and 0 push-digits-kinds.ps (falls 0 push-digits-kinds.ps _<_ μ-push-digits t) push-digits.Pre
+abbrev asked : ℕ → In 0 kinds.ps
+asked t = and 0 kinds.ps (falls 0 kinds.ps _<_ μ t) reads.Pre
 
--- src/lib.rt:54:9
-push-digits-returns : (t : ℕ) → push-digits-lts.Need-returns (
-  push-digit-reads.Asked,
-  push-digit-reads.Learnt,
-  push-digits-below t,
-  push-digits.Post,
-) (push-digits-at t) push-digits.Post
-push-digits-returns t c = ?
+returns : (t : ℕ) → lts.Need-returns (push-digit.Asked, push-digit.Learnt, asked t, reads.Post) (given t) reads.Post
+unfolding decimalBy
+returns t c = let h : length (c .before .args .t .bytes) ≡ 512 = search needs in rw (c .if1 .taken) (appended-none (shown (c .before .args .t)) (shown-fits (c .before .args .t) h))
 
--- src/lib.rt:57:9
-push-digits-push-digit-requires : (t : ℕ) → push-digits-lts.Need-push-digit-requires (
-  push-digit-reads.Asked,
-  push-digit-reads.Learnt,
-  push-digits-below t,
-  push-digits.Post,
-) (push-digits-at t) push-digits.Post
-push-digits-push-digit-requires t c κs = ?
+push-digit-requires : (t : ℕ) → lts.Need-push-digit-requires (push-digit.Asked, push-digit.Learnt, asked t, reads.Post) (given t) reads.Post
+push-digit-requires t c κs = search needs
 
--- src/lib.rt:57:9
-push-digits-returns-2 : (t : ℕ) → push-digits-lts.Need-returns-2 (
-  push-digit-reads.Asked,
-  push-digit-reads.Learnt,
-  push-digits-below t,
-  push-digits.Post,
-) (push-digits-at t) push-digits.Post
-push-digits-returns-2 t c = ?
+returns-2 : (t : ℕ) → lts.Need-returns-2 (push-digit.Asked, push-digit.Learnt, asked t, reads.Post) (given t) reads.Post
+returns-2 t c = rw (decimal-lowest _ _ (c .before .before .if1 .left) (c .before .if2 .taken)) (c .push-digit .ensures)
 
--- src/lib.rt:59:31
-push-digits-sub-push-digits : (t : ℕ) → push-digits-lts.Need-sub-push-digits (
-  push-digit-reads.Asked,
-  push-digit-reads.Learnt,
-  push-digits-below t,
-  push-digits.Post,
-) (push-digits-at t) push-digits.Post
-push-digits-sub-push-digits t c = ?
+sub-push-digits : (t : ℕ) → lts.Need-sub-push-digits (push-digit.Asked, push-digit.Learnt, asked t, reads.Post) (given t) reads.Post
+sub-push-digits t c = omega arith
 
--- src/lib.rt:59:16
-push-digits-push-digits-requires : (t : ℕ) → push-digits-lts.Need-push-digits-requires (
-  push-digit-reads.Asked,
-  push-digit-reads.Learnt,
-  push-digits-below t,
-  push-digits.Post,
-) (push-digits-at t) push-digits.Post
-push-digits-push-digits-requires t c κs = ?
+push-digits-requires : (t : ℕ) → lts.Need-push-digits-requires (push-digit.Asked, push-digit.Learnt, asked t, reads.Post) (given t) reads.Post
+push-digits-requires t c κs = omega arith
 
--- src/lib.rt:59:5
-push-digits-push-digit-requires-2 : (t : ℕ) → push-digits-lts.Need-push-digit-requires-2 (
-  push-digit-reads.Asked,
-  push-digit-reads.Learnt,
-  push-digits-below t,
-  push-digits.Post,
-) (push-digits-at t) push-digits.Post
-push-digits-push-digit-requires-2 t c κs = ?
+push-digit-requires-2 : (t : ℕ) → lts.Need-push-digit-requires-2 (push-digit.Asked, push-digit.Learnt, asked t, reads.Post) (given t) reads.Post
+push-digit-requires-2 t c κs = search needs
 
--- src/lib.rt:50:1
-push-digits-returns-3 : (t : ℕ) → push-digits-lts.Need-returns-3 (
-  push-digit-reads.Asked,
-  push-digit-reads.Learnt,
-  push-digits-below t,
-  push-digits.Post,
-) (push-digits-at t) push-digits.Post
-push-digits-returns-3 t c = ?
+returns-3 : (t : ℕ) → lts.Need-returns-3 (push-digit.Asked, push-digit.Learnt, asked t, reads.Post) (given t) reads.Post
+returns-3 t c = simp (c .push-digit2 .ensures, c .before .push-digits .ensures, appended-twice, decimal-more _ _ (c .before .before .before .if1 .left) (c .before .before .if2 .left))
 
 pub +push-digits-spec : {M : Type 1} → statement M
-+push-digits-spec = close μ-push-digits λ t. push-digits-lts.spec (
-  push-digit-reads.Asked,
-  push-digit-reads.Learnt,
-  push-digits-below t,
-  push-digits.Post,
-)
-    (push-digits-at t)
-    push-digits.Post
-    (push-digits-returns t)
-    (push-digits-push-digit-requires t)
-    (push-digits-returns-2 t)
-    (push-digits-sub-push-digits t)
-    (push-digits-push-digits-requires t)
-    (push-digits-push-digit-requires-2 t)
-    (push-digits-returns-3 t)
++push-digits-spec = close μ λ t. lts.spec (push-digit.Asked, push-digit.Learnt, asked t, reads.Post) (given t) reads.Post (returns t) (push-digit-requires t) (returns-2 t) (sub-push-digits t) (push-digits-requires t) (push-digit-requires-2 t) (returns-3 t)

@@ -1,79 +1,47 @@
+use mathlib.Core.Path.{_≡_, sym, _∙_, ap}
+use mathlib.Core.List.{[]}
+use borrow.Author.Needs.{needs}
+use native.Mathlib.Omega.{arith}
+use lib.ListN.{length}
+use Rattle.report.specs.Report.{hex}
+use Rattle.reporting.specs.Texts.{shown, appended}
+use Rattle.reporting.specs.Laws.Texts.{appended-none, appended-twice, shown-fits}
+use Rattle.reporting.specs.Laws.Digits.{hex-more}
 use Prim.Native.Nat.{ℕ, _<_}
 use borrow.Fn.Kinds.{In}
 use borrow.Fn.PlainCycle.{Measures, is, falls, and}
-use Rattle.reporting.proofs.push_hex.Reads as push-hex
-use Rattle.reporting.proofs.push_hex.Kinds as push-hex-kinds
-use Rattle.reporting.proofs.+push_hex.Lts-push_hex as push-hex-lts
-use Rattle.reporting.proofs.push_hex_digit.Reads as push-hex-digit-reads
+use Rattle.reporting.proofs.push_hex.Reads as reads
+use Rattle.reporting.proofs.push_hex.Kinds as kinds
+use Rattle.reporting.proofs.+push_hex.Lts-push_hex as lts
+use Rattle.reporting.proofs.push_hex_digit.Reads as push-hex-digit
 use Rattle.reporting.proofs.+push_hex.{statement}
 use Rattle.reporting.proofs.+push_hex.Tie.{close}
 
-abbrev μ-push-hex : Measures 0 push-hex-kinds.ps ℕ
-μ-push-hex κs a = ?
+-- how many digits are left
+abbrev μ : Measures 0 kinds.ps ℕ
+μ κs a = a .1 .0
 
-abbrev push-hex-at : ℕ → In 0 push-hex-kinds.ps
-push-hex-at t = and 0 push-hex-kinds.ps (is 0 push-hex-kinds.ps μ-push-hex t) push-hex.Pre
+abbrev given : ℕ → In 0 kinds.ps
+given t = and 0 kinds.ps (is 0 kinds.ps μ t) reads.Pre
 
-abbrev push-hex-below : ℕ → In 0 push-hex-kinds.ps
-push-hex-below t =
-    and 0 push-hex-kinds.ps (falls 0 push-hex-kinds.ps _<_ μ-push-hex t) push-hex.Pre
+abbrev asked : ℕ → In 0 kinds.ps
+asked t = and 0 kinds.ps (falls 0 kinds.ps _<_ μ t) reads.Pre
 
--- src/lib.rt:84:9
-push-hex-returns : (t : ℕ) → push-hex-lts.Need-returns (
-  push-hex-below t,
-  push-hex.Post,
-  push-hex-digit-reads.Asked,
-  push-hex-digit-reads.Learnt,
-) (push-hex-at t) push-hex.Post
-push-hex-returns t c = ?
+returns : (t : ℕ) → lts.Need-returns (asked t, reads.Post, push-hex-digit.Asked, push-hex-digit.Learnt) (given t) reads.Post
+unfolding hex
+returns t c = let h : length (c .before .args .t .bytes) ≡ 512 = search needs in rw (c .if1 .taken) (appended-none (shown (c .before .args .t)) (shown-fits (c .before .args .t) h))
 
--- src/lib.rt:86:32
-push-hex-sub-push-hex : (t : ℕ) → push-hex-lts.Need-sub-push-hex (
-  push-hex-below t,
-  push-hex.Post,
-  push-hex-digit-reads.Asked,
-  push-hex-digit-reads.Learnt,
-) (push-hex-at t) push-hex.Post
-push-hex-sub-push-hex t c = ?
+sub-push-hex : (t : ℕ) → lts.Need-sub-push-hex (asked t, reads.Post, push-hex-digit.Asked, push-hex-digit.Learnt) (given t) reads.Post
+sub-push-hex t c = omega arith
 
--- src/lib.rt:86:20
-push-hex-push-hex-requires : (t : ℕ) → push-hex-lts.Need-push-hex-requires (
-  push-hex-below t,
-  push-hex.Post,
-  push-hex-digit-reads.Asked,
-  push-hex-digit-reads.Learnt,
-) (push-hex-at t) push-hex.Post
-push-hex-push-hex-requires t c κs = ?
+push-hex-requires : (t : ℕ) → lts.Need-push-hex-requires (asked t, reads.Post, push-hex-digit.Asked, push-hex-digit.Learnt) (given t) reads.Post
+push-hex-requires t c κs = omega arith
 
--- src/lib.rt:86:5
-push-hex-push-hex-digit-requires : (t : ℕ) → push-hex-lts.Need-push-hex-digit-requires (
-  push-hex-below t,
-  push-hex.Post,
-  push-hex-digit-reads.Asked,
-  push-hex-digit-reads.Learnt,
-) (push-hex-at t) push-hex.Post
-push-hex-push-hex-digit-requires t c κs = ?
+push-hex-digit-requires : (t : ℕ) → lts.Need-push-hex-digit-requires (asked t, reads.Post, push-hex-digit.Asked, push-hex-digit.Learnt) (given t) reads.Post
+push-hex-digit-requires t c κs = search needs
 
--- src/lib.rt:80:1
-push-hex-returns-2 : (t : ℕ) → push-hex-lts.Need-returns-2 (
-  push-hex-below t,
-  push-hex.Post,
-  push-hex-digit-reads.Asked,
-  push-hex-digit-reads.Learnt,
-) (push-hex-at t) push-hex.Post
-push-hex-returns-2 t c = ?
+returns-2 : (t : ℕ) → lts.Need-returns-2 (asked t, reads.Post, push-hex-digit.Asked, push-hex-digit.Learnt) (given t) reads.Post
+returns-2 t c = simp (c .push-hex-digit .ensures, c .before .push-hex .ensures, appended-twice, hex-more _ (c .before .before .before .args .n) (c .before .before .if1 .left))
 
 pub +push-hex-spec : {M : Type 1} → statement M
-+push-hex-spec = close μ-push-hex λ t. push-hex-lts.spec (
-  push-hex-below t,
-  push-hex.Post,
-  push-hex-digit-reads.Asked,
-  push-hex-digit-reads.Learnt,
-)
-    (push-hex-at t)
-    push-hex.Post
-    (push-hex-returns t)
-    (push-hex-sub-push-hex t)
-    (push-hex-push-hex-requires t)
-    (push-hex-push-hex-digit-requires t)
-    (push-hex-returns-2 t)
++push-hex-spec = close μ λ t. lts.spec (asked t, reads.Post, push-hex-digit.Asked, push-hex-digit.Learnt) (given t) reads.Post (returns t) (sub-push-hex t) (push-hex-requires t) (push-hex-digit-requires t) (returns-2 t)

@@ -1,3 +1,4 @@
+use Rattle.reporting.specs.Laws.Texts.{appended-twice}
 use borrow.Author.Needs.{needs}
 use Rattle.reporting.proofs.push_count.Statement.{statement}
 use Rattle.reporting.proofs.push_count.Tie as tie
@@ -16,7 +17,7 @@ push-decimal-requires c κs = search needs
 
 -- src/lib.rt:141:1
 returns : tie.Need-returns
-returns c = ?
+returns c = simp (c .push-decimal .ensures, c .before .push .ensures, appended-twice)
 
 pub push-count-spec : {M : Type 1} → statement M
 push-count-spec = tie.close (tie.spec push-requires push-decimal-requires returns)

@@ -1,3 +1,7 @@
+use mathlib.Core.Path.{ap}
+use Rattle.reporting.specs.Texts.{appended}
+use Rattle.reporting.specs.Laws.Lines.{counts-joined}
+use Rattle.reporting.specs.Laws.Texts.{appended-twice}
 use borrow.Author.Needs.{needs}
 use Rattle.reporting.proofs.push_counts.Statement.{statement}
 use Rattle.reporting.proofs.push_counts.Tie as tie
@@ -52,7 +56,7 @@ push-requires-6 c κs = search needs
 
 -- src/lib.rt:147:1
 returns : tie.Need-returns
-returns c = ?
+returns c = simp (c .push6 .ensures, c .before .push-count5 .ensures, c .before .before .push5 .ensures, c .before .before .before .push4 .ensures, c .before .before .before .before .push-count4 .ensures, c .before .before .before .before .before .push3 .ensures, c .before .before .before .before .before .before .push-count3 .ensures, c .before .before .before .before .before .before .before .push2 .ensures, c .before .before .before .before .before .before .before .before .push-count2 .ensures, c .before .before .before .before .before .before .before .before .before .push .ensures, c .before .before .before .before .before .before .before .before .before .before .push-count .ensures, appended-twice) (ap (appended _) (counts-joined (c .before .before .before .before .before .before .before .before .before .before .before .args .counts) (c .before .before .before .before .before .before .before .before .before .before .before .args .flag)))
 
 pub push-counts-spec : {M : Type 1} → statement M
 push-counts-spec =

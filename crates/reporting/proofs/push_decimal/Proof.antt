@@ -1,3 +1,4 @@
+use Rattle.report.specs.Report.{decimal}
 use borrow.Author.Needs.{needs}
 use Rattle.reporting.proofs.push_decimal.Statement.{statement}
 use Rattle.reporting.proofs.push_decimal.Tie as tie
@@ -11,7 +12,8 @@ push-digits-requires c κs = search needs
 
 -- src/lib.rt:62:1
 returns : tie.Need-returns
-returns c = ?
+unfolding decimal
+returns c = c .push-digits .ensures
 
 pub push-decimal-spec : {M : Type 1} → statement M
 push-decimal-spec = tie.close (tie.spec push-digits-requires returns)

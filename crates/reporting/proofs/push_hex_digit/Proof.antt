@@ -1,3 +1,5 @@
+use borrow.Author.Tests.{lt-ltb, le-ltb}
+use Rattle.report.specs.Report.{hexDigit}
 use borrow.Author.Needs.{needs}
 use Rattle.reporting.proofs.push_hex_digit.Statement.{statement}
 use Rattle.reporting.proofs.push_hex_digit.Tie as tie
@@ -19,7 +21,8 @@ push-requires c κs = search needs
 
 -- src/lib.rt:74:9
 returns : tie.Need-returns
-returns c = ?
+unfolding hexDigit
+returns c = simp (c .push .ensures, lt-ltb _ _ (c .before .if1 .taken))
 
 -- src/lib.rt:76:13
 add-push-2 : tie.Need-add-push-2
@@ -31,7 +34,8 @@ push-requires-2 c κs = search needs
 
 -- src/lib.rt:69:1
 returns-2 : tie.Need-returns-2
-returns-2 c = ?
+unfolding hexDigit
+returns-2 c = simp (c .push2 .ensures, le-ltb _ _ (c .before .if1 .left))
 
 pub push-hex-digit-spec : {M : Type 1} → statement M
 push-hex-digit-spec =

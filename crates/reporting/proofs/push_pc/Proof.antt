@@ -1,3 +1,6 @@
+use borrow.Author.Tests.{eq-eqb, ne-eqb}
+use Rattle.report.specs.Report.{pcText}
+use Rattle.reporting.specs.Laws.Texts.{appended-twice}
 use borrow.Author.Needs.{needs}
 use Rattle.reporting.proofs.push_pc.Statement.{statement}
 use Rattle.reporting.proofs.push_pc.Tie as tie
@@ -29,7 +32,8 @@ push-requires-5 c κs = search needs
 
 -- src/lib.rt:102:9
 returns : tie.Need-returns
-returns c = ?
+unfolding pcText
+returns c = simp (c .push5 .ensures, c .before .push4 .ensures, c .before .before .push3 .ensures, c .before .before .before .push2 .ensures, c .before .before .before .before .push .ensures, appended-twice, eq-eqb _ _ (c .before .before .before .before .before .if1 .taken))
 
 -- src/lib.rt:104:20
 pc-requires : tie.Need-pc-requires
@@ -45,7 +49,8 @@ push-hex-requires c κs = search needs
 
 -- src/lib.rt:98:1
 returns-2 : tie.Need-returns-2
-returns-2 c = ?
+unfolding pcText
+returns-2 c = simp (c .push-hex .ensures, c .before .pc .ensures, ne-eqb _ _ (c .before .before .if1 .left))
 
 pub push-pc-spec : {M : Type 1} → statement M
 push-pc-spec =

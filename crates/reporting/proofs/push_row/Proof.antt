@@ -1,3 +1,6 @@
+use mathlib.Core.List.{append-assoc}
+use Rattle.report.specs.Report.{rowLine}
+use Rattle.reporting.specs.Laws.Texts.{appended-twice}
 use borrow.Author.Needs.{needs}
 use Rattle.reporting.proofs.push_row.Statement.{statement}
 use Rattle.reporting.proofs.push_row.Tie as tie
@@ -51,7 +54,8 @@ push-requires-4 c κs = search needs
 
 -- src/lib.rt:118:1
 returns : tie.Need-returns
-returns c = ?
+unfolding rowLine
+returns c = simp (c .push4 .ensures, c .before .push-pc .ensures, c .before .before .push3 .ensures, c .before .before .before .push-kind .ensures, c .before .before .before .before .push2 .ensures, c .before .before .before .before .before .push-decimal2 .ensures, c .before .before .before .before .before .before .live .ensures, c .before .before .before .before .before .before .before .push .ensures, c .before .before .before .before .before .before .before .before .push-decimal .ensures, appended-twice, append-assoc)
 
 pub push-row-spec : {M : Type 1} → statement M
 push-row-spec =
