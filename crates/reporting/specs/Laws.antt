@@ -2,3 +2,5 @@
 pub mod Texts
 pub mod Digits
 pub mod Lines
+pub mod Lengths
+pub mod Rows

@@ -18,10 +18,17 @@ shown t = take (t .len) (t .bytes)
 unfoldable pub appended : (text bytes : List ℕ) → List ℕ
 appended text bytes = take room (text ++ bytes)
 
--- the longest report of any rows, table and counts: seven rows of 32 bytes (the longest has a task of one digit and 20 digits of
--- processes), four counts of 20 digits, a flag of 3, and 11 bytes around them
+-- the longest line of any row: a task of one digit and 20 digits of processes, 11 bytes for the rest
+abbrev pub longestRow : ℕ
+longestRow = 1 + 20 + 11
+
+-- the longest line of any counts: four of 20 digits, a flag of 3, 11 bytes for the rest
+abbrev pub longestCounts : ℕ
+longestCounts = 4 * 20 + 3 + 11
+
+-- the longest report of any rows, table and counts: seven rows and the counts
 abbrev pub longestReport : ℕ
-longestReport = 7 * 32 + 4 * 20 + 3 + 11
+longestReport = 7 * longestRow + longestCounts
 
 -- a buffer after a copy: the text and then what was there; unchanged where it is shorter than the text
 unfoldable pub leftIn : (text buffer : List ℕ) → List ℕ

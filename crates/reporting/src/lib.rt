@@ -5,12 +5,12 @@ use step::ProcessTable;
 use window::Row;
 ghost use mathlib.Core.Path.{_≡_};
 ghost use mathlib.Core.List.{[], _∷_, _++_};
-ghost use Prim.Native.Nat.{_+_, _≤_, _%_};
+ghost use Prim.Native.Nat.{_+_, _*_, _%_, _≤_};
 ghost use lib.ListN.{length, take};
 ghost use Rattle.refusal.specs.Numbers.{numberOf};
 ghost use Rattle.step.specs.State.{processesOf};
 ghost use Rattle.report.specs.Report.{decimalBy, decimal, hexDigit, hex, kindText, pcText, rowLine, rowLines, countsLine, refusalLine};
-ghost use Rattle.reporting.specs.Texts.{shown, appended, longestReport, leftIn};
+ghost use Rattle.reporting.specs.Texts.{shown, appended, longestRow, longestReport, leftIn};
 
 // A text under way: its first len bytes.
 pub struct Text {
@@ -116,7 +116,8 @@ fn live(table: ProcessTable, task: u8) -> u64
 }
 
 fn push_row(t: Text, table: ProcessTable, row: Row) -> Text
-    ensures { λ r. ⌜ shown r ≡ appended (shown t) (rowLine table row) ⌝ }
+    ensures bound { λ _. ⌜ length (rowLine table row) ≤ longestRow ⌝ }
+    ensures text { λ r. ⌜ shown r ≡ appended (shown t) (rowLine table row) ⌝ }
 {
     let task = push_decimal(t, row.task as u64);
     let processes = push_decimal(push(task, b' '), live(table, row.task));
@@ -126,7 +127,8 @@ fn push_row(t: Text, table: ProcessTable, row: Row) -> Text
 }
 
 fn push_rows(t: Text, rows: [Row; 7], n: usize, table: ProcessTable) -> Text
-    ensures { λ r. ⌜ shown r ≡ appended (shown t) (rowLines table (take n rows)) ⌝ }
+    ensures bound { λ _. ⌜ length (rowLines table (take n rows)) ≤ 7 * longestRow ⌝ }
+    ensures text { λ r. ⌜ shown r ≡ appended (shown t) (rowLines table (take n rows)) ⌝ }
 {
     let mut u = t;
     let mut i = 0;

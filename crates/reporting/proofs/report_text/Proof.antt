@@ -7,19 +7,19 @@ use Rattle.reporting.proofs.empty.Reads as empty-reads
 use Rattle.reporting.proofs.push_counts.Reads as push-counts-reads
 use Rattle.reporting.proofs.push_rows.Reads as push-rows-reads
 
--- src/lib.rt:162:27
+-- src/lib.rt:164:27
 empty-requires : tie.Need-empty-requires
 empty-requires c κs = search needs
 
--- src/lib.rt:162:17
+-- src/lib.rt:164:17
 push-rows-requires : tie.Need-push-rows-requires
 push-rows-requires c κs = search needs
 
--- src/lib.rt:162:5
+-- src/lib.rt:164:5
 push-counts-requires : tie.Need-push-counts-requires
 push-counts-requires c κs = search needs
 
--- src/lib.rt:158:1
+-- src/lib.rt:160:1
 returns : tie.Need-returns
 returns c = ?
 

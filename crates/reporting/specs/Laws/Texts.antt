@@ -49,3 +49,7 @@ length-shown-full t h k = rw length-take (omega arith)
 pub shown-fits : (t : Text) → length (t .bytes) ≡ 512 → length (shown t) ≤ 512
 unfolding shown
 shown-fits t h = rw length-take (omega arith)
+
+pub appended-fits : (text bytes : List ℕ) → length (appended text bytes) ≤ 512
+unfolding appended
+appended-fits text bytes = rw length-take (omega arith)
