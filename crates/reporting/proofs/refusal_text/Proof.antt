@@ -1,3 +1,8 @@
+use mathlib.Core.List.{_∷_}
+use Rattle.report.specs.Report.{refusalLine, decimal, newline}
+use Rattle.refusal.specs.Numbers.{numberOf}
+use Rattle.reporting.specs.Laws.Texts.{appended-both}
+use Rattle.reporting.specs.Laws.Lengths.{length-refusal}
 use borrow.Author.Needs.{needs}
 use Rattle.reporting.proofs.refusal_text.Statement.{statement}
 use Rattle.reporting.proofs.refusal_text.Tie as tie
@@ -30,7 +35,11 @@ push-requires c κs = search needs
 
 -- src/lib.rt:185:1
 returns : tie.Need-returns
-returns c = ?
+unfolding refusalLine
+returns c = 
+    let n = numberOf (c .before .before .before .before .args .e) in
+    simp (c .push .ensures, c .before .push-count .ensures, c .before .before .number .ensures, c .before .before .before .empty .ensures)
+    (appended-both (82 ∷ decimal n) newline (length-refusal n))
 
 pub refusal-text-spec : {M : Type 1} → statement M
 refusal-text-spec =

@@ -1,3 +1,12 @@
+use mathlib.Core.Path.{_≡_, ap, _∙_}
+use Prim.Native.Nat.{_<_}
+use mathlib.Core.List.{[], _++_}
+use lib.ListN.{length, take, length-append}
+use native.Mathlib.Omega.{arith}
+use Rattle.report.specs.Report.{rowLines, countsLine}
+use Rattle.reporting.specs.Texts.{shown, appended}
+use Rattle.reporting.specs.Laws.Texts.{appended-both}
+use Rattle.reporting.specs.Laws.Lengths.{length-counts}
 use borrow.Author.Needs.{needs}
 use Rattle.reporting.proofs.report_text.Statement.{statement}
 use Rattle.reporting.proofs.report_text.Tie as tie
@@ -21,7 +30,14 @@ push-counts-requires c κs = search needs
 
 -- src/lib.rt:160:1
 returns : tie.Need-returns
-returns c = ?
+returns c = 
+    let a = c .before .before .before .args in
+    let rows = rowLines (a .table) (take (a .n) (a .rows)) in
+    let counts = countsLine (a .counts) (a .table .flag) in
+    let small : a .table .flag < 256 = search needs in
+    let few = length-counts (a .counts) (a .table .flag) small in
+    let e : shown (c .push-counts .result) ≡ rows ++ counts = simp (c .push-counts .ensures, c .before .push-rows .ensures .1, c .before .before .empty .ensures) (appended-both rows counts (omega (arith, c .before .push-rows .ensures .0, few))) in
+    (e, omega (arith, ap length e, length-append rows counts, c .before .push-rows .ensures .0, few))
 
 pub report-text-spec : {M : Type 1} → statement M
 report-text-spec =

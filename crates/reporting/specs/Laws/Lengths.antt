@@ -15,7 +15,7 @@ use Rattle.step.specs.State.{noQueue, queueIn, pswsOf, processesOf}
 use Rattle.step.specs.Laws.Queues.{length-list}
 use Rattle.run.specs.declared.Counts.{Counts}
 use Rattle.reporting.specs.Texts.{longestRow, longestCounts}
-use Rattle.report.specs.Report.{decimalBy, decimal, hexDigit, hex, kindText, pcText, rowLine, rowLines, countsLine}
+use Rattle.report.specs.Report.{decimalBy, decimal, hexDigit, hex, kindText, pcText, rowLine, countsLine, newline}
 
 -- the live processes of a task are as many as its queue says
 pub length-processes : (table : ProcessTable) (task : ℕ) → length (processesOf table task) ≡ getD (table .queues) (task - 1) noQueue .len
@@ -113,3 +113,7 @@ length-counts c flag h =
       digits-at-most 20 (c .idle),
       digits-3 20 flag (omega arith),
     ))
+
+pub length-refusal : (n : ℕ) → length (82 ∷ decimal n) + length newline ≤ 512
+unfolding decimal
+length-refusal n = omega (arith, digits-at-most 20 n)

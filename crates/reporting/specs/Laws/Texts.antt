@@ -53,3 +53,7 @@ shown-fits t h = rw length-take (omega arith)
 pub appended-fits : (text bytes : List ℕ) → length (appended text bytes) ≤ 512
 unfolding appended
 appended-fits text bytes = rw length-take (omega arith)
+
+-- two pieces from an empty text on
+pub appended-both : (a b : List ℕ) → length a + length b ≤ 512 → appended (appended [] a) b ≡ a ++ b
+appended-both a b h = appended-twice [] a b ∙ appended-whole [] (a ++ b) (omega (arith, length-append a b))
