@@ -1,21 +1,20 @@
-use mathlib.Core.Path.{_≡_, sym, _∙_, ap}
-use mathlib.Core.List.{[]}
-use borrow.Author.Needs.{needs}
-use native.Mathlib.Omega.{arith}
-use lib.ListN.{length}
-use Rattle.report.specs.Report.{decimalBy}
-use Rattle.reporting.specs.Texts.{shown, appended}
-use Rattle.reporting.specs.Laws.Texts.{appended-none, appended-twice, shown-fits}
-use Rattle.reporting.specs.Laws.Digits.{decimal-lowest, decimal-more}
 use Prim.Native.Nat.{ℕ, _<_}
+use mathlib.Core.Path.{_≡_}
+use native.Mathlib.Omega.{arith}
+use borrow.Author.Needs.{needs}
 use borrow.Fn.Kinds.{In}
 use borrow.Fn.PlainCycle.{Measures, is, falls, and}
+use lib.ListN.{length}
+use Rattle.report.specs.Report.{decimalBy}
+use Rattle.reporting.specs.Texts.{shown}
+use Rattle.reporting.specs.Laws.Texts.{appended-none, appended-twice, shown-fits}
+use Rattle.reporting.specs.Laws.Digits.{decimal-lowest, decimal-more}
+use Rattle.reporting.proofs.+push_digits.{statement}
+use Rattle.reporting.proofs.+push_digits.Tie.{close}
 use Rattle.reporting.proofs.push_digits.Reads as reads
 use Rattle.reporting.proofs.push_digits.Kinds as kinds
 use Rattle.reporting.proofs.+push_digits.Lts-push_digits as lts
 use Rattle.reporting.proofs.push_digit.Reads as push-digit
-use Rattle.reporting.proofs.+push_digits.{statement}
-use Rattle.reporting.proofs.+push_digits.Tie.{close}
 
 -- how many digits are left
 abbrev μ : Measures 0 kinds.ps ℕ

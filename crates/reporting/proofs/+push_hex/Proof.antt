@@ -1,21 +1,20 @@
-use mathlib.Core.Path.{_≡_, sym, _∙_, ap}
-use mathlib.Core.List.{[]}
-use borrow.Author.Needs.{needs}
-use native.Mathlib.Omega.{arith}
-use lib.ListN.{length}
-use Rattle.report.specs.Report.{hex}
-use Rattle.reporting.specs.Texts.{shown, appended}
-use Rattle.reporting.specs.Laws.Texts.{appended-none, appended-twice, shown-fits}
-use Rattle.reporting.specs.Laws.Digits.{hex-more}
 use Prim.Native.Nat.{ℕ, _<_}
+use mathlib.Core.Path.{_≡_}
+use native.Mathlib.Omega.{arith}
+use borrow.Author.Needs.{needs}
 use borrow.Fn.Kinds.{In}
 use borrow.Fn.PlainCycle.{Measures, is, falls, and}
+use lib.ListN.{length}
+use Rattle.report.specs.Report.{hex}
+use Rattle.reporting.specs.Texts.{shown}
+use Rattle.reporting.specs.Laws.Texts.{appended-none, appended-twice, shown-fits}
+use Rattle.reporting.specs.Laws.Digits.{hex-more}
+use Rattle.reporting.proofs.+push_hex.{statement}
+use Rattle.reporting.proofs.+push_hex.Tie.{close}
 use Rattle.reporting.proofs.push_hex.Reads as reads
 use Rattle.reporting.proofs.push_hex.Kinds as kinds
 use Rattle.reporting.proofs.+push_hex.Lts-push_hex as lts
 use Rattle.reporting.proofs.push_hex_digit.Reads as push-hex-digit
-use Rattle.reporting.proofs.+push_hex.{statement}
-use Rattle.reporting.proofs.+push_hex.Tie.{close}
 
 -- how many digits are left
 abbrev μ : Measures 0 kinds.ps ℕ

@@ -1,29 +1,23 @@
 use mathlib.Core.Path.{_≡_}
+use borrow.Author.Needs.{needs}
 use lib.ListN.{length}
 use Rattle.reporting.specs.Texts.{shown}
 use Rattle.reporting.specs.Laws.Texts.{appended-one, appended-full, length-shown-full}
-use borrow.Author.Needs.{needs}
 use Rattle.reporting.proofs.push.Statement.{statement}
 use Rattle.reporting.proofs.push.Tie as tie
-use Rattle.reporting.proofs.push.Reads as reads
-use Rattle.reporting.proofs.push.Lts as lts
 
--- src/lib.rt:36:9
 element-write-t : tie.Need-element-write-t
 element-write-t c = search needs
 
--- src/lib.rt:37:17
 add-t : tie.Need-add-t
 add-t c = search needs
 
--- src/lib.rt:31:1
 returns : tie.Need-returns
 unfolding shown
 returns c =
     let h : length (c .before .args .t1 .bytes) ≡ 512 = search needs in
     appended-one (c .before .args .t1 .bytes) (c .before .args .t1 .len) (c .before .args .b) h (c .if1 .taken)
 
--- src/lib.rt:31:1
 returns-2 : tie.Need-returns-2
 unfolding shown
 returns-2 c =

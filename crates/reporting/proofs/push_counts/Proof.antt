@@ -1,60 +1,44 @@
 use mathlib.Core.Path.{ap}
+use borrow.Author.Needs.{needs}
 use Rattle.reporting.specs.Texts.{appended}
 use Rattle.reporting.specs.Laws.Lines.{counts-joined}
 use Rattle.reporting.specs.Laws.Texts.{appended-twice}
-use borrow.Author.Needs.{needs}
 use Rattle.reporting.proofs.push_counts.Statement.{statement}
 use Rattle.reporting.proofs.push_counts.Tie as tie
-use Rattle.reporting.proofs.push_counts.Reads as reads
-use Rattle.reporting.proofs.push_counts.Lts as lts
-use Rattle.reporting.proofs.push.Reads as push-reads
-use Rattle.reporting.proofs.push_count.Reads as push-count-reads
 
--- src/lib.rt:150:9
 push-count-requires : tie.Need-push-count-requires
 push-count-requires c κs = search needs
 
--- src/lib.rt:151:24
 push-requires : tie.Need-push-requires
 push-requires c κs = search needs
 
--- src/lib.rt:151:9
 push-count-requires-2 : tie.Need-push-count-requires-2
 push-count-requires-2 c κs = search needs
 
--- src/lib.rt:152:24
 push-requires-2 : tie.Need-push-requires-2
 push-requires-2 c κs = search needs
 
--- src/lib.rt:152:9
 push-count-requires-3 : tie.Need-push-count-requires-3
 push-count-requires-3 c κs = search needs
 
--- src/lib.rt:153:24
 push-requires-3 : tie.Need-push-requires-3
 push-requires-3 c κs = search needs
 
--- src/lib.rt:153:9
 push-count-requires-4 : tie.Need-push-count-requires-4
 push-count-requires-4 c κs = search needs
 
--- src/lib.rt:154:18
 push-requires-4 : tie.Need-push-requires-4
 push-requires-4 c κs = search needs
 
--- src/lib.rt:154:9
 push-requires-5 : tie.Need-push-requires-5
 push-requires-5 c κs = search needs
 
--- src/lib.rt:155:10
 push-count-requires-5 : tie.Need-push-count-requires-5
 push-count-requires-5 c κs = search needs
 
--- src/lib.rt:155:5
 push-requires-6 : tie.Need-push-requires-6
 push-requires-6 c κs = search needs
 
--- src/lib.rt:147:1
 returns : tie.Need-returns
 returns c = simp (c .push6 .ensures, c .before .push-count5 .ensures, c .before .before .push5 .ensures, c .before .before .before .push4 .ensures, c .before .before .before .before .push-count4 .ensures, c .before .before .before .before .before .push3 .ensures, c .before .before .before .before .before .before .push-count3 .ensures, c .before .before .before .before .before .before .before .push2 .ensures, c .before .before .before .before .before .before .before .before .push-count2 .ensures, c .before .before .before .before .before .before .before .before .before .push .ensures, c .before .before .before .before .before .before .before .before .before .before .push-count .ensures, appended-twice) (ap (appended _) (counts-joined (c .before .before .before .before .before .before .before .before .before .before .before .args .counts) (c .before .before .before .before .before .before .before .before .before .before .before .args .flag)))
 

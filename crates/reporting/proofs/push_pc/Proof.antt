@@ -1,53 +1,38 @@
 use borrow.Author.Tests.{eq-eqb, ne-eqb}
+use borrow.Author.Needs.{needs}
 use Rattle.report.specs.Report.{pcText}
 use Rattle.reporting.specs.Laws.Texts.{appended-twice}
-use borrow.Author.Needs.{needs}
 use Rattle.reporting.proofs.push_pc.Statement.{statement}
 use Rattle.reporting.proofs.push_pc.Tie as tie
-use Rattle.reporting.proofs.push_pc.Reads as reads
-use Rattle.reporting.proofs.push_pc.Lts as lts
-use Rattle.reporting.proofs.push.Reads as push-reads
-use Rattle.reporting.proofs.push_hex.Reads as push-hex-reads
-use Rattle.word.proofs.pc.Reads as pc-reads
 
--- src/lib.rt:102:36
 push-requires : tie.Need-push-requires
 push-requires c κs = search needs
 
--- src/lib.rt:102:31
 push-requires-2 : tie.Need-push-requires-2
 push-requires-2 c κs = search needs
 
--- src/lib.rt:102:26
 push-requires-3 : tie.Need-push-requires-3
 push-requires-3 c κs = search needs
 
--- src/lib.rt:102:21
 push-requires-4 : tie.Need-push-requires-4
 push-requires-4 c κs = search needs
 
--- src/lib.rt:102:9
 push-requires-5 : tie.Need-push-requires-5
 push-requires-5 c κs = search needs
 
--- src/lib.rt:102:9
 returns : tie.Need-returns
 unfolding pcText
 returns c = simp (c .push5 .ensures, c .before .push4 .ensures, c .before .before .push3 .ensures, c .before .before .before .push2 .ensures, c .before .before .before .before .push .ensures, appended-twice, eq-eqb _ _ (c .before .before .before .before .before .if1 .taken))
 
--- src/lib.rt:104:20
 pc-requires : tie.Need-pc-requires
 pc-requires c κs = search needs
 
--- src/lib.rt:104:20
 cast-push-hex : tie.Need-cast-push-hex
 cast-push-hex c = search needs
 
--- src/lib.rt:104:5
 push-hex-requires : tie.Need-push-hex-requires
 push-hex-requires c κs = search needs
 
--- src/lib.rt:98:1
 returns-2 : tie.Need-returns-2
 unfolding pcText
 returns-2 c = simp (c .push-hex .ensures, c .before .pc .ensures, ne-eqb _ _ (c .before .before .if1 .left))

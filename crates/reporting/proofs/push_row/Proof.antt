@@ -1,64 +1,46 @@
 use mathlib.Core.Path.{_≡_}
-use lib.ListN.{length, length-map}
-use Rattle.reporting.specs.Laws.Lengths.{length-row}
 use mathlib.Core.List.{append-assoc}
-use Rattle.report.specs.Report.{rowLine}
-use Rattle.reporting.specs.Laws.Texts.{appended-twice}
 use borrow.Author.Needs.{needs}
+use lib.ListN.{length, length-map}
+use Rattle.report.specs.Report.{rowLine}
+use Rattle.reporting.specs.Laws.Lengths.{length-row}
+use Rattle.reporting.specs.Laws.Texts.{appended-twice}
 use Rattle.reporting.proofs.push_row.Statement.{statement}
 use Rattle.reporting.proofs.push_row.Tie as tie
-use Rattle.reporting.proofs.push_row.Reads as reads
-use Rattle.reporting.proofs.push_row.Lts as lts
-use Rattle.reporting.proofs.live.Reads as live-reads
-use Rattle.reporting.proofs.push.Reads as push-reads
-use Rattle.reporting.proofs.push_decimal.Reads as push-decimal-reads
-use Rattle.reporting.proofs.push_kind.Reads as push-kind-reads
-use Rattle.reporting.proofs.push_pc.Reads as push-pc-reads
 
--- src/lib.rt:121:32
 cast-push-decimal : tie.Need-cast-push-decimal
 cast-push-decimal c = search needs
 
--- src/lib.rt:121:9
 push-decimal-requires : tie.Need-push-decimal-requires
 push-decimal-requires c κs = search needs
 
--- src/lib.rt:122:34
 push-requires : tie.Need-push-requires
 push-requires c κs = search needs
 
--- src/lib.rt:122:52
 live-requires : tie.Need-live-requires
 live-requires c κs = search needs
 
--- src/lib.rt:122:9
 push-decimal-requires-2 : tie.Need-push-decimal-requires-2
 push-decimal-requires-2 c κs = search needs
 
--- src/lib.rt:123:26
 push-requires-2 : tie.Need-push-requires-2
 push-requires-2 c κs = search needs
 
--- src/lib.rt:123:9
 push-kind-requires : tie.Need-push-kind-requires
 push-kind-requires c κs = search needs
 
--- src/lib.rt:124:22
 push-requires-3 : tie.Need-push-requires-3
 push-requires-3 c κs = search needs
 
--- src/lib.rt:124:9
 push-pc-requires : tie.Need-push-pc-requires
 push-pc-requires c κs = search needs
 
--- src/lib.rt:125:5
 push-requires-4 : tie.Need-push-requires-4
 push-requires-4 c κs = search needs
 
--- src/lib.rt:118:1
 returns : tie.Need-returns
 unfolding rowLine
-returns c = 
+returns c =
     let a = c .before .before .before .before .before .before .before .before .before .before .args in
     let g = c .before .before .before .before .before .before .before .before .before .struct-known .given in let q : length (a .table .queues) ≡ 7 = simp length-map at (c .before .before .before .before .before .before .before .before .before .before .good .1 .0 .1 .1 .1 .0 .1 .0 .1) in
     (length-row (a .table) (a .row) q (g .0 .fits), simp (c .push4 .ensures, c .before .push-pc .ensures, c .before .before .push3 .ensures, c .before .before .before .push-kind .ensures, c .before .before .before .before .push2 .ensures, c .before .before .before .before .before .push-decimal2 .ensures, c .before .before .before .before .before .before .live .ensures, c .before .before .before .before .before .before .before .push .ensures, c .before .before .before .before .before .before .before .before .push-decimal .ensures, appended-twice, append-assoc))

@@ -1,42 +1,30 @@
 use mathlib.Core.List.{_∷_}
+use borrow.Author.Needs.{needs}
 use Rattle.report.specs.Report.{refusalLine, decimal, newline}
 use Rattle.refusal.specs.Numbers.{numberOf}
 use Rattle.reporting.specs.Laws.Texts.{appended-both}
 use Rattle.reporting.specs.Laws.Lengths.{length-refusal}
-use borrow.Author.Needs.{needs}
 use Rattle.reporting.proofs.refusal_text.Statement.{statement}
 use Rattle.reporting.proofs.refusal_text.Tie as tie
-use Rattle.reporting.proofs.refusal_text.Reads as reads
-use Rattle.reporting.proofs.refusal_text.Lts as lts
-use Rattle.reporting.proofs.empty.Reads as empty-reads
-use Rattle.reporting.proofs.number.Reads as number-reads
-use Rattle.reporting.proofs.push.Reads as push-reads
-use Rattle.reporting.proofs.push_count.Reads as push-count-reads
 
--- src/lib.rt:188:21
 empty-requires : tie.Need-empty-requires
 empty-requires c κs = search needs
 
--- src/lib.rt:188:36
 number-requires : tie.Need-number-requires
 number-requires c κs = search needs
 
--- src/lib.rt:188:36
 cast-push-count : tie.Need-cast-push-count
 cast-push-count c = search needs
 
--- src/lib.rt:188:10
 push-count-requires : tie.Need-push-count-requires
 push-count-requires c κs = search needs
 
--- src/lib.rt:188:5
 push-requires : tie.Need-push-requires
 push-requires c κs = search needs
 
--- src/lib.rt:185:1
 returns : tie.Need-returns
 unfolding refusalLine
-returns c = 
+returns c =
     let n = numberOf (c .before .before .before .before .args .e) in
     simp (c .push .ensures, c .before .push-count .ensures, c .before .before .number .ensures, c .before .before .before .empty .ensures)
     (appended-both (82 ∷ decimal n) newline (length-refusal n))

@@ -4,16 +4,12 @@ use lib.ListN.{length}
 use Rattle.reporting.specs.Laws.Texts.{length-shown-within, length-shown-full}
 use Rattle.reporting.proofs.text_len.Statement.{statement}
 use Rattle.reporting.proofs.text_len.Tie as tie
-use Rattle.reporting.proofs.text_len.Reads as reads
-use Rattle.reporting.proofs.text_len.Lts as lts
 
--- src/lib.rt:182:1
 returns : tie.Need-returns
 returns c =
     let h : length (c .before .before .args .t .bytes) ≡ 512 = search needs in
     sym (length-shown-within (c .before .before .args .t) h (c .if1 .taken))
 
--- src/lib.rt:182:1
 returns-2 : tie.Need-returns-2
 returns-2 c =
     let h : length (c .before .before .args .t .bytes) ≡ 512 = search needs in

@@ -2,12 +2,11 @@
 use Prim.Native.Nat.{ℕ, zero, suc, _+_, _-_, _/_, _%_, _≤_, _<_}
 use mathlib.Core.Path.{_≡_, refl}
 use mathlib.Core.Logic.{_≢_}
-use mathlib.Core.List.{List, [], _∷_, _++_}
+use mathlib.Core.List.{[], _∷_, _++_}
 use native.Mathlib.Numerals.{sub-one}
 use native.Mathlib.Nat.{mod-eq-of-lt}
 use borrow.Author.Tests.{lt-ltb, le-ltb}
 use Rattle.report.specs.Report.{decimalBy, hex, hexDigit}
-
 
 pub decimal-lowest : (k n : ℕ) → k ≢ 0 → n < 10 → decimalBy k n ≡ (48 + n % 10) ∷ []
 unfolding decimalBy

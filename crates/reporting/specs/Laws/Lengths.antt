@@ -14,8 +14,8 @@ use Rattle.step.specs.Queues.{listOf}
 use Rattle.step.specs.State.{noQueue, queueIn, pswsOf, processesOf}
 use Rattle.step.specs.Laws.Queues.{length-list}
 use Rattle.run.specs.declared.Counts.{Counts}
-use Rattle.reporting.specs.Texts.{longestRow, longestCounts}
 use Rattle.report.specs.Report.{decimalBy, decimal, hexDigit, hex, kindText, pcText, rowLine, countsLine, newline}
+use Rattle.reporting.specs.Texts.{longestRow, longestCounts}
 
 -- the live processes of a task are as many as its queue says
 pub length-processes : (table : ProcessTable) (task : ℕ) → length (processesOf table task) ≡ getD (table .queues) (task - 1) noQueue .len
