@@ -149,14 +149,15 @@ fn push_count(t: Text, letter: u8, n: u64) -> Text
 fn push_counts(t: Text, counts: Counts, flag: u8) -> Text
     ensures { λ r. ⌜ shown r ≡ appended (shown t) (countsLine counts flag) ⌝ }
 {
-    let e = push_count(t, b'E', counts.executed);
-    let w = push_count(push(e, b' '), b'W', counts.waved);
-    let t = push_count(push(w, b' '), b'T', counts.trapped);
-    let i = push_count(push(t, b' '), b'I', counts.idle);
-    let c = push(push(i, b' '), b'C');
-    push(push_count(c, b'F', flag as u64), b'\n')
+    let executed = push_count(t, b'E', counts.executed);
+    let waved = push_count(push(executed, b' '), b'W', counts.waved);
+    let trapped = push_count(push(waved, b' '), b'T', counts.trapped);
+    let idle = push_count(push(trapped, b' '), b'I', counts.idle);
+    let fault = push(push(idle, b' '), b'C');
+    push(push_count(fault, b'F', flag as u64), b'\n')
 }
 
+// A line for each of the first n rows, and the line of the counts.
 pub fn report_text(rows: [Row; 7], n: usize, table: ProcessTable, counts: Counts) -> Text
     ensures text { λ r. ⌜ shown r ≡ rowLines table (take n rows) ++ countsLine counts (table .flag) ⌝ }
     ensures bound { λ r. ⌜ length (shown r) ≤ longestReport ⌝ }
@@ -168,7 +169,6 @@ fn number(e: Refusal) -> u8
     ensures { λ r. ⌜ r ≡ numberOf e ⌝ }
 {
     match e {
-        Refusal::InputTooLong => 11,
         Refusal::InputEnds => 1,
         Refusal::CountOverLimit => 2,
         Refusal::TaskField => 3,
@@ -181,9 +181,11 @@ fn number(e: Refusal) -> u8
         Refusal::UnsoundState => 8,
         Refusal::ListTooLong => 9,
         Refusal::ItemOutOfRange => 10,
+        Refusal::InputTooLong => 11,
     }
 }
 
+// The one line of a refusal.
 pub fn refusal_text(e: Refusal) -> Text
     ensures { λ r. ⌜ shown r ≡ refusalLine e ⌝ }
 {
