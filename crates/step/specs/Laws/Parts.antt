@@ -3,9 +3,10 @@ use mathlib.Core.Path.{_≡_, refl, sym, ap, ap₂, _∙_, subst}
 use mathlib.Core.Logic.{_≢_}
 use mathlib.Core.Bool.{Bool, true, false, cond, true≢false}
 use mathlib.Core.Option.{Option, none, some}
-use mathlib.Core.List.{List}
-use Prim.Native.Nat.{ℕ, _-_}
-use lib.ListN.{getD, set}
+use mathlib.Core.List.{List, []}
+use Prim.Native.Nat.{ℕ, _-_, _≤_}
+use lib.Dec.{eqb}
+use lib.ListN.{length, getD, set, List·getD-eq-default}
 use lib.Seq.{set-getD}
 use borrow.Author.Tests.{lt-ltb, leb-false, eq-eqb, ne-eqb}
 use Rattle.window.specs.declared.Row.{Row}
@@ -33,6 +34,7 @@ use Rattle.step.specs.Step.{noTrap, headDecides, rowDecides, acted, step
 use Rattle.step.specs.Parts.{decidedAs, hasRoom, fateCreates, creates, fateResult, decisionResult, resultOf, fatePsws, decisionPsws, pswsAfter, registersWritten, dataWritten, movedQueue, moves, raised, rowAfter, traps, Acts}
 use Rattle.step.specs.Laws.Occurrences.{Heads}
 use Rattle.step.specs.Laws.Queues.{heads}
+use Rattle.step.specs.Laws.Step.{none-live}
 use Rattle.step.specs.Laws.Rows.{put-same, find-task}
 
 -- the task's own queue for its queue
@@ -191,3 +193,18 @@ unfolding steppedBy
 step-made t s r r′ d x psw m n queues flag p a b c =
     let e : t ≡ r .task = sym (find-task t (s .rows) r (p .row)) in
     step-parts t s r d x psw m n p ∙ rw (a, b, c, e)
+
+-- a task that has no queue is idle
+no-processes : (table : ProcessTable) (t : ℕ) → length (table .queues) ≤ t - 1 → processesOf table t ≡ []
+unfolding processesOf queueIn
+no-processes table t h =
+    ap (λ (q : Queue). pswsOf (table .psw) (listOf q)) (List·getD-eq-default (table .queues) noQueue {n = t - 1} h) ∙ none-live noQueue (table .psw) refl
+
+pub no-queue-idle : (t : ℕ) (s : State) (r : Row) → findRow t (s .rows) ≡ some r → length (s .table .queues) ≤ t - 1
+    → step t s ≡ after s (putRow t r (s .rows)) (s .table) (s .registers) (s .dataWords) ending.Idle
+unfolding step stepBy stepRow rowDecides acted headDecides
+no-queue-idle t s r e h = rw (e, no-processes (s .table) t h, put-same t (s .rows) r e) (go (eqb (r .kind) noTrap))
+  where
+    go : (b : Bool) → acted decide s r (cond b (headDecides decide s r []) none) ≡ after s (s .rows) (s .table) (s .registers) (s .dataWords) ending.Idle
+    go true = refl
+    go false = refl
