@@ -233,15 +233,18 @@ fn cell_tags_ok(s: &[u8], at: usize, n: usize, register: bool) -> bool
     good
 }
 
-// The number of w bytes at the place of the next field; 0 where the check was refused.
-pub fn value(s: &[u8], c: Scan, w: usize) -> u64
-    ensures { λ r. ⌜ r ≡ valueAt w (now (s .entry)) c ⌝ }
+// The number of w bytes that stands k bytes behind the place of the next field; 0 where the check was refused.
+pub fn value(s: &[u8], c: Scan, k: usize, w: usize) -> u64
+    ensures { λ r. ⌜ r ≡ valueAt k w (now (s .entry)) c ⌝ }
     ensures below { λ r. ⌜ r < 256 ^ w ⌝ }
 {
-    match c {
-        Scan::Refused(_) => 0,
-        Scan::At(p) => number_at(s, p, w),
+    let Scan::At(p) = c else {
+        return 0;
+    };
+    if left_from(s, p) < k {
+        return 0;
     }
+    number_at(s, p + k, w)
 }
 
 // A number of w bytes, which is good or refused by e.

@@ -26,6 +26,10 @@ pub record Reads {A : Type 0} (read : List ℕ → Result A) (value : List ℕ �
 pub record Spans {A : Type 0} (c : Codec A) (value : List ℕ → A) (size : List ℕ → ℕ) : Type 0 where
   pub reads : Reads (c .dec) value size
 
+-- the same value, said otherwise
+pub spans-as : {A : Type 0} {c : Codec A} {v : List ℕ → A} {k : List ℕ → ℕ} {u : List ℕ → A} → Spans c v k → ((b : List ℕ) → v b ≡ u b) → Spans c u k
+spans-as sc e = record { reads = record { is = λ b a r h. sc .reads .is b a r h ∙ e b; rest = sc .reads .rest; there = sc .reads .there } }
+
 -- ---- numbers
 
 record Number (w : ℕ) (b : List ℕ) (a : ℕ) (r : List ℕ) : Type 0 where
