@@ -1,6 +1,6 @@
 -- Records of many fields: each check goes on where the one before it stopped.
-use Prim.Native.Nat.{ℕ, _+_, _^_, _≤_}
-use mathlib.Core.Path.{_≡_, refl, sym, ap, _∙_}
+use Prim.Native.Nat.{ℕ, _^_}
+use mathlib.Core.Path.{_≡_, sym, _∙_}
 use mathlib.Core.Bool.{Bool}
 use mathlib.Core.List.{List}
 use native.Mathlib.Omega.{arith}
@@ -8,15 +8,13 @@ use native.Mathlib.Nat.{add-zero}
 use lib.ListN.{drop}
 use lib.Seq.{drop-drop}
 use lib.Dec.{ltb}
-use Rattle.window.specs.declared.Row.{Row}
 use Rattle.window.specs.Sound.{bits, tagSound, stateSound}
 use Rattle.step.specs.Soundness.{taskSound}
-use Rattle.refusal.specs.declared.Refusal.{Refusal}
 use Rattle.refusal.specs.declared.Refusal.the-variants.{TaskField}
-use Rattle.image.specs.Codec.{Codec, field, num}
+use Rattle.image.specs.Codec.{field, num}
 use Rattle.image.specs.Image.{rowCodec, toRow, fromRow, rowTask, tasksCodec, processTask, processesCodec, wordsCodec, cellsCodec, imageCodec, toImage, fromImage}
 use Rattle.image_words.specs.declared.Scan.{Scan}
-use Rattle.image_words.specs.declared.Scan.the-variants.{Refused, At}
+use Rattle.image_words.specs.declared.Scan.the-variants.{At}
 use Rattle.image_words.specs.Reading.{fieldAt, numberAt}
 use Rattle.image_words.specs.Scanning.{scan, valueAt}
 use Rattle.image_words.specs.Laws.Spans.{num-spans}

@@ -2,7 +2,7 @@
 use Prim.Native.Nat.{ℕ, _+_, _-_, _*_, _≤_, _<_}
 use mathlib.Core.Path.{_≡_, refl, sym, ap, ap₂, _∙_}
 use mathlib.Core.Bool.{Bool, true, false, cond, not, _&&_}
-use mathlib.Core.List.{List, [], _∷_, map}
+use mathlib.Core.List.{List, []}
 use native.Mathlib.Omega.{arith}
 use lib.ListN.{length, drop, drop-of-length-le}
 use lib.Seq.{drop-cons}
@@ -10,8 +10,7 @@ use Rattle.refusal.specs.declared.Refusal.{Refusal}
 use Rattle.refusal.specs.declared.Refusal.the-variants.{BytesLeftOver, WindowPastMemory, ProcessesClash}
 use Rattle.step.specs.Soundness.{windowsSound, distinct, roomSound}
 use Rattle.image.specs.Codec.{Result, refused, accepted}
-use Rattle.image.specs.Image.{Image, Decoded, bad, good, ptOf, imageCodec, afterSections, decode}
-use Rattle.image_words.specs.declared.Scan.{Scan}
+use Rattle.image.specs.Image.{Image, bad, good, imageCodec, afterSections, decode}
 use Rattle.image_words.specs.declared.Scan.the-variants.{Refused as Stopped, At}
 use Rattle.image_words.specs.Reading.{fieldAt, cellsAt, wordsAt}
 use Rattle.image_words.specs.Scanning.{scanned, scan}
@@ -20,7 +19,7 @@ use Rattle.image_words.specs.Laws.Scans.{drop-back}
 use Rattle.image_check.specs.declared.Counted.{Counted}
 use Rattle.image_check.specs.declared.Checked.{Checked}
 use Rattle.image_check.specs.declared.Checked.the-variants.{Refused, Sound}
-use Rattle.image_check.specs.Checked.{rowsAt, processAt, processesAt, ptsAt, processesPlace, endPlace, countsIn, imageAt, countsOf, checkedOf}
+use Rattle.image_check.specs.Checked.{rowsAt, processAt, processesAt, ptsAt, processesPlace, endPlace, countsIn, imageAt, checkedOf}
 use Rattle.image_check.specs.Laws.Sections.{image-placed, counts-image}
 
 -- ---- after the last section

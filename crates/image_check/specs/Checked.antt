@@ -6,7 +6,6 @@ use lib.ListN.{length}
 use Rattle.window.specs.declared.Row.{Row}
 use Rattle.window.specs.Windows.{registerWindow, programWindow, dataWordWindow}
 use Rattle.step.specs.Soundness.{kindSound, recordSound, endsIn}
-use Rattle.refusal.specs.declared.Refusal.{Refusal}
 use Rattle.refusal.specs.declared.Refusal.the-variants.{TaskField}
 use Rattle.image.specs.declared.Process.{Process}
 use Rattle.image.specs.Codec.{Codec, num, seq}

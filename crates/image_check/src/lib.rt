@@ -1,12 +1,12 @@
 // The check of a whole image: one pass over its bytes, writing nothing.
 ghost use mathlib.Core.Path.{_≡_};
 ghost use mathlib.Core.Bool.{not, _&&_};
-ghost use Prim.Native.Nat.{_+_, _-_, _*_, _^_, _≤_, _<_};
+ghost use Prim.Native.Nat.{_+_, _-_, _*_, _≤_, _<_};
 ghost use lib.Dec.{ltb, leb, eqb};
-ghost use lib.ListN.{length, drop};
+ghost use lib.ListN.{drop};
 ghost use Rattle.step.specs.Queues.{occ};
 ghost use Rattle.step.specs.Soundness.{taskSound, kindSound, recordSound, hasRow, endsIn, windowsSound, distinct, roomSound};
-ghost use Rattle.image.specs.Codec.{Codec, num, seq, decMany, accepted};
+ghost use Rattle.image.specs.Codec.{num, decMany, accepted};
 ghost use Rattle.image.specs.Image.{rowCodec, rowTask, tasksCodec, processCodec, processTask, processesCodec, wordsCodec, cellsCodec, afterSections, decode};
 ghost use Rattle.image_words.specs.Reading.{fieldAt};
 ghost use Rattle.image_words.specs.Scanning.{scan, Within, tagTest};

@@ -2,10 +2,10 @@
 ghost use mathlib.Core.Path.{_≡_};
 ghost use mathlib.Core.Bool.{_&&_};
 ghost use Prim.Native.Nat.{_+_, _-_, _*_, _^_, _≤_, _<_};
-ghost use lib.ListN.{length, drop};
+ghost use lib.ListN.{length};
 ghost use Rattle.window.specs.Memories.{memory};
 ghost use Rattle.step.specs.Soundness.{every};
-ghost use Rattle.image.specs.Codec.{Codec, num, digits, decMany, noState};
+ghost use Rattle.image.specs.Codec.{num, digits, decMany, noState};
 ghost use Rattle.image.specs.Image.{wordCodec, cellCodec};
 ghost use Rattle.image_words.specs.Reading.{fieldAt, numberAt, tagsAt, filledWords, filledCells};
 ghost use Rattle.image_words.specs.Writing.{laid, putAt, wordBytes, putCells};

@@ -1,5 +1,5 @@
 -- `image_check::check` meets its contract: the sections one after the other, and then the tests behind them.
-use mathlib.Core.Path.{_≡_, _∙_}
+use mathlib.Core.Path.{_∙_}
 use Rattle.image_words.specs.Reading.{numberAt}
 use Rattle.image_words.specs.Scanning.{tagTest}
 use Rattle.image_check.proofs.Chains.{image-scan}

@@ -1,5 +1,5 @@
 -- `image_check::check_end` meets its contract: each test by one law of the sections that were read.
-use mathlib.Core.Path.{_≡_, sym, _∙_}
+use mathlib.Core.Path.{sym, _∙_}
 use borrow.Author.Tests.{not-true, not-false}
 use Rattle.image_check.specs.Checked.{countsIn}
 use Rattle.image_check.proofs.Ends.{left-over, window-past, processes-clash, all-sound}

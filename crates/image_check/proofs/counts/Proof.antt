@@ -1,5 +1,4 @@
 -- `image_check::counts` meets its contract: each count stands where the sections before it end.
-use mathlib.Core.Path.{_≡_}
 use Rattle.image_words.specs.Reading.{numberAt}
 use Rattle.image_check.specs.Checked.{countsIn}
 use borrow.Author.Needs.{needs}

@@ -1,5 +1,5 @@
 -- `image_check::task_sound` meets its contract.
-use borrow.Author.Tests.{lt-ltb, le-ltb, le-leb, lt-leb}
+use borrow.Author.Tests.{lt-ltb, le-ltb}
 use Rattle.step.specs.Soundness.{taskSound}
 use Rattle.image_check.proofs.task_sound.Statement.{statement}
 use Rattle.image_check.proofs.task_sound.Tie as tie

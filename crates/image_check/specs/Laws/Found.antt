@@ -1,15 +1,13 @@
 -- Where a check finds an image sound, what the image is, and that all its bytes are there: what a reader needs.
-use Prim.Native.Nat.{ℕ, _-_, _≤_}
-use mathlib.Core.Path.{_≡_, refl, sym, ap, _∙_, subst}
+use Prim.Native.Nat.{ℕ, _-_}
+use mathlib.Core.Path.{_≡_, refl, sym, ap, _∙_}
 use mathlib.Core.List.{List, []}
 use native.Mathlib.Omega.{arith}
-use lib.ListN.{length, drop, length-drop}
-use Rattle.image.specs.Codec.{accepted}
-use Rattle.image.specs.Image.{Image, Decoded, bad, good, imageCodec, afterSections, decode}
+use lib.ListN.{length, length-drop}
+use Rattle.image.specs.Image.{Image, Decoded, bad, good, imageCodec, decode}
 use Rattle.image.specs.Laws.Accepted.{after-good}
-use Rattle.image_words.specs.Laws.Placed.{Placed}
 use Rattle.image_check.specs.declared.Counted.{Counted}
-use Rattle.image_check.specs.declared.Checked.the-variants.{Refused, Sound}
+use Rattle.image_check.specs.declared.Checked.the-variants.{Sound}
 use Rattle.image_check.specs.Checked.{endPlace, countsIn, imageAt, countsOf, checkedOf}
 use Rattle.image_check.specs.Laws.Sections.{image-placed, counts-image}
 

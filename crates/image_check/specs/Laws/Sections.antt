@@ -1,20 +1,20 @@
 -- The image of accepted bytes, section by section, at its place.
-use Prim.Native.Nat.{ℕ, _+_, _*_, _^_, _≤_}
-use mathlib.Core.Path.{_≡_, refl, sym, ap, ap₂, _∙_}
+use Prim.Native.Nat.{ℕ, _+_, _*_, _^_}
+use mathlib.Core.Path.{_≡_, refl, ap, ap₂}
 use mathlib.Core.Bool.{Bool}
 use mathlib.Core.List.{List}
-use native.Mathlib.Nat.{add-zero, zero-add}
+use native.Mathlib.Nat.{add-zero}
 use native.Mathlib.Omega.{arith}
-use lib.ListN.{length, drop}
+use lib.ListN.{drop}
 use lib.Seq.{drop-drop}
 use Rattle.word.specs.Fields.{pswSound}
 use Rattle.window.specs.declared.Row.{Row}
 use Rattle.window.specs.Sound.{bits, tagSound, stateSound}
 use Rattle.step.specs.Soundness.{taskSound, kindSound, recordSound, ptSound, flagSound}
 use Rattle.refusal.specs.declared.Refusal.the-variants.{TaskField, ProcessField}
-use Rattle.image.specs.Codec.{Codec, field, uniformSection, noState}
+use Rattle.image.specs.Codec.{field, uniformSection, noState}
 use Rattle.image.specs.Image.{rowCodec, toRow, fromRow, rowTask, tasksCodec, processCodec, toProcess, fromProcess, processTask, processesCodec}
-use Rattle.image.specs.Image.{wordCodec, wordsCodec, cellCodec, cellsCodec, imageCodec, toImage, fromImage}
+use Rattle.image.specs.Image.{wordsCodec, cellsCodec, imageCodec, toImage, fromImage}
 use Rattle.image_words.specs.Reading.{fieldAt, listed, wordsAt, cellAt, cellsAt}
 use Rattle.image_words.specs.Laws.Listed.{length-listed, listed-at}
 use Rattle.image_words.specs.Laws.Spans.{Spans, spans-as, num-spans, seq-spans, via-spans, section-spans, listSection-spans}

@@ -1,6 +1,6 @@
 -- `image_words::value` meets its contract: past the end a number is 0.
 use Prim.Native.Nat.{_+_}
-use mathlib.Core.Path.{_≡_, sym}
+use mathlib.Core.Path.{sym}
 use Rattle.image_words.specs.Scanning.{valueAt}
 use Rattle.image_words.specs.Laws.Fields.{number-past}
 use Rattle.image_words.proofs.Bytewise.{below}

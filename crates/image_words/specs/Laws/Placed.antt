@@ -5,7 +5,7 @@ use mathlib.Core.List.{List}
 use native.Mathlib.Omega.{arith}
 use lib.ListN.{length, drop, length-drop}
 use lib.Seq.{drop-drop}
-use Rattle.image.specs.Codec.{Codec, accepted, bind, seq, via}
+use Rattle.image.specs.Codec.{Codec, accepted, seq, via}
 use Rattle.image.specs.Laws.Codec.{bind-elim}
 use Rattle.image_words.specs.Laws.Spans.{Spans}
 

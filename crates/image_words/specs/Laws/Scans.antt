@@ -1,7 +1,7 @@
 -- A check that goes on: the format of two parts is checked by the first part, and then by the second.
-use Prim.Native.Nat.{ℕ, zero, suc, _+_, _-_, _*_, _≤_, _<_}
+use Prim.Native.Nat.{ℕ, zero, suc, _+_, _-_, _≤_, _<_}
 use mathlib.Core.Path.{_≡_, refl, sym, ap, _∙_}
-use mathlib.Core.Bool.{Bool, true, false, cond}
+use mathlib.Core.Bool.{Bool}
 use mathlib.Core.List.{List, [], _∷_}
 use native.Mathlib.Nat.{add-zero}
 use native.Mathlib.Omega.{arith}
@@ -10,11 +10,11 @@ use lib.Seq.{drop-drop}
 use lib.Dec.{leb}
 use borrow.Author.Tests.{le-leb}
 use Rattle.refusal.specs.declared.Refusal.{Refusal}
-use Rattle.refusal.specs.declared.Refusal.the-variants.{InputEnds, CountOverLimit}
-use Rattle.image.specs.Codec.{Result, refused, accepted, bind, field, Codec, num, count, seq, via, decMany, section, noHeader, listSection, noState, uniformSection}
+use Rattle.refusal.specs.declared.Refusal.the-variants.{CountOverLimit}
+use Rattle.image.specs.Codec.{Result, refused, accepted, bind, Codec, num, count, seq, via, decMany, section, noHeader, listSection}
 use Rattle.image_words.specs.declared.Scan.{Scan}
 use Rattle.image_words.specs.declared.Scan.the-variants.{Refused, At}
-use Rattle.image_words.specs.Reading.{fieldAt, numberAt}
+use Rattle.image_words.specs.Reading.{numberAt}
 use Rattle.image_words.specs.Scanning.{scanned, scan, Within, valueAt}
 use Rattle.image_words.specs.Laws.Spans.{Reads, Spans, num-spans, noHeader-spans}
 

@@ -11,7 +11,7 @@ use lib.Dec.{ltb}
 use borrow.Author.Tests.{ltb-false}
 use Rattle.refusal.specs.declared.Refusal.{Refusal}
 use Rattle.refusal.specs.declared.Refusal.the-variants.{InputEnds, CountOverLimit}
-use Rattle.image.specs.Codec.{Result, refused, accepted, bind, field, Codec, num, count, seq, via, decMany, section, noHeader, listSection, noState, uniformSection}
+use Rattle.image.specs.Codec.{Result, refused, accepted, bind, field, Codec, num, count, seq, via, decMany, section, noHeader, listSection}
 use Rattle.image.specs.Laws.Codec.{bind-elim}
 use Rattle.image_words.specs.Reading.{listed}
 use Rattle.image_words.specs.Laws.Listed.{shifted}
