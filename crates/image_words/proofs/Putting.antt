@@ -1,20 +1,20 @@
 -- Bytes laid over others, and the loops that write: their invariants, and a turn of each.
-use Prim.Native.Nat.{ℕ, zero, suc, _+_, _-_, _*_, _/_, _%_, _≤_, _<_}
+use Prim.Native.Nat.{ℕ, suc, _+_, _-_, _*_, _/_, _%_, _≤_, _<_}
 use mathlib.Core.Path.{_≡_, refl, sym, ap, _∙_}
 use mathlib.Core.Bool.{true}
 use mathlib.Core.List.{List, [], _∷_, _++_, append-assoc}
-use native.Mathlib.Nat.{sub-zero, add-zero, mul-zero, mul-suc}
+use native.Mathlib.Nat.{sub-zero, add-zero, mul-suc}
 use native.Mathlib.Numerals.{add-one}
 use native.Mathlib.Omega.{arith}
-use lib.ListN.{length, take, drop, set, length-set, length-append, length-drop, take-append-drop, drop-of-length-le}
+use lib.ListN.{length, getD, take, drop, set, length-set, length-append, length-drop, take-append-drop, drop-of-length-le}
 use lib.Seq.{take-set-le, drop-set-lt, drop-cons, getD-set-same, drop-append-add, length-take-le, drop-drop, take-at}
 use borrow.Author.Tests.{le-leb, lt-leb, eq-eqb, ne-eqb}
 use Rattle.window.specs.Memories.{cell}
 use Rattle.image.specs.Codec.{Codec, digits, num, seq, via, encMany, noState}
-use Rattle.image.specs.Image.{wordCodec, cellCodec}
+use Rattle.image.specs.Image.{wordCodec, cellCodec, cellsOf}
 use Rattle.image.specs.Laws.Numbers.{length-digits}
 use Rattle.image_words.specs.Writing.{laid, putAt, cellBytes, putCells}
-use Rattle.image_words.specs.Laws.Bytes.{uniform-length}
+use Rattle.image_words.specs.Laws.Bytes.{uniform-length, cell-length, cells-length, cells-cons, cell-bytes-length}
 
 -- ---- where they fit, and where not
 
@@ -117,19 +117,48 @@ module _ {A : Type 0} (c : Codec A) (size : ℕ) (long : (a : A) → length (c .
         let n : at + length (encMany (λ _. c) noState tt xs) ≤ length l₀ = rw (uniform-length c size long xs) fit in
         sym (laid-nil p l) ∙ rw d at (z .all) ∙ put-fits at (encMany (λ _. c) noState tt xs) l₀ n
 
--- ---- cells: of one length, and each in two parts
+-- ---- cells, each in two parts
 
-pub cell-laid : (at t w : ℕ) (l : List ℕ) {x : ℕ} {l₁ l₂ : List ℕ} → at + 9 ≤ length l → x ≡ t → l₁ ≡ laid at (digits 1 x) l → l₂ ≡ laid (at + 1) (digits 8 w) l₁
+cell-laid : (at t w : ℕ) (l : List ℕ) {x : ℕ} {l₁ l₂ : List ℕ} → at + 9 ≤ length l → x ≡ t → l₁ ≡ laid at (digits 1 x) l → l₂ ≡ laid (at + 1) (digits 8 w) l₁
     → l₂ ≡ laid at (cellCodec (λ _. true) .enc (cell t w)) l
 unfolding cellCodec via seq wordCodec num
 cell-laid at t w l h ex e1 e2 =
     let o = laid-append at (digits 1 t) (digits 8 w) l (rw length-digits (omega arith)) in
     rw (e2, e1, ex) (rw length-digits at o)
 
-pub cells-unpaired : (at : ℕ) (tags words l : List ℕ) → (length tags ≡ length words → ⊥) → l ≡ putCells at tags words l
-unfolding putCells
-cells-unpaired at tags words l h = rw (ne-eqb (length tags) (length words) h)
+abbrev pub PuttingCells : (at : ℕ) (tags words l₀ l : List ℕ) (p i : ℕ) → Type 0
+PuttingCells at tags words l₀ l p i = Putting (cellCodec (λ _. true)) 9 (cell-length (λ _. true)) at (cellsOf tags words) l₀ l p i
 
-pub cells-paired : (at : ℕ) (tags words l : List ℕ) {l₁ : List ℕ} → length tags ≡ length words → l₁ ≡ putAt at (cellBytes tags words) l → l₁ ≡ putCells at tags words l
-unfolding putCells
-cells-paired at tags words l e h = rw (eq-eqb (length tags) (length words) e) h
+module _ (at : ℕ) (tags words l₀ : List ℕ) where
+  pub cells-unpaired : (length tags ≡ length words → ⊥) → l₀ ≡ putCells at tags words l₀
+  unfolding putCells
+  cells-unpaired h = rw (ne-eqb (length tags) (length words) h)
+
+  module _ (same : length tags ≡ length words) where
+    paired : {l : List ℕ} → l ≡ putAt at (cellBytes tags words) l₀ → l ≡ putCells at tags words l₀
+    unfolding putCells
+    paired h = rw (eq-eqb (length tags) (length words) same) h
+
+    many : length (cellsOf tags words) ≡ length words
+    many = cells-length tags words same
+
+    pub cells-not : length l₀ < at + 9 * length words → l₀ ≡ putCells at tags words l₀
+    cells-not h = paired (put-not at (cellBytes tags words) l₀ (rw (cell-bytes-length tags words same) h))
+
+    module _ (fit : at + 9 * length words ≤ length l₀) where
+      pub cells-start : PuttingCells at tags words l₀ l₀ at 0
+      cells-start = start (cellCodec (λ _. true)) 9 (cell-length (λ _. true)) at (cellsOf tags words) l₀ (rw many fit)
+
+      module _ {l : List ℕ} {p i : ℕ} (z : PuttingCells at tags words l₀ l p i) where
+        pub cells-fit : i < length words → p + 9 ≤ length l₀
+        cells-fit h = fits (cellCodec (λ _. true)) 9 (cell-length (λ _. true)) at (cellsOf tags words) l₀ z (rw many h)
+
+        pub cells-step : {x : ℕ} {l₁ l₂ : List ℕ} → i < length words → x ≡ getD tags i 0 → l₁ ≡ laid p (digits 1 x) l
+            → l₂ ≡ laid (p + 1) (digits 8 (getD words i 0)) l₁ → PuttingCells at tags words l₀ l₂ (p + 9) (i + 1)
+        cells-step h ex e1 e2 =
+            step (cellCodec (λ _. true)) 9 (cell-length (λ _. true)) at (cellsOf tags words) l₀ z (rw many h) (cells-cons tags words i same h)
+            (cell-laid p (getD tags i 0) (getD words i 0) l (rw (z .same) (cells-fit h)) ex e1 e2)
+
+        pub cells-done : length words ≤ i → l ≡ putCells at tags words l₀
+        unfolding cellBytes
+        cells-done h = paired (done (cellCodec (λ _. true)) 9 (cell-length (λ _. true)) at (cellsOf tags words) l₀ z (rw many h) (rw many fit))

@@ -5,3 +5,4 @@ pub mod Spans
 pub mod Scans
 pub mod Cells
 pub mod Bytes
+pub mod Placed

@@ -1,5 +1,5 @@
 -- A check under way: what reading a format at a place tells of it.
-use Prim.Native.Nat.{ℕ, _-_, _≤_}
+use Prim.Native.Nat.{ℕ, _+_, _-_, _≤_}
 use mathlib.Core.Bool.{Bool, true, false}
 use mathlib.Core.List.{List}
 use lib.ListN.{length, drop}
@@ -24,10 +24,10 @@ unfoldable pub Within : (s : List ℕ) → Scan → Type 0
 Within s (Refused e) = Unit {0}
 Within s (At p) = p ≤ length s
 
--- the number of w bytes at the place of a check
-unfoldable pub valueAt : (w : ℕ) → (s : List ℕ) → Scan → ℕ
-valueAt w s (Refused e) = 0
-valueAt w s (At p) = numberAt w p s
+-- the number of w bytes that stands k bytes behind the place of a check
+unfoldable pub valueAt : (k w : ℕ) → (s : List ℕ) → Scan → ℕ
+valueAt k w s (Refused e) = 0
+valueAt k w s (At p) = numberAt w (p + k) s
 
 -- the tag of a register, or the state of a data word
 unfoldable pub tagTest : (register : Bool) → ℕ → Bool

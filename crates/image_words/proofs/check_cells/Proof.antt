@@ -1,11 +1,6 @@
 -- `image_words::check_cells` meets its contract: each return by one law of cells at a place.
-use Prim.Native.Nat.{_+_, _-_, _/_}
-use mathlib.Core.Path.{_≡_, sym, _∙_}
-use mathlib.Core.Bool.{true, false}
+use mathlib.Core.Path.{_∙_}
 use borrow.Author.Tests.{not-true, not-false}
-use lib.ListN.{length}
-use Rattle.step.specs.Soundness.{every}
-use Rattle.image_words.specs.Reading.{tagsAt}
 use Rattle.image_words.specs.Scanning.{tagTest}
 use Rattle.image_words.specs.Laws.Scans.{stays, at-place}
 use Rattle.image_words.specs.Laws.Cells.{cells-whole, cells-short}
@@ -36,17 +31,15 @@ returns-2 : tie.Need-returns-2
 returns-2 c =
     let a = c .before .before .before .before .before .before .before .before .args in
     let p = c .before .before .before .before .before .c .given .0 .0 in
-    let t : every (tagTest (a .register)) (tagsAt ((length (a .s .now) - p + 8) / 9) p (a .s .now)) ≡ false =
-    rw (c .before .before .before .left-from .ensures) at (sym (c .before .cell-tags-ok .ensures) ∙ not-true _ (c .if2 .taken)) in
-    at-place _ (a .s .now) (a .c) p (c .before .before .before .before .before .c .given .1) (cells-short (tagTest (a .register)) (a .s .now) (a .n) p (omega (arith, c .before .before .before .left-from .ensures, c .before .before .if1 .taken)) ∙ rw t)
+    at-place _ (a .s .now) (a .c) p (c .before .before .before .before .before .c .given .1)
+    (cells-short (tagTest (a .register)) (a .s .now) (a .n) p (c .before .before .before .left-from .ensures) (omega (arith, c .before .before .if1 .taken)) (c .before .cell-tags-ok .ensures) ∙ rw (not-true (c .before .cell-tags-ok .result) (c .if2 .taken)))
 
 returns-3 : tie.Need-returns-3
 returns-3 c =
     let a = c .before .before .before .before .before .before .before .before .args in
     let p = c .before .before .before .before .before .c .given .0 .0 in
-    let t : every (tagTest (a .register)) (tagsAt ((length (a .s .now) - p + 8) / 9) p (a .s .now)) ≡ true =
-    rw (c .before .before .before .left-from .ensures) at (sym (c .before .cell-tags-ok .ensures) ∙ not-false _ (c .if2 .left)) in
-    at-place _ (a .s .now) (a .c) p (c .before .before .before .before .before .c .given .1) (cells-short (tagTest (a .register)) (a .s .now) (a .n) p (omega (arith, c .before .before .before .left-from .ensures, c .before .before .if1 .taken)) ∙ rw t)
+    at-place _ (a .s .now) (a .c) p (c .before .before .before .before .before .c .given .1)
+    (cells-short (tagTest (a .register)) (a .s .now) (a .n) p (c .before .before .before .left-from .ensures) (omega (arith, c .before .before .if1 .taken)) (c .before .cell-tags-ok .ensures) ∙ rw (not-false (c .before .cell-tags-ok .result) (c .if2 .left)))
 
 cell-tags-ok-requires-2 : tie.Need-cell-tags-ok-requires-2
 cell-tags-ok-requires-2 c κs = search needs
@@ -55,8 +48,8 @@ returns-4 : tie.Need-returns-4
 returns-4 c =
     let a = c .before .before .before .before .before .before .before .before .args in
     let p = c .before .before .before .before .before .c .given .0 .0 in
-    let t : every (tagTest (a .register)) (tagsAt (a .n) p (a .s .now)) ≡ false = sym (c .before .cell-tags-ok2 .ensures) ∙ not-true _ (c .if3 .taken) in
-    at-place _ (a .s .now) (a .c) p (c .before .before .before .before .before .c .given .1) (cells-whole (tagTest (a .register)) (a .s .now) (a .n) p (omega (arith, c .before .before .before .left-from .ensures, c .before .before .if1 .left)) ∙ rw t)
+    at-place _ (a .s .now) (a .c) p (c .before .before .before .before .before .c .given .1)
+    (cells-whole (tagTest (a .register)) (a .s .now) (a .n) p (c .before .before .before .left-from .ensures) (omega (arith, c .before .before .if1 .left)) (c .before .cell-tags-ok2 .ensures) ∙ rw (not-true (c .before .cell-tags-ok2 .result) (c .if3 .taken)))
 
 mul-t17 : tie.Need-mul-t17
 mul-t17 c = search needs
@@ -71,9 +64,8 @@ returns-5 : tie.Need-returns-5
 returns-5 c =
     let a = c .before .before .before .before .before .before .before .before .args in
     let p = c .before .before .before .before .before .c .given .0 .0 in
-    let t : every (tagTest (a .register)) (tagsAt (a .n) p (a .s .now)) ≡ true = sym (c .before .cell-tags-ok2 .ensures) ∙ not-false _ (c .if3 .left) in
-    rw (c .before .before .before .left-from .ensures)
-    (at-place _ (a .s .now) (a .c) p (c .before .before .before .before .before .c .given .1) (cells-whole (tagTest (a .register)) (a .s .now) (a .n) p (omega (arith, c .before .before .before .left-from .ensures, c .before .before .if1 .left)) ∙ rw t))
+    at-place _ (a .s .now) (a .c) p (c .before .before .before .before .before .c .given .1)
+    (cells-whole (tagTest (a .register)) (a .s .now) (a .n) p (c .before .before .before .left-from .ensures) (omega (arith, c .before .before .if1 .left)) (c .before .cell-tags-ok2 .ensures) ∙ rw (not-false (c .before .cell-tags-ok2 .result) (c .if3 .left)))
 
 pub check-cells-spec : {M : Type 1} → statement M
 check-cells-spec =

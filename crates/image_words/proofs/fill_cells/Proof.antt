@@ -1,6 +1,6 @@
 -- `image_words::fill_cells` meets its contract: by the laws of `Filling` for tags and for words.
-use Prim.Native.Nat.{_+_, _-_, _*_, _≤_, _<_}
-use mathlib.Core.Path.{_≡_, refl, sym, _∙_}
+use Prim.Native.Nat.{_+_, _-_, _*_, _≤_}
+use mathlib.Core.Path.{refl, sym, _∙_}
 use lib.ListN.{length}
 use Rattle.image_words.specs.Reading.{fieldAt}
 use Rattle.image_words.specs.Laws.Fields.{byte-at}

@@ -1,5 +1,5 @@
 -- `image_words::number_at` meets its contract: past the end a number is the one of the bytes that are there.
-use mathlib.Core.Path.{_≡_, sym, _∙_}
+use mathlib.Core.Path.{_∙_}
 use borrow.Author.Tests.{le-leb, lt-leb}
 use Rattle.image_words.specs.Reading.{numberAt}
 use Rattle.image_words.specs.Laws.Fields.{field-short}

@@ -1,30 +1,42 @@
--- `image_words::value` meets its contract.
-use Prim.Native.Nat.{_^_}
+-- `image_words::value` meets its contract: past the end a number is 0.
+use Prim.Native.Nat.{_+_}
+use mathlib.Core.Path.{sym}
 use Rattle.image_words.specs.Scanning.{valueAt}
+use Rattle.image_words.specs.Laws.Fields.{number-past}
 use Rattle.image_words.proofs.Bytewise.{below}
 use borrow.Author.Needs.{needs}
 use native.Mathlib.Omega.{arith}
 use Rattle.image_words.proofs.value.Statement.{statement}
 use Rattle.image_words.proofs.value.Tie as tie
 
-enum-told : tie.Need-enum-told
-enum-told c = search needs
-
 enum-known-c : tie.Need-enum-known-c
 enum-known-c c = search needs
 
-number-at-requires : tie.Need-number-at-requires
-number-at-requires c κs = search needs
+enum-told : tie.Need-enum-told
+enum-told c = search needs
 
 returns : tie.Need-returns
 unfolding valueAt
 returns c = (rw (c .enum-told .given .1), below _ 0 _ (omega arith) (omega arith))
 
+left-from-requires : tie.Need-left-from-requires
+left-from-requires c κs = search needs
+
 returns-2 : tie.Need-returns-2
 unfolding valueAt
-returns-2 c = (rw (c .before .before .c .given .1) (c .number-at .ensures .0), c .number-at .ensures .1)
+returns-2 c = (rw (c .before .before .before .c .given .1) (sym (number-past (c .before .before .before .before .before .before .args .w) (c .before .before .before .c .given .0 .0 + c .before .before .before .before .before .before .args .k) (c .before .before .before .before .before .before .args .s .now) (omega (arith, c .before .left-from .ensures, c .if1 .taken)))), below _ 0 _ (omega arith) (omega arith))
+
+add-number-at : tie.Need-add-number-at
+add-number-at c = search needs
+
+number-at-requires : tie.Need-number-at-requires
+number-at-requires c κs = search needs
+
+returns-3 : tie.Need-returns-3
+unfolding valueAt
+returns-3 c = (rw (c .before .before .before .before .c .given .1) (c .number-at .ensures .0), c .number-at .ensures .1)
 
 pub value-spec : {M : Type 1} → statement M
 value-spec =
     tie.close
-    (tie.spec enum-told enum-known-c number-at-requires returns returns-2)
+    (tie.spec enum-known-c enum-told returns left-from-requires returns-2 add-number-at number-at-requires returns-3)

@@ -8,7 +8,7 @@ use native.Mathlib.Omega.{arith}
 use lib.ListN.{length, getD, drop, length-append}
 use Rattle.window.specs.declared.Cell.{Cell}
 use Rattle.window.specs.Memories.{cell}
-use Rattle.image.specs.Codec.{Codec, digits, num, seq, via, encMany, noState}
+use Rattle.image.specs.Codec.{Codec, num, seq, via, encMany, noState}
 use Rattle.image.specs.Image.{wordCodec, cellCodec, cellsOf}
 use Rattle.image.specs.Laws.Numbers.{length-digits}
 use Rattle.image_words.specs.Writing.{wordBytes, cellBytes}

@@ -1,19 +1,17 @@
 -- Words and cells: what one and what many of them are as bytes, and what checking them finds.
 use Prim.Native.Nat.{ℕ, zero, suc, _+_, _-_, _*_, _/_, _≤_, _<_}
-use mathlib.Core.Path.{_≡_, refl, sym, ap, _∙_}
+use mathlib.Core.Path.{_≡_, refl, ap, _∙_}
 use mathlib.Core.Bool.{Bool, true, false, cond}
-use mathlib.Core.List.{List, [], _∷_}
+use mathlib.Core.List.{List, _∷_}
 use native.Mathlib.Nat.{sub-zero}
 use native.Mathlib.Decide.{decLt}
 use native.Mathlib.Omega.{arith}
 use lib.ListN.{length, drop, length-drop}
 use lib.Seq.{drop-drop}
 use borrow.Author.Tests.{le-ltb, lt-ltb}
-use Rattle.window.specs.Memories.{cell}
 use Rattle.step.specs.Soundness.{every}
-use Rattle.refusal.specs.declared.Refusal.{Refusal}
 use Rattle.refusal.specs.declared.Refusal.the-variants.{InputEnds, CellField}
-use Rattle.image.specs.Codec.{Result, refused, accepted, bind, field, Codec, num, seq, via, decMany, noState}
+use Rattle.image.specs.Codec.{bind, field, num, seq, via, decMany, noState}
 use Rattle.image.specs.Image.{wordCodec, cellCodec, toCell, fromCell}
 use Rattle.image_words.specs.declared.Scan.{Scan}
 use Rattle.image_words.specs.declared.Scan.the-variants.{Refused, At}
@@ -96,10 +94,10 @@ module _ (f : ℕ → Bool) (s : List ℕ) where
       (scanned-map (length s) (decMany (λ _. cellCodec f) noState tt n (drop (p + 9) s)) (λ xs. cellAt p s ∷ xs))
 
   -- all n are there
-  pub cells-whole : (n p : ℕ) → 9 * n ≤ length s - p → cells n p ≡ cond (tags n p) (At (length s - ((length s - p) - 9 * n))) (Refused CellField)
+  whole : (n p : ℕ) → 9 * n ≤ length s - p → cells n p ≡ cond (tags n p) (At (length s - ((length s - p) - 9 * n))) (Refused CellField)
   unfolding decMany scanned tagsAt listed every
-  cells-whole zero p h = rw (length-drop, sub-zero)
-  cells-whole (suc n) p h = go (f (fieldAt 1 p s)) refl (cells-whole n (p + 9) (omega arith))
+  whole zero p h = rw (length-drop, sub-zero)
+  whole (suc n) p h = go (f (fieldAt 1 p s)) refl (whole n (p + 9) (omega arith))
     where
       go : (b : Bool) → f (fieldAt 1 p s) ≡ b → cells n (p + 9) ≡ cond (tags n (p + 9)) (At (length s - ((length s - (p + 9)) - 9 * n))) (Refused CellField)
           → cells (suc n) p ≡ cond (tags (suc n) p) (At (length s - ((length s - p) - 9 * suc n))) (Refused CellField)
@@ -109,10 +107,10 @@ module _ (f : ℕ → Bool) (s : List ℕ) where
       go false g i = cell-bad n p (omega arith) g ∙ rw g
 
   -- they are not: the tags that are there are those of (k + 8) / 9 cells, where k bytes are left
-  pub cells-short : (n p : ℕ) → length s - p < 9 * n → cells n p ≡ cond (tags ((length s - p + 8) / 9) p) (Refused InputEnds) (Refused CellField)
+  short : (n p : ℕ) → length s - p < 9 * n → cells n p ≡ cond (tags ((length s - p + 8) / 9) p) (Refused InputEnds) (Refused CellField)
   unfolding tagsAt listed every
-  cells-short zero p h = absurd (omega arith)
-  cells-short (suc n) p h = go (decLt p (length s)) (decLt (length s - p) 9) (f (fieldAt 1 p s)) refl (cells-short n (p + 9))
+  short zero p h = absurd (omega arith)
+  short (suc n) p h = go (decLt p (length s)) (decLt (length s - p) 9) (f (fieldAt 1 p s)) refl (short n (p + 9))
     where
       go : Dec (p < length s) → Dec (length s - p < 9) → (b : Bool) → f (fieldAt 1 p s) ≡ b
           → (length s - (p + 9) < 9 * n → cells n (p + 9) ≡ cond (tags ((length s - (p + 9) + 8) / 9) (p + 9)) (Refused InputEnds) (Refused CellField))
@@ -126,3 +124,11 @@ module _ (f : ℕ → Bool) (s : List ℕ) where
       go (yes a) (no l) false g i =
           let e : (length s - p + 8) / 9 ≡ suc ((length s - (p + 9) + 8) / 9) = omega arith in
           cell-bad n p a g ∙ rw (e, g)
+
+  -- what is found where `left` bytes are left and a loop has tested the tags that are there
+  module _ (n p : ℕ) {left : ℕ} (rest : left ≡ length s - p) {ok : Bool} where
+    pub cells-whole : 9 * n ≤ left → ok ≡ tags n p → cells n p ≡ cond ok (At (length s - (left - 9 * n))) (Refused CellField)
+    cells-whole h e = rw (e, rest) (whole n p (omega (arith, rest)))
+
+    pub cells-short : left < 9 * n → ok ≡ tags ((left + 8) / 9) p → cells n p ≡ cond ok (Refused InputEnds) (Refused CellField)
+    cells-short h e = rw (e, rest) (short n p (omega (arith, rest)))

@@ -1,13 +1,15 @@
 -- Numbers at a place of the input.
-use Prim.Native.Nat.{ℕ, zero, suc, _+_, _-_, _*_, _^_, _≤_, _<_}
+use Prim.Native.Nat.{ℕ, suc, _+_, _-_, _*_, _^_, _≤_}
 use mathlib.Core.Path.{_≡_, refl, sym, ap, _∙_}
+use mathlib.Core.Bool.{Bool, true, false, cond}
 use mathlib.Core.List.{List, [], _∷_, _++_}
 use native.Mathlib.Nat.{pow-succ', pow-zero, add-zero, add-mul, mul-assoc}
 use native.Mathlib.Omega.{arith}
-use lib.ListN.{length, getD, take, drop, length-drop}
-use lib.Seq.{take-add, take-all, length-take-le, getD-drop}
+use lib.ListN.{length, getD, take, drop, length-drop, drop-of-length-le}
+use lib.Seq.{take-add, take-all, take-nil, length-take-le, getD-drop}
+use lib.Dec.{leb}
 use Rattle.image.specs.Codec.{number, field}
-use Rattle.image_words.specs.Reading.{fieldAt}
+use Rattle.image_words.specs.Reading.{fieldAt, numberAt}
 
 -- a number of one byte is that byte, and 0 past the end
 field-one : (b : List ℕ) → field 1 b ≡ getD b 0 0
@@ -24,6 +26,15 @@ unfolding field
 field-short w p s h =
     let l : length (drop p s) ≡ length s - p = length-drop p s in
     ap (number 0) (take-all (length s - p) (drop p s) (omega arith) ∙ sym (take-all w (drop p s) (omega arith)))
+
+-- past the end there is none
+pub number-past : (w p : ℕ) (s : List ℕ) → length s ≤ p → numberAt w p s ≡ 0
+unfolding numberAt field number
+number-past w p s h = rw (drop-of-length-le s h, take-nil w) (go (leb w 8))
+  where
+    go : (b : Bool) → _≡_ {A = ℕ} (cond b 0 0) 0
+    go true = refl
+    go false = refl
 
 -- ---- a number read in two parts
 

@@ -1,19 +1,20 @@
 -- A check that goes on: the format of two parts is checked by the first part, and then by the second.
-use Prim.Native.Nat.{ℕ, zero, suc, _+_, _-_, _*_, _≤_, _<_}
+use Prim.Native.Nat.{ℕ, zero, suc, _+_, _-_, _≤_, _<_}
 use mathlib.Core.Path.{_≡_, refl, sym, ap, _∙_}
-use mathlib.Core.Bool.{Bool, true, false, cond}
+use mathlib.Core.Bool.{Bool}
 use mathlib.Core.List.{List, [], _∷_}
+use native.Mathlib.Nat.{add-zero}
 use native.Mathlib.Omega.{arith}
 use lib.ListN.{length, drop, length-drop}
 use lib.Seq.{drop-drop}
 use lib.Dec.{leb}
 use borrow.Author.Tests.{le-leb}
 use Rattle.refusal.specs.declared.Refusal.{Refusal}
-use Rattle.refusal.specs.declared.Refusal.the-variants.{InputEnds, CountOverLimit}
-use Rattle.image.specs.Codec.{Result, refused, accepted, bind, field, Codec, num, count, seq, via, decMany, section, noHeader, listSection, noState, uniformSection}
+use Rattle.refusal.specs.declared.Refusal.the-variants.{CountOverLimit}
+use Rattle.image.specs.Codec.{Result, refused, accepted, bind, Codec, num, count, seq, via, decMany, section, noHeader, listSection}
 use Rattle.image_words.specs.declared.Scan.{Scan}
 use Rattle.image_words.specs.declared.Scan.the-variants.{Refused, At}
-use Rattle.image_words.specs.Reading.{fieldAt, numberAt}
+use Rattle.image_words.specs.Reading.{numberAt}
 use Rattle.image_words.specs.Scanning.{scanned, scan, Within, valueAt}
 use Rattle.image_words.specs.Laws.Spans.{Reads, Spans, num-spans, noHeader-spans}
 
@@ -33,7 +34,7 @@ scanned-map n (refused e) to = refl
 scanned-map n (accepted a r) to = refl
 
 -- a part at the end is found by its length
-drop-back : (q : ℕ) (s : List ℕ) → drop (length s - length (drop q s)) s ≡ drop q s
+pub drop-back : (q : ℕ) (s : List ℕ) → drop (length s - length (drop q s)) s ≡ drop q s
 drop-back zero s = let e : length s - length s ≡ 0 = omega arith in rw e
 drop-back (suc q) [] = refl
 drop-back (suc q) (x ∷ s) =
@@ -91,17 +92,17 @@ nothing-scan a s (At p) h =
 -- ---- numbers
 
 module _ (w : ℕ) (e : Refusal) (good : ℕ → Bool) (small : w ≤ 8) (s : List ℕ) where
-  value-is : (x : Scan) (p a : ℕ) (r : List ℕ) → x ≡ At p → num w e good .dec (drop p s) ≡ accepted a r → valueAt w s x ≡ a
+  value-is : (x : Scan) (p a : ℕ) (r : List ℕ) → x ≡ At p → num w e good .dec (drop p s) ≡ accepted a r → valueAt 0 w s x ≡ a
   unfolding valueAt numberAt
-  value-is x p a r q h = rw (q, le-leb w 8 small) (sym (num-spans w e good .reads .is (drop p s) a r h))
+  value-is x p a r q h = rw (q, le-leb w 8 small, add-zero) (sym (num-spans w e good .reads .is (drop p s) a r h))
 
   -- a number is good by its value
-  num-value : (x : Scan) → scan (num w e good .dec) s x ≡ scan (num w e (λ _. good (valueAt w s x)) .dec) s x
+  num-value : (x : Scan) → scan (num w e good .dec) s x ≡ scan (num w e (λ _. good (valueAt 0 w s x)) .dec) s x
   unfolding scan num valueAt numberAt
   num-value (Refused e) = refl
-  num-value (At p) = rw (le-leb w 8 small)
+  num-value (At p) = rw (le-leb w 8 small, add-zero)
 
-  module _ (x : Scan) {y : Scan} {v : ℕ} {ok : Bool} (value : v ≡ valueAt w s x) (test : ok ≡ good v) (checked : y ≡ scan (num w e (λ _. ok) .dec) s x) where
+  module _ (x : Scan) {y : Scan} {v : ℕ} {ok : Bool} (value : v ≡ valueAt 0 w s x) (test : ok ≡ good v) (checked : y ≡ scan (num w e (λ _. ok) .dec) s x) where
     -- a number alone
     pub number-scan : scan (num w e good .dec) s x ≡ y
     number-scan = num-value x ∙ ap (λ (b : Bool). scan (num w e (λ _. b) .dec) s x) (sym (test ∙ ap good value)) ∙ sym checked
@@ -113,6 +114,20 @@ module _ (w : ℕ) (e : Refusal) (good : ℕ → Bool) (small : w ≤ 8) (s : Li
         bind-scan (num-spans w e good .reads) s _ (d v .dec) x
         (λ p a r q h. scanned-map (length s) (d a .dec r) (λ z. (a, z)) ∙ ap (λ (n : ℕ). scanned (length s) (d n .dec r)) (sym (value ∙ value-is x p a r q h)))
         ∙ ap (scan (d v .dec) s) number-scan
+
+-- a format before the rest: where the rest depends on the value, and where not
+module _ {A B : Type 0} {c : Codec A} {v : List ℕ → A} {k : List ℕ → ℕ} (sc : Spans c v k) (s : List ℕ) (x : Scan) {y : Scan} (checked : y ≡ scan (c .dec) s x) where
+  pub seq-scan : (d : A → Codec B) (a : A) → ((p : ℕ) → x ≡ At p → v (drop p s) ≡ a) → scan (seq c d .dec) s x ≡ scan (d a .dec) s y
+  unfolding seq
+  seq-scan d a e =
+      bind-scan (sc .reads) s _ (d a .dec) x
+      (λ p z r q h. scanned-map (length s) (d z .dec r) (λ b. (z, b)) ∙ ap (λ (z : A). scanned (length s) (d z .dec r)) (sc .reads .is (drop p s) z r h ∙ e p q))
+      ∙ ap (scan (d a .dec) s) (sym checked)
+
+  pub then-scan : (d : Codec B) → scan (seq c (λ _. d) .dec) s x ≡ scan (d .dec) s y
+  unfolding seq
+  then-scan d =
+      bind-scan (sc .reads) s _ (d .dec) x (λ p z r q h. scanned-map (length s) (d .dec r) (λ b. (z, b))) ∙ ap (scan (d .dec) s) (sym checked)
 
 -- the same fields as another value
 pub via-scan : {A B : Type 0} (to : A → B) (from : B → A) (c : Codec A) (s : List ℕ) (x : Scan) → scan (via to from c .dec) s x ≡ scan (c .dec) s x
@@ -150,7 +165,7 @@ module _ {S A : Type 0} (c : S → Codec A) (next : S → A → S) (s : List ℕ
   body-scan sh st m x = bind-scan (sh .reads) s _ (decMany c next st m) x (λ p a r q i. scanned-map (length s) (decMany c next st m r) (λ xs. (a, xs)))
 
   -- the count, the header and the values
-  module _ (w most : ℕ) (small : w ≤ 8) (x : Scan) {y : Scan} {n : ℕ} {few : Bool} (value : n ≡ valueAt w s x) (test : few ≡ leb n most)
+  module _ (w most : ℕ) (small : w ≤ 8) (x : Scan) {y : Scan} {n : ℕ} {few : Bool} (value : n ≡ valueAt 0 w s x) (test : few ≡ leb n most)
       (counted : y ≡ scan (num w CountOverLimit (λ _. few) .dec) s x) where
     pub section-scan : {H : Type 0} {head : Codec H} {u : List ℕ → H} {h : List ℕ → ℕ} → Spans head u h → (st : S)
         → scan (section head c next w most st .dec) s x ≡ scan (decMany c next st n) s (scan (head .dec) s y)

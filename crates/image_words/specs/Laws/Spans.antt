@@ -11,7 +11,7 @@ use lib.Dec.{ltb}
 use borrow.Author.Tests.{ltb-false}
 use Rattle.refusal.specs.declared.Refusal.{Refusal}
 use Rattle.refusal.specs.declared.Refusal.the-variants.{InputEnds, CountOverLimit}
-use Rattle.image.specs.Codec.{Result, refused, accepted, bind, field, Codec, num, count, seq, via, decMany, section, noHeader, listSection, noState, uniformSection}
+use Rattle.image.specs.Codec.{Result, refused, accepted, bind, field, Codec, num, count, seq, via, decMany, section, noHeader, listSection}
 use Rattle.image.specs.Laws.Codec.{bind-elim}
 use Rattle.image_words.specs.Reading.{listed}
 use Rattle.image_words.specs.Laws.Listed.{shifted}
@@ -25,6 +25,10 @@ pub record Reads {A : Type 0} (read : List ℕ → Result A) (value : List ℕ �
 -- a format that does
 pub record Spans {A : Type 0} (c : Codec A) (value : List ℕ → A) (size : List ℕ → ℕ) : Type 0 where
   pub reads : Reads (c .dec) value size
+
+-- the same value, said otherwise
+pub spans-as : {A : Type 0} {c : Codec A} {v : List ℕ → A} {k : List ℕ → ℕ} {u : List ℕ → A} → Spans c v k → ((b : List ℕ) → v b ≡ u b) → Spans c u k
+spans-as sc e = record { reads = record { is = λ b a r h. sc .reads .is b a r h ∙ e b; rest = sc .reads .rest; there = sc .reads .there } }
 
 -- ---- numbers
 

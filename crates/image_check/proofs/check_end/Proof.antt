@@ -1,0 +1,39 @@
+-- `image_check::check_end` meets its contract: each test by one law of the sections that were read.
+use mathlib.Core.Path.{sym, _∙_}
+use borrow.Author.Tests.{not-true, not-false}
+use Rattle.image_check.specs.Checked.{countsIn}
+use Rattle.image_check.proofs.Ends.{left-over, window-past, processes-clash, all-sound}
+use borrow.Author.Needs.{needs}
+use native.Mathlib.Omega.{arith}
+use Rattle.image_check.proofs.check_end.Statement.{statement}
+use Rattle.image_check.proofs.check_end.Tie as tie
+
+returns : tie.Need-returns
+returns c = left-over (countsIn (c .before .before .args .s .now)) (c .before .before .args .s .now) (c .before .before .args .end) (c .if1 .taken)
+
+counts-requires : tie.Need-counts-requires
+counts-requires c κs = search needs
+
+windows-sound-requires : tie.Need-windows-sound-requires
+windows-sound-requires c κs = omega (arith, c .counts .ensures .1)
+
+returns-2 : tie.Need-returns-2
+returns-2 c = rw (← c .before .before .counts .ensures .0) (window-past (c .before .before .counts .result) (c .before .before .before .before .before .args .s .now) (c .before .before .before .before .before .args .end) (c .before .before .before .if1 .left) (sym (c .before .windows-sound .ensures) ∙ not-true _ (c .if2 .taken)))
+
+processes-sound-requires : tie.Need-processes-sound-requires
+processes-sound-requires c κs = omega (arith, c .before .before .counts .ensures .1)
+
+returns-3 : tie.Need-returns-3
+returns-3 c =
+    rw (← c .before .before .before .before .counts .ensures .0)
+    (processes-clash (c .before .before .before .before .counts .result) (c .before .before .before .before .before .before .before .args .s .now) (c .before .before .before .before .before .before .before .args .end) (c .before .before .before .before .before .if1 .left) (sym (c .before .before .before .windows-sound .ensures) ∙ not-false _ (c .before .before .if2 .left)) (sym (c .before .processes-sound .ensures) ∙ not-true _ (c .if3 .taken)))
+
+returns-4 : tie.Need-returns-4
+returns-4 c =
+    rw (← c .before .before .before .before .counts .ensures .0)
+    (all-sound (c .before .before .before .before .counts .result) (c .before .before .before .before .before .before .before .args .s .now) (c .before .before .before .before .before .before .before .args .end) (c .before .before .before .before .before .if1 .left) (sym (c .before .before .before .windows-sound .ensures) ∙ not-false _ (c .before .before .if2 .left)) (sym (c .before .processes-sound .ensures) ∙ not-false _ (c .if3 .left)))
+
+pub check-end-spec : {M : Type 1} → statement M
+check-end-spec =
+    tie.close
+    (tie.spec returns counts-requires windows-sound-requires returns-2 processes-sound-requires returns-3 returns-4)

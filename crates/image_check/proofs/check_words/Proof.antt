@@ -1,0 +1,26 @@
+-- `image_check::check_words` meets its contract: the count, and as many words.
+use mathlib.Core.Path.{refl, sym, _∙_}
+use Rattle.image.specs.Codec.{noState, uniformSection}
+use Rattle.image.specs.Image.{wordCodec, wordsCodec}
+use Rattle.image_words.specs.Laws.Scans.{listSection-scan}
+use borrow.Author.Needs.{needs}
+use Rattle.image_check.proofs.check_words.Statement.{statement}
+use Rattle.image_check.proofs.check_words.Tie as tie
+
+value-requires : tie.Need-value-requires
+value-requires c κs = search needs
+
+check-number-requires : tie.Need-check-number-requires
+check-number-requires c κs = search needs
+
+check-words-requires : tie.Need-check-words-requires
+check-words-requires c κs = search needs
+
+returns : tie.Need-returns
+unfolding wordsCodec uniformSection
+returns c = c .check-words .ensures ∙ sym (listSection-scan (λ _. wordCodec) noState (c .before .before .before .before .args .s .now) (c .before .before .before .before .args .w) (c .before .before .before .before .args .most) (c .before .before .before .before .pre) (c .before .before .before .before .args .c) (c .before .before .value .ensures .0) refl (c .before .check-number .ensures) tt)
+
+pub check-words-spec : {M : Type 1} → statement M
+check-words-spec =
+    tie.close
+    (tie.spec value-requires check-number-requires check-words-requires returns)

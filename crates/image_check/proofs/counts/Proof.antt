@@ -1,0 +1,79 @@
+-- `image_check::counts` meets its contract: each count stands where the sections before it end.
+use Rattle.image_words.specs.Reading.{numberAt}
+use Rattle.image_check.specs.Checked.{countsIn}
+use borrow.Author.Needs.{needs}
+use native.Mathlib.Omega.{arith}
+use Rattle.image_check.proofs.counts.Statement.{statement}
+use Rattle.image_check.proofs.counts.Tie as tie
+
+number-at-requires : tie.Need-number-at-requires
+number-at-requires c κs = search needs
+
+mul-at : tie.Need-mul-at
+mul-at c = search needs
+
+add-at : tie.Need-add-at
+add-at c = search needs
+
+number-at-requires-2 : tie.Need-number-at-requires-2
+number-at-requires-2 c κs = search needs
+
+mul-at-2 : tie.Need-mul-at-2
+mul-at-2 c = search needs
+
+add-at-2 : tie.Need-add-at-2
+add-at-2 c = search needs
+
+add-at-3 : tie.Need-add-at-3
+add-at-3 c = search needs
+
+number-at-requires-3 : tie.Need-number-at-requires-3
+number-at-requires-3 c κs = search needs
+
+mul-at-3 : tie.Need-mul-at-3
+mul-at-3 c = search needs
+
+add-at-4 : tie.Need-add-at-4
+add-at-4 c = search needs
+
+add-at-5 : tie.Need-add-at-5
+add-at-5 c = search needs
+
+number-at-requires-4 : tie.Need-number-at-requires-4
+number-at-requires-4 c κs = search needs
+
+mul-at-4 : tie.Need-mul-at-4
+mul-at-4 c = search needs
+
+add-at-6 : tie.Need-add-at-6
+add-at-6 c = search needs
+
+add-at-7 : tie.Need-add-at-7
+add-at-7 c = search needs
+
+number-at-requires-5 : tie.Need-number-at-requires-5
+number-at-requires-5 c κs = search needs
+
+mul-at-5 : tie.Need-mul-at-5
+mul-at-5 c = search needs
+
+add-at-8 : tie.Need-add-at-8
+add-at-8 c = search needs
+
+add-at-9 : tie.Need-add-at-9
+add-at-9 c = search needs
+
+number-at-requires-6 : tie.Need-number-at-requires-6
+number-at-requires-6 c κs = search needs
+
+returns : tie.Need-returns
+unfolding countsIn numberAt
+returns c = (
+  simp (c .number-at6 .ensures .0, c .before .number-at5 .ensures .0, c .before .before .number-at4 .ensures .0, c .before .before .before .number-at3 .ensures .0, c .before .before .before .before .number-at2 .ensures .0, c .before .before .before .before .before .number-at .ensures .0),
+  (omega (arith, c .before .before .before .before .before .number-at .ensures .1), omega (arith, c .before .before .before .before .number-at2 .ensures .1)),
+)
+
+pub counts-spec : {M : Type 1} → statement M
+counts-spec =
+    tie.close
+    (tie.spec number-at-requires mul-at add-at number-at-requires-2 mul-at-2 add-at-2 add-at-3 number-at-requires-3 mul-at-3 add-at-4 add-at-5 number-at-requires-4 mul-at-4 add-at-6 add-at-7 number-at-requires-5 mul-at-5 add-at-8 add-at-9 number-at-requires-6 returns)

@@ -1,0 +1,49 @@
+-- `image_check::has_row` meets its contract: the rows still to be looked at settle the answer.
+use Prim.Native.Nat.{_+_, _*_, _≤_}
+use mathlib.Core.Path.{_≡_, refl, sym, _∙_}
+use Rattle.step.specs.Soundness.{hasRow}
+use Rattle.image_words.specs.Reading.{numberAt}
+use Rattle.image_check.specs.Checked.{rowsAt}
+use Rattle.image_check.proofs.Loops.{rowsFrom, row-found, row-next, row-none}
+use borrow.Author.Needs.{needs}
+use native.Mathlib.Omega.{arith}
+use Rattle.image_check.proofs.has_row.Statement.{statement}
+use Rattle.image_check.proofs.has_row.Tie as tie
+
+abbrev Inv-loop : tie.InvT-loop
+Inv-loop s n t p₀ k₀ p k = (p + 28 * k ≤ 7141) × (hasRow t (rowsAt n s) ≡ hasRow t (rowsFrom k p s))
+
+abbrev μ-loop : tie.MeasureT-loop
+μ-loop s n t p₀ k₀ p k = k
+
+loop-holds : tie.Need-loop-holds Inv-loop μ-loop
+unfolding rowsAt
+loop-holds c = (omega arith, refl)
+
+number-at-requires : tie.Need-number-at-requires Inv-loop μ-loop
+number-at-requires c κs = search needs
+
+returns : tie.Need-returns Inv-loop μ-loop
+unfolding numberAt
+returns c = sym (c .before .before .before .loop .inv .1 ∙ row-found (c .before .before .before .before .before .args .s .now) (c .before .before .before .loop .p) (c .before .before .before .loop .k) (c .before .before .loop-test .taken) (c .before .before .before .before .before .args .t) (sym (c .before .number-at .ensures .0) ∙ c .if1 .taken))
+
+add-p : tie.Need-add-p Inv-loop μ-loop
+add-p c = search needs
+
+sub-k : tie.Need-sub-k Inv-loop μ-loop
+sub-k c = search needs
+
+loop-less : tie.Need-loop-less Inv-loop μ-loop
+loop-less c = search needs
+
+loop-again : tie.Need-loop-again Inv-loop μ-loop
+unfolding numberAt
+loop-again c = (omega (arith, c .before .before .before .loop .inv .0, c .before .before .loop-test .taken), c .before .before .before .loop .inv .1 ∙ row-next (c .before .before .before .before .before .args .s .now) (c .before .before .before .loop .p) (c .before .before .before .loop .k) (c .before .before .loop-test .taken) (c .before .before .before .before .before .args .t) (λ e. c .if1 .left (c .before .number-at .ensures .0 ∙ e)))
+
+returns-2 : tie.Need-returns-2 Inv-loop μ-loop
+returns-2 c = sym (c .before .loop .inv .1 ∙ row-none (c .before .before .before .args .s .now) (c .before .loop .p) (c .before .loop .k) (c .loop-test .left) (c .before .before .before .args .t))
+
+pub has-row-spec : {M : Type 1} → statement M
+has-row-spec =
+    tie.close
+    (tie.spec Inv-loop μ-loop loop-holds number-at-requires returns add-p sub-k loop-less loop-again returns-2)

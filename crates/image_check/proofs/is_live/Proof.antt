@@ -1,0 +1,50 @@
+-- `image_check::is_live` meets its contract: the PTs still to be looked at settle the answer.
+use Prim.Native.Nat.{ℕ, _+_, _*_, _≤_}
+use mathlib.Core.Path.{_≡_, refl, sym, ap, _∙_}
+use mathlib.Core.Bool.{not}
+use lib.Dec.{eqb}
+use Rattle.step.specs.Queues.{occ}
+use Rattle.image_words.specs.Reading.{numberAt}
+use Rattle.image_check.specs.Checked.{ptsAt}
+use Rattle.image_check.proofs.Loops.{live-found, live-next, live-none}
+use borrow.Author.Needs.{needs}
+use native.Mathlib.Omega.{arith}
+use Rattle.image_check.proofs.is_live.Statement.{statement}
+use Rattle.image_check.proofs.is_live.Tie as tie
+
+abbrev Inv-loop : tie.InvT-loop
+Inv-loop s at n x p₀ k₀ p k = (p + 10 * k ≤ 65536) × (occ x (ptsAt n at s) ≡ occ x (ptsAt k p s))
+
+abbrev μ-loop : tie.MeasureT-loop
+μ-loop s at n x p₀ k₀ p k = k
+
+loop-holds : tie.Need-loop-holds Inv-loop μ-loop
+loop-holds c = (c .before .pre, refl)
+
+number-at-requires : tie.Need-number-at-requires Inv-loop μ-loop
+number-at-requires c κs = search needs
+
+returns : tie.Need-returns Inv-loop μ-loop
+unfolding numberAt
+returns c = sym (ap (λ (m : ℕ). not (eqb m 0)) (c .before .before .before .loop .inv .1) ∙ live-found (c .before .before .before .before .before .args .s .now) (c .before .before .before .loop .p) (c .before .before .before .loop .k) (c .before .before .loop-test .taken) (c .before .before .before .before .before .args .x) (sym (c .before .number-at .ensures .0) ∙ c .if1 .taken))
+
+add-p : tie.Need-add-p Inv-loop μ-loop
+add-p c = search needs
+
+sub-k : tie.Need-sub-k Inv-loop μ-loop
+sub-k c = search needs
+
+loop-less : tie.Need-loop-less Inv-loop μ-loop
+loop-less c = search needs
+
+loop-again : tie.Need-loop-again Inv-loop μ-loop
+unfolding numberAt
+loop-again c = (omega (arith, c .before .before .before .loop .inv .0, c .before .before .loop-test .taken), c .before .before .before .loop .inv .1 ∙ live-next (c .before .before .before .before .before .args .s .now) (c .before .before .before .loop .p) (c .before .before .before .loop .k) (c .before .before .loop-test .taken) (c .before .before .before .before .before .args .x) (λ e. c .if1 .left (c .before .number-at .ensures .0 ∙ e)))
+
+returns-2 : tie.Need-returns-2 Inv-loop μ-loop
+returns-2 c = sym (ap (λ (m : ℕ). not (eqb m 0)) (c .before .loop .inv .1 ∙ live-none (c .before .before .before .args .s .now) (c .before .loop .p) (c .before .loop .k) (c .loop-test .left) (c .before .before .before .args .x)))
+
+pub is-live-spec : {M : Type 1} → statement M
+is-live-spec =
+    tie.close
+    (tie.spec Inv-loop μ-loop loop-holds number-at-requires returns add-p sub-k loop-less loop-again returns-2)

@@ -1,0 +1,43 @@
+-- `image_check::row_ends_in` meets its contract.
+use borrow.Author.Tests.{not-true, not-false}
+use Rattle.image_check.specs.Checked.{rowEndsIn}
+use borrow.Author.Needs.{needs}
+use Rattle.image_check.proofs.row_ends_in.Statement.{statement}
+use Rattle.image_check.proofs.row_ends_in.Tie as tie
+
+register-window-requires : tie.Need-register-window-requires
+register-window-requires c κs = search needs
+
+ends-in-requires : tie.Need-ends-in-requires
+ends-in-requires c κs = search needs
+
+returns : tie.Need-returns
+unfolding rowEndsIn
+returns c = simp (← c .before .before .register-window .ensures, ← c .before .ends-in .ensures, not-true (c .before .ends-in .result) (c .if1 .taken))
+
+program-window-requires : tie.Need-program-window-requires
+program-window-requires c κs = search needs
+
+ends-in-requires-2 : tie.Need-ends-in-requires-2
+ends-in-requires-2 c κs = search needs
+
+returns-2 : tie.Need-returns-2
+unfolding rowEndsIn
+returns-2 c =
+    simp (← c .before .before .before .before .before .register-window .ensures, ← c .before .before .before .before .ends-in .ensures, not-false (c .before .before .before .before .ends-in .result) (c .before .before .before .if1 .left), ← c .before .before .program-window .ensures, ← c .before .ends-in2 .ensures, not-true (c .before .ends-in2 .result) (c .if2 .taken))
+
+data-word-window-requires : tie.Need-data-word-window-requires
+data-word-window-requires c κs = search needs
+
+ends-in-requires-3 : tie.Need-ends-in-requires-3
+ends-in-requires-3 c κs = search needs
+
+returns-3 : tie.Need-returns-3
+unfolding rowEndsIn
+returns-3 c =
+    simp (← c .before .before .before .before .before .before .before .register-window .ensures, ← c .before .before .before .before .before .before .ends-in .ensures, not-false (c .before .before .before .before .before .before .ends-in .result) (c .before .before .before .before .before .if1 .left), ← c .before .before .before .before .program-window .ensures, ← c .before .before .before .ends-in2 .ensures, not-false (c .before .before .before .ends-in2 .result) (c .before .before .if2 .left), ← c .before .data-word-window .ensures, ← c .ends-in3 .ensures)
+
+pub row-ends-in-spec : {M : Type 1} → statement M
+row-ends-in-spec =
+    tie.close
+    (tie.spec register-window-requires ends-in-requires returns program-window-requires ends-in-requires-2 returns-2 data-word-window-requires ends-in-requires-3 returns-3)

@@ -1,0 +1,385 @@
+// The check of a whole image: one pass over its bytes, writing nothing.
+ghost use mathlib.Core.Path.{_≡_};
+ghost use mathlib.Core.Bool.{not, _&&_};
+ghost use Prim.Native.Nat.{_+_, _-_, _*_, _≤_, _<_};
+ghost use lib.Dec.{ltb, leb, eqb};
+ghost use lib.ListN.{drop};
+ghost use Rattle.step.specs.Queues.{occ};
+ghost use Rattle.step.specs.Soundness.{taskSound, kindSound, recordSound, hasRow, endsIn, windowsSound, distinct, roomSound};
+ghost use Rattle.image.specs.Codec.{num, decMany, accepted};
+ghost use Rattle.image.specs.Image.{rowCodec, rowTask, tasksCodec, processCodec, processTask, processesCodec, wordsCodec, cellsCodec, afterSections, decode};
+ghost use Rattle.image_words.specs.Reading.{fieldAt};
+ghost use Rattle.image_words.specs.Scanning.{scan, Within, tagTest};
+ghost use Rattle.image_check.specs.Checked.{rowAt, rowsAt, ptsAt, rowEndsIn, trapCodec, countsIn, imageAt, checkedOf};
+use image_words::Scan;
+use refusal::Refusal;
+use window::Row;
+use window::Window;
+
+// How many values each section of an image has.
+pub struct Counted {
+    pub rows: usize,
+    pub processes: usize,
+    pub constants: usize,
+    pub registers: usize,
+    pub program: usize,
+    pub data_words: usize,
+}
+
+// What checking an image finds.
+pub enum Checked {
+    Refused(Refusal),
+    Sound(Counted),
+}
+
+// ---- rows
+
+// A number of w bytes below a bound.
+fn check_below(s: &[u8], c: Scan, w: usize, bound: u64, e: Refusal) -> Scan
+    requires { ⌜ w ≤ 8 ⌝ }
+    ensures { λ r. ⌜ r ≡ scan (num w e (λ v. ltb v bound) .dec) (now (s .entry)) c ⌝ }
+{
+    let v = image_words::value(s, c, 0, w);
+    image_words::check_number(s, c, w, v < bound, e)
+}
+
+pub fn task_sound(before: u64, t: u64) -> bool
+    ensures { λ r. ⌜ r ≡ taskSound before t ⌝ }
+{
+    before < t && t <= 7
+}
+
+pub fn kind_sound(k: u64) -> bool
+    ensures { λ r. ⌜ r ≡ kindSound k ⌝ }
+{
+    match k {
+        0x00 | 0x12 | 0x14 | 0x16 | 0x1A | 0x1C | 0x1E | 0xFF => true,
+        _ => false,
+    }
+}
+
+pub fn record_sound(kind: u64, psw: u64) -> bool
+    ensures { λ r. ⌜ r ≡ recordSound kind psw ⌝ }
+{
+    if kind == 255 {
+        return psw == 0;
+    }
+    word::psw_sound(psw)
+}
+
+// The trap record of a row: its kind and its PSW.
+fn check_trap(s: &[u8], c: Scan) -> Scan
+    ensures { λ r. ⌜ r ≡ scan (trapCodec .dec) (now (s .entry)) c ⌝ }
+{
+    let kind = image_words::value(s, c, 0, 1);
+    let c = image_words::check_number(s, c, 1, kind_sound(kind), Refusal::TaskField);
+    let psw = image_words::value(s, c, 0, 8);
+    image_words::check_number(s, c, 8, record_sound(kind, psw), Refusal::TaskField)
+}
+
+// A row after the row of task `before`.
+fn check_row(s: &[u8], c: Scan, before: u64) -> Scan
+    ensures { λ r. ⌜ r ≡ scan (rowCodec before .dec) (now (s .entry)) c ⌝ }
+{
+    let task = image_words::value(s, c, 0, 1);
+    let c = image_words::check_number(s, c, 1, task_sound(before, task), Refusal::TaskField);
+    let c = check_below(s, c, 2, 4096, Refusal::TaskField);
+    let c = check_below(s, c, 2, 1024, Refusal::TaskField);
+    let c = check_below(s, c, 2, 1024, Refusal::TaskField);
+    let c = check_below(s, c, 2, 65536, Refusal::TaskField);
+    let c = check_below(s, c, 2, 65536, Refusal::TaskField);
+    let c = check_below(s, c, 4, 16777216, Refusal::TaskField);
+    let c = check_below(s, c, 4, 16777216, Refusal::TaskField);
+    check_trap(s, c)
+}
+
+fn check_rows(s: &[u8], first: Scan, n: u64) -> Scan
+    requires { ⌜ Within (now s) first ⌝ }
+    ensures { λ r. ⌜ r ≡ scan (decMany rowCodec rowTask 0 n) (now (s .entry)) first ⌝ }
+{
+    let mut c = first;
+    let mut before: u64 = 0;
+    let mut k = n;
+    while 0 < k {
+        let task = image_words::value(s, c, 0, 1);
+        c = check_row(s, c, before);
+        before = task;
+        k -= 1;
+    }
+    c
+}
+
+fn check_tasks(s: &[u8], c: Scan) -> Scan
+    ensures { λ r. ⌜ r ≡ scan (tasksCodec .dec) (now (s .entry)) c ⌝ }
+{
+    let n = image_words::value(s, c, 0, 1);
+    let c = image_words::check_number(s, c, 1, n <= 7, Refusal::CountOverLimit);
+    check_rows(s, c, n)
+}
+
+// ---- processes
+
+// Whether one of the n rows is of task t.
+fn has_row(s: &[u8], n: u64, t: u64) -> bool
+    requires { ⌜ n ≤ 255 ⌝ }
+    ensures { λ r. ⌜ r ≡ hasRow t (rowsAt n (now (s .entry))) ⌝ }
+{
+    let mut p = 1;
+    let mut k = n;
+    while 0 < k {
+        if image_words::number_at(s, p, 1) == t {
+            return true;
+        }
+        p += 28;
+        k -= 1;
+    }
+    false
+}
+
+fn task_listed(s: &[u8], n: u64, before: u64, t: u64) -> bool
+    requires { ⌜ n ≤ 255 ⌝ }
+    ensures { λ r. ⌜ r ≡ (leb before t && hasRow t (rowsAt n (now (s .entry)))) ⌝ }
+{
+    if t < before {
+        return false;
+    }
+    has_row(s, n, t)
+}
+
+// A process after one of task `before`, where there are n rows.
+fn check_process(s: &[u8], c: Scan, before: u64, n: u64) -> Scan
+    requires { ⌜ n ≤ 255 ⌝ }
+    ensures { λ r. ⌜ r ≡ scan (processCodec (rowsAt n (now (s .entry))) before .dec) (now (s .entry)) c ⌝ }
+{
+    let c = check_below(s, c, 1, 64, Refusal::ProcessField);
+    let task = image_words::value(s, c, 0, 1);
+    let c = image_words::check_number(
+        s,
+        c,
+        1,
+        task_listed(s, n, before, task),
+        Refusal::ProcessField,
+    );
+    let psw = image_words::value(s, c, 0, 8);
+    image_words::check_number(s, c, 8, word::psw_sound(psw), Refusal::ProcessField)
+}
+
+fn check_each_process(s: &[u8], first: Scan, m: u64, n: u64) -> Scan
+    requires { ⌜ (n ≤ 255) × Within (now s) first ⌝ }
+    ensures { λ r. ⌜ r ≡ scan (decMany (processCodec (rowsAt n (now (s .entry)))) processTask 0 m) (now (s .entry)) first ⌝ }
+{
+    let mut c = first;
+    let mut before: u64 = 0;
+    let mut k = m;
+    while 0 < k {
+        let task = image_words::value(s, c, 1, 1);
+        c = check_process(s, c, before, n);
+        before = task;
+        k -= 1;
+    }
+    c
+}
+
+fn check_processes(s: &[u8], c: Scan, n: u64) -> Scan
+    requires { ⌜ n ≤ 255 ⌝ }
+    ensures { λ r. ⌜ r ≡ scan (processesCodec (rowsAt n (now (s .entry))) .dec) (now (s .entry)) c ⌝ }
+{
+    let m = image_words::value(s, c, 0, 1);
+    let c = image_words::check_number(s, c, 1, m <= 64, Refusal::CountOverLimit);
+    let flag = image_words::value(s, c, 0, 1);
+    let c = image_words::check_number(s, c, 1, flag <= 1, Refusal::ProcessField);
+    check_each_process(s, c, m, n)
+}
+
+// ---- memories
+
+fn check_words(s: &[u8], c: Scan, w: usize, most: u64) -> Scan
+    requires { ⌜ w ≤ 8 ⌝ }
+    ensures { λ r. ⌜ r ≡ scan (wordsCodec w most .dec) (now (s .entry)) c ⌝ }
+{
+    let n = image_words::value(s, c, 0, w);
+    let c = image_words::check_number(s, c, w, n <= most, Refusal::CountOverLimit);
+    image_words::check_words(s, c, n as usize)
+}
+
+fn check_cells(s: &[u8], c: Scan, w: usize, most: u64, register: bool) -> Scan
+    requires { ⌜ w ≤ 8 ⌝ }
+    ensures { λ r. ⌜ r ≡ scan (cellsCodec (tagTest register) w most .dec) (now (s .entry)) c ⌝ }
+{
+    let n = image_words::value(s, c, 0, w);
+    let c = image_words::check_number(s, c, w, n <= most, Refusal::CountOverLimit);
+    image_words::check_cells(s, c, n as usize, register)
+}
+
+// ---- after the last section
+
+// The row at a place.
+pub fn row_at(s: &[u8], at: usize) -> Row
+    ensures { λ r. ⌜ r ≡ rowAt at (now (s .entry)) ⌝ }
+{
+    let c = Scan::At(at);
+    Row {
+        task: image_words::value(s, c, 0, 1) as u8,
+        cb: image_words::value(s, c, 1, 2) as u16,
+        rb: image_words::value(s, c, 3, 2) as u16,
+        rl: image_words::value(s, c, 5, 2) as u16,
+        pb: image_words::value(s, c, 7, 2) as u16,
+        pl: image_words::value(s, c, 9, 2) as u16,
+        db: image_words::value(s, c, 11, 4) as u32,
+        dl: image_words::value(s, c, 15, 4) as u32,
+        kind: image_words::value(s, c, 19, 1) as u8,
+        psw: image_words::value(s, c, 20, 8),
+    }
+}
+
+// Whether a window that isn't empty ends in its memory of n places.
+fn ends_in(w: Window, n: usize) -> bool
+    ensures { λ r. ⌜ r ≡ endsIn w n ⌝ }
+{
+    w.last < w.first || w.last < n
+}
+
+// Whether the windows of a row do, in memories of so many registers, program words and data words.
+pub fn row_ends_in(row: Row, registers: usize, program: usize, data_words: usize) -> bool
+    ensures { λ r. ⌜ r ≡ rowEndsIn registers program data_words row ⌝ }
+{
+    if !ends_in(window::register_window(row), registers) {
+        return false;
+    }
+    if !ends_in(window::program_window(row), program) {
+        return false;
+    }
+    ends_in(window::data_word_window(row), data_words)
+}
+
+fn windows_sound(s: &[u8], n: usize, registers: usize, program: usize, data_words: usize) -> bool
+    requires { ⌜ n ≤ 255 ⌝ }
+    ensures { λ r. ⌜ r ≡ windowsSound registers program data_words (rowsAt n (now (s .entry))) ⌝ }
+{
+    let mut p = 1;
+    let mut k = n;
+    while 0 < k {
+        if !row_ends_in(row_at(s, p), registers, program, data_words) {
+            return false;
+        }
+        p += 28;
+        k -= 1;
+    }
+    true
+}
+
+// Whether x is the PT of one of n processes from `at` on.
+fn is_live(s: &[u8], at: usize, n: usize, x: u64) -> bool
+    requires { ⌜ at + 10 * n ≤ 65536 ⌝ }
+    ensures { λ r. ⌜ r ≡ not (eqb (occ x (ptsAt n at (now (s .entry)))) 0) ⌝ }
+{
+    let mut p = at;
+    let mut k = n;
+    while 0 < k {
+        if image_words::number_at(s, p, 1) == x {
+            return true;
+        }
+        p += 10;
+        k -= 1;
+    }
+    false
+}
+
+// Whether the PTs of n processes from `at` on are all different.
+fn pts_distinct(s: &[u8], at: usize, n: usize) -> bool
+    requires { ⌜ at + 10 * n ≤ 65536 ⌝ }
+    ensures { λ r. ⌜ r ≡ distinct (ptsAt n at (now (s .entry))) ⌝ }
+{
+    let mut p = at;
+    let mut k = n;
+    while 0 < k {
+        k -= 1;
+        if is_live(s, p + 10, k, image_words::number_at(s, p, 1)) {
+            return false;
+        }
+        p += 10;
+    }
+    true
+}
+
+// The counts of the sections, as the bytes have them.
+fn counts(s: &[u8]) -> Counted
+    ensures { λ r. ⌜ r ≡ countsIn (now (s .entry)) ⌝ }
+    ensures small { λ r. ⌜ (r .rows ≤ 255) × (r .processes ≤ 255) ⌝ }
+{
+    let rows = image_words::number_at(s, 0, 1) as usize;
+    let at = 1 + 28 * rows;
+    let processes = image_words::number_at(s, at, 1) as usize;
+    let at = at + (2 + 10 * processes);
+    let constants = image_words::number_at(s, at, 2) as usize;
+    let at = at + (2 + 8 * constants);
+    let registers = image_words::number_at(s, at, 2) as usize;
+    let at = at + (2 + 9 * registers);
+    let program = image_words::number_at(s, at, 4) as usize;
+    let at = at + (4 + 8 * program);
+    let data_words = image_words::number_at(s, at, 4) as usize;
+    Counted {
+        rows,
+        processes,
+        constants,
+        registers,
+        program,
+        data_words,
+    }
+}
+
+// Whether there is room for one more process, or the flag is up.
+pub fn room_sound(live: usize, flag: u64) -> bool
+    ensures { λ r. ⌜ r ≡ roomSound live flag ⌝ }
+{
+    if live < 64 {
+        return true;
+    }
+    flag != 0
+}
+
+// Whether the m processes after n rows have different PTs, and aren't 64 with flag 0.
+fn processes_sound(s: &[u8], n: usize, m: usize) -> bool
+    requires { ⌜ (n ≤ 255) × (m ≤ 255) ⌝ }
+    ensures { λ r. ⌜ r ≡ (distinct (ptsAt m (1 + 28 * n + 2) (now (s .entry))) && roomSound m (fieldAt 1 (1 + 28 * n + 1) (now (s .entry)))) ⌝ }
+{
+    let at = 1 + 28 * n;
+    if !pts_distinct(s, at + 2, m) {
+        return false;
+    }
+    room_sound(m, image_words::number_at(s, at + 1, 1))
+}
+
+// After the last section, which ends at `end`.
+fn check_end(s: &[u8], end: usize) -> Checked
+    ensures { λ r. ⌜ r ≡ checkedOf (afterSections (accepted (imageAt (countsIn (now (s .entry))) (now (s .entry))) (drop end (now (s .entry))))) ⌝ }
+{
+    if end < s.len() {
+        return Checked::Refused(Refusal::BytesLeftOver);
+    }
+    let z = counts(s);
+    if !windows_sound(s, z.rows, z.registers, z.program, z.data_words) {
+        return Checked::Refused(Refusal::WindowPastMemory);
+    }
+    if !processes_sound(s, z.rows, z.processes) {
+        return Checked::Refused(Refusal::ProcessesClash);
+    }
+    Checked::Sound(z)
+}
+
+// Refusals 1, 2 and 3 in byte order, then 4, 5 and 6.
+pub fn check(s: &[u8]) -> Checked
+    ensures { λ r. ⌜ r ≡ checkedOf (decode (now (s .entry))) ⌝ }
+{
+    let rows = image_words::number_at(s, 0, 1);
+    let c = check_tasks(s, Scan::At(0));
+    let c = check_processes(s, c, rows);
+    let c = check_words(s, c, 2, 4096);
+    let c = check_cells(s, c, 2, 2048, true);
+    let c = check_words(s, c, 4, 1048576);
+    let c = check_cells(s, c, 4, 1048576, false);
+    match c {
+        Scan::Refused(e) => Checked::Refused(e),
+        Scan::At(end) => check_end(s, end),
+    }
+}
