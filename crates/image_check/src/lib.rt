@@ -43,12 +43,14 @@ fn check_below(s: &[u8], c: Scan, w: usize, bound: u64, e: Refusal) -> Scan
     image_words::check_number(s, c, w, v < bound, e)
 }
 
+// Whether a row of task t may stand behind the row of task `before`.
 pub fn task_sound(before: u64, t: u64) -> bool
     ensures { λ r. ⌜ r ≡ taskSound before t ⌝ }
 {
     before < t && t <= 7
 }
 
+// Whether a trap of kind k may be recorded, or none: FF.
 pub fn kind_sound(k: u64) -> bool
     ensures { λ r. ⌜ r ≡ kindSound k ⌝ }
 {
@@ -58,6 +60,7 @@ pub fn kind_sound(k: u64) -> bool
     }
 }
 
+// Whether a PSW may stand beside a trap kind.
 pub fn record_sound(kind: u64, psw: u64) -> bool
     ensures { λ r. ⌜ r ≡ recordSound kind psw ⌝ }
 {
@@ -93,6 +96,7 @@ fn check_row(s: &[u8], c: Scan, before: u64) -> Scan
     check_trap(s, c)
 }
 
+// n rows.
 fn check_rows(s: &[u8], first: Scan, n: u64) -> Scan
     requires { ⌜ Within (now s) first ⌝ }
     ensures { λ r. ⌜ r ≡ scan (decMany rowCodec rowTask 0 n) (now (s .entry)) first ⌝ }
@@ -109,6 +113,7 @@ fn check_rows(s: &[u8], first: Scan, n: u64) -> Scan
     c
 }
 
+// The first section: its count, and as many rows.
 fn check_tasks(s: &[u8], c: Scan) -> Scan
     ensures { λ r. ⌜ r ≡ scan (tasksCodec .dec) (now (s .entry)) c ⌝ }
 {
@@ -136,6 +141,7 @@ fn has_row(s: &[u8], n: u64, t: u64) -> bool
     false
 }
 
+// Whether task t is not below `before` and has one of the n rows.
 fn task_listed(s: &[u8], n: u64, before: u64, t: u64) -> bool
     requires { ⌜ n ≤ 255 ⌝ }
     ensures { λ r. ⌜ r ≡ (leb before t && hasRow t (rowsAt n (now (s .entry)))) ⌝ }
@@ -164,6 +170,7 @@ fn check_process(s: &[u8], c: Scan, before: u64, n: u64) -> Scan
     image_words::check_number(s, c, 8, word::psw_sound(psw), Refusal::ProcessField)
 }
 
+// m processes, where there are n rows.
 fn check_each_process(s: &[u8], first: Scan, m: u64, n: u64) -> Scan
     requires { ⌜ (n ≤ 255) × Within (now s) first ⌝ }
     ensures { λ r. ⌜ r ≡ scan (decMany (processCodec (rowsAt n (now (s .entry)))) processTask 0 m) (now (s .entry)) first ⌝ }
@@ -180,6 +187,7 @@ fn check_each_process(s: &[u8], first: Scan, m: u64, n: u64) -> Scan
     c
 }
 
+// The second section: its count, the flag, and as many processes.
 fn check_processes(s: &[u8], c: Scan, n: u64) -> Scan
     requires { ⌜ n ≤ 255 ⌝ }
     ensures { λ r. ⌜ r ≡ scan (processesCodec (rowsAt n (now (s .entry))) .dec) (now (s .entry)) c ⌝ }
@@ -193,6 +201,7 @@ fn check_processes(s: &[u8], c: Scan, n: u64) -> Scan
 
 // ---- memories
 
+// A section of words: its count of w bytes, at most `most`, and as many words.
 fn check_words(s: &[u8], c: Scan, w: usize, most: u64) -> Scan
     requires { ⌜ w ≤ 8 ⌝ }
     ensures { λ r. ⌜ r ≡ scan (wordsCodec w most .dec) (now (s .entry)) c ⌝ }
@@ -202,6 +211,7 @@ fn check_words(s: &[u8], c: Scan, w: usize, most: u64) -> Scan
     image_words::check_words(s, c, n as usize)
 }
 
+// A section of cells, likewise.
 fn check_cells(s: &[u8], c: Scan, w: usize, most: u64, register: bool) -> Scan
     requires { ⌜ w ≤ 8 ⌝ }
     ensures { λ r. ⌜ r ≡ scan (cellsCodec (tagTest register) w most .dec) (now (s .entry)) c ⌝ }
@@ -252,6 +262,7 @@ pub fn row_ends_in(row: Row, registers: usize, program: usize, data_words: usize
     ends_in(window::data_word_window(row), data_words)
 }
 
+// Whether the windows of all n rows do.
 fn windows_sound(s: &[u8], n: usize, registers: usize, program: usize, data_words: usize) -> bool
     requires { ⌜ n ≤ 255 ⌝ }
     ensures { λ r. ⌜ r ≡ windowsSound registers program data_words (rowsAt n (now (s .entry))) ⌝ }

@@ -57,9 +57,9 @@ pub fn number_at(s: &[u8], at: usize, w: usize) -> u64
     if 8 < w {
         return 0;
     }
-    let left = left_from(s, at);
-    if left < w {
-        return get(s, at, left);
+    let there = left_from(s, at);
+    if there < w {
+        return get(s, at, there);
     }
     get(s, at, w)
 }
