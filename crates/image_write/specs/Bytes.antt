@@ -8,6 +8,16 @@ use Rattle.image.specs.Codec.{digits, encMany, noState}
 use Rattle.image.specs.Image.{rowCodec, processCodec}
 use Rattle.image_words.specs.Writing.{wordBytes, cellBytes}
 
+-- a row in three parts: number, CB, RB and RL; PB, PL, DB and DL; the trap record
+unfoldable pub rowFirst : Row → List ℕ
+rowFirst r = digits 1 (r .task) ++ (digits 2 (r .cb) ++ (digits 2 (r .rb) ++ digits 2 (r .rl)))
+
+unfoldable pub rowSecond : Row → List ℕ
+rowSecond r = digits 2 (r .pb) ++ (digits 2 (r .pl) ++ (digits 4 (r .db) ++ digits 4 (r .dl)))
+
+unfoldable pub rowRecord : Row → List ℕ
+rowRecord r = digits 1 (r .kind) ++ digits 8 (r .psw)
+
 unfoldable pub rowBytes : Row → List ℕ
 rowBytes r = rowCodec 0 .enc r
 

@@ -35,7 +35,7 @@ together false false f g = refl
 
 -- ---- over a ring
 
-ring-first : (a : List ℕ) (h n : ℕ) → h < 64 → 0 < n → ring a h n ≡ getD a h 0 ∷ ring a ((h + 1) % 64) (n - 1)
+pub ring-first : (a : List ℕ) (h n : ℕ) → h < 64 → 0 < n → ring a h n ≡ getD a h 0 ∷ ring a ((h + 1) % 64) (n - 1)
 unfolding ring
 ring-first a h zero p q = absurd (omega arith)
 ring-first a h (suc n) p q =

@@ -1,3 +1,6 @@
+use mathlib.Core.Path.{sym}
+use lib.ListN.{List·getD-eq-default}
+use native.Mathlib.Omega.{arith}
 use borrow.Author.Needs.{needs}
 use Rattle.image_write.proofs.psw_of.Statement.{statement}
 use Rattle.image_write.proofs.psw_of.Tie as tie
@@ -18,7 +21,7 @@ returns c = search needs
 
 -- src/lib.rt:66:1
 returns-2 : tie.Need-returns-2
-returns-2 c = ?
+returns-2 c = sym (List·getD-eq-default (c .before .args .t1) 0 (omega arith))
 
 pub psw-of-spec : {M : Type 1} → statement M
 psw-of-spec = tie.close (tie.spec mul-result array-read-result returns returns-2)

@@ -1,3 +1,7 @@
+use Rattle.image.specs.Codec.{num, seq, via}
+use Rattle.image.specs.Image.{processCodec}
+use Rattle.image_write.specs.Bytes.{processBytes}
+use Rattle.image_write.proofs.Going.{three}
 use borrow.Author.Needs.{needs}
 use Rattle.image_write.proofs.put_process.Statement.{statement}
 use Rattle.image_write.proofs.put_process.Tie as tie
@@ -31,7 +35,8 @@ same-length c = search needs
 
 -- src/lib.rt:57:1
 returns : tie.Need-returns
-returns c = ?
+unfolding processBytes processCodec via seq num
+returns c = three _ _ _ _ _ _ _ _ (c .before .before .before .before .before .before .before .before .before .before .before .before .before .pre) (c .before .before .before .before .before .before .before .before .before .before .put-number .ensures) (c .before .before .before .before .before .before .put-number2 .ensures) (c .before .before .put-number3 .ensures)
 
 pub put-process-spec : {M : Type 1} → statement M
 put-process-spec =
