@@ -31,6 +31,9 @@ module _ (at : ℕ) (all l₀ : List ℕ) where
         let n : length left ≡ length xs + length left′ = ap length (d .is) ∙ length-append xs left′ in
         omega (arith, z .fits, z .place, z .same)
 
+    pub room-all : p + length left ≤ length l
+    room-all = omega (arith, z .fits, z .place, z .same)
+
     -- the next part is put
     pub goes : {l₁ xs left′ : List ℕ} {q : ℕ} → Splits left xs left′ → q ≡ p + length xs → l₁ ≡ putAt p xs l → Going l₁ q left′
     goes {l₁} {xs} {left′} d e i =
@@ -57,8 +60,7 @@ module _ (at : ℕ) (all l₀ : List ℕ) where
     -- the last part is put
     pub last : {l₁ : List ℕ} → l₁ ≡ putAt p left l → l₁ ≡ putAt at all l₀
     last {l₁} i =
-        let f : p + length left ≤ length l = omega (arith, z .fits, z .place, z .same) in
-        i ∙ sym (put-fits p left l f) ∙ z .rest ∙ put-fits at all l₀ (z .fits)
+        i ∙ sym (put-fits p left l room-all) ∙ z .rest ∙ put-fits at all l₀ (z .fits)
 
   -- numbers one after another: the first, and the next at k bytes from the start
   first : (w v : ℕ) (left : List ℕ) {l₁ : List ℕ} → at + length all ≤ length l₀ → all ≡ digits w v ++ left → l₁ ≡ putAt at (digits w v) l₀ → Going l₁ (at + w) left

@@ -1,5 +1,5 @@
 -- The parts of an image as bytes: how long they are, and how they go on.
-use Prim.Native.Nat.{ℕ, zero, suc, _+_, _-_, _*_, _%_, _≤_, _<_}
+use Prim.Native.Nat.{ℕ, suc, _+_, _-_, _*_, _%_, _≤_, _<_}
 use mathlib.Core.Path.{_≡_, refl, sym, ap, _∙_}
 use mathlib.Core.List.{List, [], _∷_, _++_, append-assoc}
 use native.Mathlib.Omega.{arith}
@@ -11,7 +11,7 @@ use Rattle.step.specs.Queues.{ring, listOf, livePts}
 use Rattle.step.specs.State.{noQueue}
 use Rattle.step.specs.Laws.Queues.{ring-same, length-list}
 use Rattle.image.specs.declared.Process.{Process}
-use Rattle.image.specs.Codec.{num, seq, via, encMany, noState}
+use Rattle.image.specs.Codec.{num, seq, via, encMany}
 use Rattle.image.specs.Image.{rowCodec, processCodec, toProcess, processesIn, processesFrom}
 use Rattle.image.specs.Laws.Numbers.{length-digits}
 use Rattle.image_words.specs.Laws.Bytes.{uniform-length}

@@ -1,5 +1,5 @@
 -- The sections of an image: how long they are, and that they are put where their count and then their values are put.
-use Prim.Native.Nat.{ℕ, _+_, _*_, _≤_, _<_}
+use Prim.Native.Nat.{ℕ, _+_, _*_, _≤_}
 use mathlib.Core.Path.{_≡_, refl, sym, ap, _∙_}
 use mathlib.Core.Bool.{Bool, true, false, cond}
 use mathlib.Core.List.{List, _++_}
@@ -12,7 +12,6 @@ use Rattle.word.specs.Laws.Bools.{Le?, below, above, le?}
 use Rattle.window.specs.declared.Row.{Row}
 use Rattle.step.specs.declared.Queue.{Queue}
 use Rattle.step.specs.Queues.{livePts}
-use Rattle.image.specs.declared.Process.{Process}
 use Rattle.image.specs.Codec.{digits}
 use Rattle.image.specs.Image.{processesFrom}
 use Rattle.image.specs.Laws.Numbers.{length-digits}
@@ -20,7 +19,7 @@ use Rattle.image_words.specs.Writing.{laid, putAt, wordBytes, cellBytes, putCel
 use Rattle.image_words.specs.Laws.Bytes.{word-bytes-length, cell-bytes-length}
 use Rattle.image_words.proofs.Putting.{length-laid}
 use Rattle.image_write.specs.Bytes.{rowsBytes, processesBytes, tasksSection, processesSection, wordsSection, cellsSection}
-use Rattle.image_write.proofs.Going.{Splits, start, goes, last}
+use Rattle.image_write.proofs.Going.{start, goes, last}
 use Rattle.image_write.proofs.Parts.{rows-size, processes-length, from-length}
 
 put-length : (at : ℕ) (xs l : List ℕ) → length (putAt at xs l) ≡ length l

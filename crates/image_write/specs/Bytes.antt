@@ -3,9 +3,10 @@ use Prim.Native.Nat.{ℕ}
 use mathlib.Core.List.{List, [], _++_}
 use lib.ListN.{length}
 use Rattle.window.specs.declared.Row.{Row}
+use Rattle.step.specs.State.{State}
 use Rattle.image.specs.declared.Process.{Process}
 use Rattle.image.specs.Codec.{digits, encMany, noState}
-use Rattle.image.specs.Image.{rowCodec, processCodec}
+use Rattle.image.specs.Image.{rowCodec, processCodec, processesFrom}
 use Rattle.image_words.specs.Writing.{wordBytes, cellBytes}
 
 -- a row in three parts: number, CB, RB and RL; PB, PL, DB and DL; the trap record
@@ -42,3 +43,13 @@ wordsSection w words = digits w (length words) ++ wordBytes words
 
 unfoldable pub cellsSection : (w : ℕ) → (tags words : List ℕ) → List ℕ
 cellsSection w tags words = digits w (length words) ++ cellBytes tags words
+
+-- the whole image: its sections in order
+unfoldable pub imageBytes : State → List ℕ
+imageBytes s =
+    tasksSection (s .rows)
+    ++ (processesSection (s .table .flag) (processesFrom (s .table .psw) 1 (s .table .queues))
+    ++ (wordsSection 2 (s .constants)
+    ++ (cellsSection 2 (s .registers .tags) (s .registers .words)
+    ++ (wordsSection 4 (s .program)
+    ++ cellsSection 4 (s .dataWords .tags) (s .dataWords .words)))))

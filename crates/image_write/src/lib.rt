@@ -1,11 +1,13 @@
 // Writing an image: a sound state's fields, section by section.
 ghost use mathlib.Core.Path.{_≡_};
-ghost use Prim.Native.Nat.{_+_, _*_, _≤_};
+ghost use Prim.Native.Nat.{_+_, _*_, _^_, _≤_};
 ghost use lib.ListN.{length, take, getD};
 ghost use Rattle.step.specs.Queues.{listOf, livePts};
 ghost use Rattle.image.specs.Image.{toProcess, processesIn, processesFrom};
 ghost use Rattle.image_words.specs.Writing.{putAt};
-ghost use Rattle.image_write.specs.Bytes.{rowFirst, rowSecond, rowRecord, rowBytes, processBytes, rowsBytes, processesBytes, tasksSection, processesSection, wordsSection, cellsSection};
+ghost use Rattle.soundness.specs.Held.{stateIn};
+ghost use Rattle.image_write.specs.Bytes.{rowFirst, rowSecond, rowRecord, rowBytes, processBytes, rowsBytes, processesBytes, tasksSection, processesSection, wordsSection, cellsSection, imageBytes};
+ghost use Rattle.image_write.specs.Writing.{Written};
 use refusal::Refusal;
 use step::ProcessTable;
 use step::Queue;
@@ -176,4 +178,107 @@ fn put_cells(out: &mut [u8], at: usize, w: usize, tags: &[u8], words: &[u64]) ->
     image_words::put_number(out, at, w, n as u64);
     image_words::put_cells(out, at + w, tags, words);
     at + (w + 9 * n)
+}
+
+// ---- the whole
+
+// How long an image of so many rows, processes and so on is.
+fn size(
+    n: usize,
+    m: usize,
+    constants: usize,
+    registers: usize,
+    program: usize,
+    data_words: usize,
+) -> usize
+    requires { ⌜ (n ≤ 7) × ((m ≤ 64) × ((constants ≤ 4096) × ((registers ≤ 2048) × ((program ≤ 2 ^ 20) × (data_words ≤ 2 ^ 20))))) ⌝ }
+    ensures { λ r. ⌜ r ≡ (1 + 28 * n) + ((2 + 10 * m) + ((2 + 8 * constants) + ((2 + 9 * registers) + ((4 + 8 * program) + (4 + 9 * data_words))))) ⌝ }
+{
+    (1 + 28 * n)
+        + ((2 + 10 * m)
+            + ((2 + 8 * constants)
+                + ((2 + 9 * registers) + ((4 + 8 * program) + (4 + 9 * data_words)))))
+}
+
+fn put_image(
+    out: &mut [u8],
+    rows: [Row; 7],
+    n: usize,
+    m: usize,
+    table: ProcessTable,
+    constants: &[u64],
+    tags: &[u8],
+    words: &[u64],
+    program: &[u64],
+    data_tags: &[u8],
+    data_words: &[u64],
+) -> usize
+    requires { ⌜ (n ≤ 7) × ((m ≡ length (livePts (table .queues))) × ((length (now tags) ≡ length (now words)) × (length (now data_tags) ≡ length (now data_words)))) ⌝ }
+    requires { ⌜ length (imageBytes (stateIn rows n table (now constants) (now tags) (now words) (now program) (now data_tags) (now data_words))) ≤ length (now out) ⌝ }
+    ensures { λ r. ⌜ r ≡ length (imageBytes (stateIn rows n table (now (constants .entry)) (now (tags .entry)) (now (words .entry)) (now (program .entry)) (now (data_tags .entry)) (now (data_words .entry)))) ⌝ }
+    ensures { λ _. ⌜ now (out .exit) ≡ putAt 0 (imageBytes (stateIn rows n table (now (constants .entry)) (now (tags .entry)) (now (words .entry)) (now (program .entry)) (now (data_tags .entry)) (now (data_words .entry)))) (now (out .entry)) ⌝ }
+{
+    let at = put_tasks(out, rows, n);
+    let at = put_processes(out, at, m, table);
+    let at = put_words(out, at, 2, constants);
+    let at = put_cells(out, at, 2, tags, words);
+    let at = put_words(out, at, 4, program);
+    put_cells(out, at, 4, data_tags, data_words)
+}
+
+// Writes the state of the first n rows, the table and the slices, each in its whole length: 8, then 7, then the image.
+pub fn write(
+    out: &mut [u8],
+    rows: [Row; 7],
+    n: usize,
+    table: ProcessTable,
+    constants: &[u64],
+    tags: &[u8],
+    words: &[u64],
+    program: &[u64],
+    data_tags: &[u8],
+    data_words: &[u64],
+) -> Writing
+    ensures { λ r. ⌜ Written n (stateIn rows n table (now (constants .entry)) (now (tags .entry)) (now (words .entry)) (now (program .entry)) (now (data_tags .entry)) (now (data_words .entry))) r (now (out .entry)) (now (out .exit)) ⌝ }
+{
+    if !soundness::sound(
+        rows,
+        n,
+        table,
+        constants,
+        tags,
+        words,
+        program,
+        data_tags,
+        data_words,
+    ) {
+        return Writing::Refused(Refusal::UnsoundState);
+    }
+    let queues = table.queues;
+    let m = soundness::live(queues);
+    let length = size(
+        n,
+        m,
+        constants.len(),
+        words.len(),
+        program.len(),
+        data_words.len(),
+    );
+    if out.len() < length {
+        return Writing::Refused(Refusal::ShortBuffer);
+    }
+    let end = put_image(
+        out,
+        rows,
+        n,
+        m,
+        table,
+        constants,
+        tags,
+        words,
+        program,
+        data_tags,
+        data_words,
+    );
+    Writing::Wrote(end)
 }

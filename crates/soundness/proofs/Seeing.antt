@@ -23,7 +23,7 @@ use Rattle.soundness.specs.declared.Seen.{Seen}
 use Rattle.soundness.specs.Seen.{fresh, seenOne, seenAfter}
 use Rattle.soundness.proofs.Loops.{live-next, live-none}
 
-zero-of : (n : ℕ) → (n ≢ 0 → ⊥) → n ≡ 0
+pub zero-of : (n : ℕ) → (n ≢ 0 → ⊥) → n ≡ 0
 zero-of zero h = refl
 zero-of (suc n) h = absurd (h (λ e. omega arith))
 

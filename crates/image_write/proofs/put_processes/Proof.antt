@@ -1,46 +1,35 @@
 use native.Mathlib.Omega.{arith}
+use borrow.Author.Needs.{needs}
 use Rattle.image_write.proofs.Parts.{processes-length, from-length}
 use Rattle.image.specs.Image.{processesFrom}
 use Rattle.image_write.proofs.Sections.{processes-size, processes-put}
-use borrow.Author.Needs.{needs}
 use Rattle.image_write.proofs.put_processes.Statement.{statement}
 use Rattle.image_write.proofs.put_processes.Tie as tie
-use Rattle.image_write.proofs.put_processes.Reads as reads
-use Rattle.image_write.proofs.put_processes.Lts as lts
-use Rattle.image_words.proofs.put_number.Reads as put-number-reads
-use Rattle.image_write.proofs.put_queues.Reads as put-queues-reads
 
--- src/lib.rt:152:5
 put-number-requires : tie.Need-put-number-requires
 put-number-requires c κs = search needs
 
--- src/lib.rt:153:34
 add-put-number : tie.Need-add-put-number
 add-put-number c = search needs
 
--- src/lib.rt:153:45
 cast-put-number : tie.Need-cast-put-number
 cast-put-number c = search needs
 
--- src/lib.rt:153:5
 put-number-requires-2 : tie.Need-put-number-requires-2
 put-number-requires-2 c κs = search needs
 
--- src/lib.rt:154:21
 add-put-queues : tie.Need-add-put-queues
 add-put-queues c = search needs
 
--- src/lib.rt:154:5
 put-queues-requires : tie.Need-put-queues-requires
 put-queues-requires c κs = search needs
 
--- src/lib.rt:145:1
 same-length : tie.Need-same-length
 same-length c = search needs
 
--- src/lib.rt:145:1
 returns : tie.Need-returns
-returns c = let s = c .before .before .before .before .before .before .before .before .before .before .before .before .before .before .before .before in
+returns c =
+    let s = c .before .before .before .before .before .before .before .before .before .before .before .before .before .before .before .before in
     let t = s .args .table in
     let e = c .before .before .put-queues .ensures in
     (omega (arith, e .0, s .pre, processes-size (t .psw) (t .flag) (t .queues) (s .args .m) (s .pre .0), processes-length (processesFrom (t .psw) 1 (t .queues)), from-length (t .psw) 1 (t .queues)), processes-put _ _ _ _ (s .pre .0) _ _ (s .pre .1) (c .before .before .before .before .before .before .before .before .before .before .before .put-number .ensures) (c .before .before .before .before .before .before .put-number2 .ensures) (e .1))

@@ -1,40 +1,29 @@
-use Rattle.image_write.proofs.Parts.{row-put}
 use borrow.Author.Needs.{needs}
+use Rattle.image_write.proofs.Parts.{row-put}
 use Rattle.image_write.proofs.put_row.Statement.{statement}
 use Rattle.image_write.proofs.put_row.Tie as tie
-use Rattle.image_write.proofs.put_row.Reads as reads
-use Rattle.image_write.proofs.put_row.Lts as lts
-use Rattle.image_write.proofs.put_first.Reads as put-first-reads
-use Rattle.image_write.proofs.put_record.Reads as put-record-reads
-use Rattle.image_write.proofs.put_second.Reads as put-second-reads
 
--- src/lib.rt:57:5
 put-first-requires : tie.Need-put-first-requires
 put-first-requires c κs = search needs
 
--- src/lib.rt:58:21
 add-put-second : tie.Need-add-put-second
 add-put-second c = search needs
 
--- src/lib.rt:58:5
 put-second-requires : tie.Need-put-second-requires
 put-second-requires c κs = search needs
 
--- src/lib.rt:59:21
 add-put-record : tie.Need-add-put-record
 add-put-record c = search needs
 
--- src/lib.rt:59:5
 put-record-requires : tie.Need-put-record-requires
 put-record-requires c κs = search needs
 
--- src/lib.rt:53:1
 same-length : tie.Need-same-length
 same-length c = search needs
 
--- src/lib.rt:53:1
 returns : tie.Need-returns
-returns c = row-put _ _ _ (c .before .before .before .before .before .before .before .before .before .before .before .before .before .pre)
+returns c =
+    row-put _ _ _ (c .before .before .before .before .before .before .before .before .before .before .before .before .before .pre)
     (c .before .before .before .before .before .before .before .before .before .before .put-first .ensures)
     (c .before .before .before .before .before .before .put-second .ensures)
     (c .before .before .put-record .ensures)
