@@ -1,5 +1,6 @@
 -- What writing a state answers, and what it leaves in the output.
 use Prim.Native.Nat.{ℕ}
+use mathlib.Core.Path.{_≡_}
 use mathlib.Core.Bool.{Bool, cond, not}
 use mathlib.Core.List.{List, _++_}
 use lib.Dec.{ltb}
@@ -22,3 +23,8 @@ answer n s room =
 unfoldable pub leaves : Writing → (image output : List ℕ) → List ℕ
 leaves (Refused e) image output = output
 leaves (Wrote k) image output = image ++ drop (length image) output
+
+-- a call's promise: its answer, and every byte of the output
+pub record Written (n : ℕ) (s : State) (r : Writing) (before after : List ℕ) : Type 0 where
+  pub answers : r ≡ answer n s (length before)
+  pub output : after ≡ leaves r (encode s) before

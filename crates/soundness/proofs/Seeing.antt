@@ -23,7 +23,7 @@ use Rattle.soundness.specs.declared.Seen.{Seen}
 use Rattle.soundness.specs.Seen.{fresh, seenOne, seenAfter}
 use Rattle.soundness.proofs.Loops.{live-next, live-none}
 
-zero-of : (n : ℕ) → (n ≢ 0 → ⊥) → n ≡ 0
+pub zero-of : (n : ℕ) → (n ≢ 0 → ⊥) → n ≡ 0
 zero-of zero h = refl
 zero-of (suc n) h = absurd (h (λ e. omega arith))
 
@@ -35,7 +35,7 @@ together false false f g = refl
 
 -- ---- over a ring
 
-ring-first : (a : List ℕ) (h n : ℕ) → h < 64 → 0 < n → ring a h n ≡ getD a h 0 ∷ ring a ((h + 1) % 64) (n - 1)
+pub ring-first : (a : List ℕ) (h n : ℕ) → h < 64 → 0 < n → ring a h n ≡ getD a h 0 ∷ ring a ((h + 1) % 64) (n - 1)
 unfolding ring
 ring-first a h zero p q = absurd (omega arith)
 ring-first a h (suc n) p q =

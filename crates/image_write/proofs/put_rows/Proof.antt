@@ -1,54 +1,49 @@
+use Prim.Native.Nat.{_-_, _≤_}
+use native.Mathlib.Omega.{arith}
+use lib.ListN.{take, drop}
+use Rattle.image_write.proofs.Parts.{rows-size, rows-none, rows-room, rows-goes}
+use Rattle.image_write.specs.Bytes.{rowsBytes}
+use Rattle.image_write.proofs.Going.{Going, start, ends, place-ends}
 use Rattle.image_write.proofs.put_rows.Statement.{statement}
 use Rattle.image_write.proofs.put_rows.Tie as tie
-use Rattle.image_write.proofs.put_rows.Reads as reads
-use Rattle.image_write.proofs.put_rows.Lts as lts
-use Rattle.image_write.proofs.put_row.Reads as put-row-reads
 
 abbrev Inv-loop : tie.InvT-loop
-Inv-loop out₀ at n rows p₀ i₀ out p i = ?
+Inv-loop out₀ at n rows p₀ i₀ out p i = (i ≤ n) × Going at (rowsBytes (take n rows)) out₀ out p (rowsBytes (drop i (take n rows)))
 
 abbrev μ-loop : tie.MeasureT-loop
-μ-loop out₀ at n rows p₀ i₀ out p i = ?
+μ-loop out₀ at n rows p₀ i₀ out p i = n - i
 
--- src/lib.rt:47:5
 loop-holds : tie.Need-loop-holds Inv-loop μ-loop
-loop-holds c = ?
+loop-holds c = let s = c .before in (omega arith, start _ _ _ (omega (arith, s .pre, rows-size (s .args .t3) (s .args .n) (omega (arith, s .pre)))))
 
--- src/lib.rt:48:25
 mul-put-row : tie.Need-mul-put-row Inv-loop μ-loop
-mul-put-row c = ?
+mul-put-row c = omega arith
 
--- src/lib.rt:48:25
 array-copy-out-put-row : tie.Need-array-copy-out-put-row Inv-loop μ-loop
-array-copy-out-put-row c = ?
+array-copy-out-put-row c = omega arith
 
--- src/lib.rt:48:9
 put-row-requires : tie.Need-put-row-requires Inv-loop μ-loop
-put-row-requires c κs = ?
+put-row-requires c κs = let l = c .before .before .before in rows-room (l .before .before .args .t3) (l .before .before .args .n) (l .loop .i) (l .loop .inv .1) (c .before .before .loop-test .taken) (omega (arith, l .before .before .pre))
 
--- src/lib.rt:49:9
 add-p : tie.Need-add-p Inv-loop μ-loop
-add-p c = ?
+add-p c = omega arith
 
--- src/lib.rt:50:9
 add-i : tie.Need-add-i Inv-loop μ-loop
-add-i c = ?
+add-i c = omega arith
 
--- src/lib.rt:47:5
 loop-less : tie.Need-loop-less Inv-loop μ-loop
-loop-less c = ?
+loop-less c = omega arith
 
--- src/lib.rt:47:5
 loop-again : tie.Need-loop-again Inv-loop μ-loop
-loop-again c = ?
+loop-again c =
+    let l = c .before .before .before .before .before .before in
+    (omega arith, rows-goes (l .before .before .args .t3) (l .before .before .args .n) (l .loop .i) (l .loop .inv .1) (c .before .before .before .before .before .loop-test .taken) (omega (arith, l .before .before .pre)) (c .before .before .put-row .ensures))
 
--- src/lib.rt:40:1
 same-length : tie.Need-same-length Inv-loop μ-loop
-same-length c = ?
+same-length c = c .before .loop .inv .1 .same
 
--- src/lib.rt:40:1
 returns : tie.Need-returns Inv-loop μ-loop
-returns c = ?
+returns c = let d = rows-none _ _ _ (c .loop-test .left) in (place-ends _ _ _ (c .before .loop .inv .1) d, ends _ _ _ (c .before .loop .inv .1) d)
 
 pub put-rows-spec : {M : Type 1} → statement M
 put-rows-spec =

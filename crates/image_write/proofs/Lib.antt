@@ -1,0 +1,5 @@
+pub mod Going
+pub mod Parts
+pub mod Sections
+pub mod Whole
+pub mod Answers
