@@ -42,18 +42,39 @@ check-end-requires c κs = search needs
 returns : tie.Need-returns
 unfolding numberAt tagTest
 returns c =
-    let s = c .before .before .before .before .before .before .before .before .before .before .before .args .s .now in
-    let e = image-scan s (c .before .before .before .before .before .before .before .before .check-tasks .ensures) (rw (c .before .before .before .before .before .before .before .before .before .number-at .ensures .0) at (c .before .before .before .before .before .before .before .check-processes .ensures)) (c .before .before .before .before .before .before .check-words .ensures) (c .before .before .before .before .before .check-cells .ensures) (c .before .before .before .before .check-words2 .ensures) (c .before .before .before .check-cells2 .ensures) in
-    refused-image s (e ∙ c .before .c .given .1)
+    let args = c .before .before .before .before .before .before .before .before .before .before .before .args in
+    let check-tasks = c .before .before .before .before .before .before .before .before .check-tasks in
+    let number-at = c .before .before .before .before .before .before .before .before .before .number-at in
+    let check-processes = c .before .before .before .before .before .before .before .check-processes in
+    let check-words = c .before .before .before .before .before .before .check-words in
+    let check-cells = c .before .before .before .before .before .check-cells in
+    let check-words2 = c .before .before .before .before .check-words2 in
+    let check-cells2 = c .before .before .before .check-cells2 in
+    let at = c .before .c in
+    let s = args .s .now in
+    let e = image-scan s (check-tasks .ensures) (rw (number-at .ensures .0) at (check-processes .ensures)) (check-words .ensures)
+    (check-cells .ensures) (check-words2 .ensures) (check-cells2 .ensures) in
+    refused-image s (e ∙ at .given .1)
 
 returns-2 : tie.Need-returns-2
 unfolding numberAt tagTest
 returns-2 c =
-    let s = c .before .before .before .before .before .before .before .before .before .before .before .before .args .s .now in
-    let e = image-scan s (c .before .before .before .before .before .before .before .before .before .check-tasks .ensures) (rw (c .before .before .before .before .before .before .before .before .before .before .number-at .ensures .0) at (c .before .before .before .before .before .before .before .before .check-processes .ensures)) (c .before .before .before .before .before .before .before .check-words .ensures) (c .before .before .before .before .before .before .check-cells .ensures) (c .before .before .before .before .before .check-words2 .ensures) (c .before .before .before .before .check-cells2 .ensures) in
-    c .check-end .ensures ∙ ended-image s (e ∙ c .before .before .c2 .given .1)
+    let args = c .before .before .before .before .before .before .before .before .before .before .before .before .args in
+    let check-tasks = c .before .before .before .before .before .before .before .before .before .check-tasks in
+    let number-at = c .before .before .before .before .before .before .before .before .before .before .number-at in
+    let check-processes = c .before .before .before .before .before .before .before .before .check-processes in
+    let check-words = c .before .before .before .before .before .before .before .check-words in
+    let check-cells = c .before .before .before .before .before .before .check-cells in
+    let check-words2 = c .before .before .before .before .before .check-words2 in
+    let check-cells2 = c .before .before .before .before .check-cells2 in
+    let at = c .before .before .c2 in
+    let s = args .s .now in
+    let e = image-scan s (check-tasks .ensures) (rw (number-at .ensures .0) at (check-processes .ensures)) (check-words .ensures)
+    (check-cells .ensures) (check-words2 .ensures) (check-cells2 .ensures) in
+    c .check-end .ensures ∙ ended-image s (e ∙ at .given .1)
 
 pub check-spec : {M : Type 1} → statement M
 check-spec =
     tie.close
-    (tie.spec number-at-requires check-tasks-requires check-processes-requires check-words-requires check-cells-requires check-words-requires-2 check-cells-requires-2 enum-known-c enum-known-c-2 check-end-requires returns returns-2)
+    (tie.spec number-at-requires check-tasks-requires check-processes-requires check-words-requires check-cells-requires
+    check-words-requires-2 check-cells-requires-2 enum-known-c enum-known-c-2 check-end-requires returns returns-2)

@@ -13,7 +13,12 @@ check-number-requires : tie.Need-check-number-requires
 check-number-requires c κs = search needs
 
 returns : tie.Need-returns
-returns c = sym (number-scan (c .before .before .before .args .w) (c .before .before .before .args .e) (λ v. ltb v (c .before .before .before .args .bound)) (c .before .before .before .pre) (c .before .before .before .args .s .now) (c .before .before .before .args .c) (c .before .value .ensures .0) refl (c .check-number .ensures))
+returns c =
+    let args = c .before .before .before .args in
+    let pre = c .before .before .before .pre in
+    let value = c .before .value in
+    sym (number-scan (args .w) (args .e) (λ v. ltb v (args .bound)) (pre) (args .s .now) (args .c) (value .ensures .0) refl
+    (c .check-number .ensures))
 
 pub check-below-spec : {M : Type 1} → statement M
 check-below-spec =

@@ -19,7 +19,13 @@ check-cells-requires c κs = search needs
 
 returns : tie.Need-returns
 unfolding cellsCodec uniformSection
-returns c = c .check-cells .ensures ∙ sym (listSection-scan (λ _. cellCodec (tagTest (c .before .before .before .before .args .register))) noState (c .before .before .before .before .args .s .now) (c .before .before .before .before .args .w) (c .before .before .before .before .args .most) (c .before .before .before .before .pre) (c .before .before .before .before .args .c) (c .before .before .value .ensures .0) refl (c .before .check-number .ensures) tt)
+returns c =
+    let args = c .before .before .before .before .args in
+    let pre = c .before .before .before .before .pre in
+    let value = c .before .before .value in
+    let check-number = c .before .check-number in
+    c .check-cells .ensures ∙ sym (listSection-scan (λ _. cellCodec (tagTest (args .register))) noState (args .s .now) (args .w) (args .most) (pre)
+    (args .c) (value .ensures .0) refl (check-number .ensures) tt)
 
 pub check-cells-spec : {M : Type 1} → statement M
 check-cells-spec =

@@ -12,7 +12,8 @@ use Rattle.image_check.proofs.check_each_process.Statement.{statement}
 use Rattle.image_check.proofs.check_each_process.Tie as tie
 
 abbrev Inv-loop : tie.InvT-loop
-Inv-loop s m n c₀ before₀ k₀ c before k = Within s c × (scan (decMany (processCodec (rowsAt n s)) processTask 0 m) s c₀ ≡ scan (decMany (processCodec (rowsAt n s)) processTask before k) s c)
+Inv-loop s m n c₀ before₀ k₀ c before k = Within s c × (scan (decMany (processCodec (rowsAt n s)) processTask 0 m) s c₀ ≡ scan
+    (decMany (processCodec (rowsAt n s)) processTask before k) s c)
 
 abbrev μ-loop : tie.MeasureT-loop
 μ-loop s m n c₀ before₀ k₀ c before k = k
@@ -34,13 +35,24 @@ loop-less c = search needs
 
 loop-again : tie.Need-loop-again Inv-loop μ-loop
 loop-again c =
-    let s = c .before .before .before .before .before .args .s .now in
     let l = c .before .before .before .loop in
-    let rows = rowsAt (c .before .before .before .before .before .args .n) s in
-    (within _ s (l .c) (c .check-process .ensures), l .inv .1 ∙ many-scan (processCodec rows) processTask s (l .before) (process-spans rows (l .before)) (c .before .value .result) (l .c) (process-leads (l .before) s (l .c) (c .before .value .ensures .0)) (l .k) (c .before .before .loop-test .taken) (c .check-process .ensures))
+    let args = c .before .before .before .before .before .args in
+    let value = c .before .value in
+    let loop-test = c .before .before .loop-test in
+    let s = args .s .now in
+    let rows = rowsAt (args .n) s in (
+      within _ s (l .c) (c .check-process .ensures),
+      l .inv .1 ∙ many-scan (processCodec rows) processTask s (l .before)
+          (process-spans rows (l .before)) (value .result) (l .c) (process-leads (l .before) s (l .c) (value .ensures .0)) (l .k) (loop-test .taken)
+          (c .check-process .ensures),
+    )
 
 returns : tie.Need-returns Inv-loop μ-loop
-returns c = let l = c .before .loop in sym (l .inv .1 ∙ many-none (processCodec (rowsAt (c .before .before .before .args .n) (c .before .before .before .args .s .now))) processTask (c .before .before .before .args .s .now) (l .before) (l .c) (l .k) (c .loop-test .left) (l .inv .0))
+returns c =
+    let l = c .before .loop in
+    let args = c .before .before .before .args in
+    sym (l .inv .1 ∙ many-none (processCodec (rowsAt (args .n) (args .s .now))) processTask (args .s .now) (l .before) (l .c) (l .k)
+    (c .loop-test .left) (l .inv .0))
 
 pub check-each-process-spec : {M : Type 1} → statement M
 check-each-process-spec =

@@ -9,7 +9,9 @@ use Rattle.image_check.proofs.check_end.Statement.{statement}
 use Rattle.image_check.proofs.check_end.Tie as tie
 
 returns : tie.Need-returns
-returns c = left-over (countsIn (c .before .before .args .s .now)) (c .before .before .args .s .now) (c .before .before .args .end) (c .if1 .taken)
+returns c =
+    let args = c .before .before .args in
+    left-over (countsIn (args .s .now)) (args .s .now) (args .end) (c .if1 .taken)
 
 counts-requires : tie.Need-counts-requires
 counts-requires c κs = search needs
@@ -18,20 +20,40 @@ windows-sound-requires : tie.Need-windows-sound-requires
 windows-sound-requires c κs = omega (arith, c .counts .ensures .1)
 
 returns-2 : tie.Need-returns-2
-returns-2 c = rw (← c .before .before .counts .ensures .0) (window-past (c .before .before .counts .result) (c .before .before .before .before .before .args .s .now) (c .before .before .before .before .before .args .end) (c .before .before .before .if1 .left) (sym (c .before .windows-sound .ensures) ∙ not-true _ (c .if2 .taken)))
+returns-2 c =
+    let counts = c .before .before .counts in
+    let args = c .before .before .before .before .before .args in
+    let if1 = c .before .before .before .if1 in
+    let windows-sound = c .before .windows-sound in
+    rw (← counts .ensures .0) (window-past (counts .result) (args .s .now) (args .end) (if1 .left)
+    (sym (windows-sound .ensures) ∙ not-true _ (c .if2 .taken)))
 
 processes-sound-requires : tie.Need-processes-sound-requires
 processes-sound-requires c κs = omega (arith, c .before .before .counts .ensures .1)
 
 returns-3 : tie.Need-returns-3
 returns-3 c =
-    rw (← c .before .before .before .before .counts .ensures .0)
-    (processes-clash (c .before .before .before .before .counts .result) (c .before .before .before .before .before .before .before .args .s .now) (c .before .before .before .before .before .before .before .args .end) (c .before .before .before .before .before .if1 .left) (sym (c .before .before .before .windows-sound .ensures) ∙ not-false _ (c .before .before .if2 .left)) (sym (c .before .processes-sound .ensures) ∙ not-true _ (c .if3 .taken)))
+    let counts = c .before .before .before .before .counts in
+    let args = c .before .before .before .before .before .before .before .args in
+    let if1 = c .before .before .before .before .before .if1 in
+    let windows-sound = c .before .before .before .windows-sound in
+    let if2 = c .before .before .if2 in
+    let processes-sound = c .before .processes-sound in
+    rw (← counts .ensures .0)
+    (processes-clash (counts .result) (args .s .now) (args .end) (if1 .left) (sym (windows-sound .ensures) ∙ not-false _ (if2 .left))
+    (sym (processes-sound .ensures) ∙ not-true _ (c .if3 .taken)))
 
 returns-4 : tie.Need-returns-4
 returns-4 c =
-    rw (← c .before .before .before .before .counts .ensures .0)
-    (all-sound (c .before .before .before .before .counts .result) (c .before .before .before .before .before .before .before .args .s .now) (c .before .before .before .before .before .before .before .args .end) (c .before .before .before .before .before .if1 .left) (sym (c .before .before .before .windows-sound .ensures) ∙ not-false _ (c .before .before .if2 .left)) (sym (c .before .processes-sound .ensures) ∙ not-false _ (c .if3 .left)))
+    let counts = c .before .before .before .before .counts in
+    let args = c .before .before .before .before .before .before .before .args in
+    let if1 = c .before .before .before .before .before .if1 in
+    let windows-sound = c .before .before .before .windows-sound in
+    let if2 = c .before .before .if2 in
+    let processes-sound = c .before .processes-sound in
+    rw (← counts .ensures .0)
+    (all-sound (counts .result) (args .s .now) (args .end) (if1 .left) (sym (windows-sound .ensures) ∙ not-false _ (if2 .left))
+    (sym (processes-sound .ensures) ∙ not-false _ (c .if3 .left)))
 
 pub check-end-spec : {M : Type 1} → statement M
 check-end-spec =

@@ -39,13 +39,22 @@ returns : tie.Need-returns
 unfolding processCodec ptSound
 returns c =
     let a = c .before .before .before .before .before .before .before .before .args in
+    let check-below = c .before .before .before .before .before .before .check-below in
+    let value = c .before .before .before .before .before .value in
+    let task-listed = c .before .before .before .before .task-listed in
+    let check-number = c .before .before .before .check-number in
+    let value2 = c .before .before .value2 in
+    let psw-sound = c .before .psw-sound in
     let s = a .s .now in
     sym (via-scan toProcess fromProcess _ s (a .c)
-    ∙ then-scan (num-spans 1 ProcessField _) s (a .c) (c .before .before .before .before .before .before .check-below .ensures) _
-    ∙ field-scan 1 ProcessField (λ t. leb (a .before) t && hasRow t (rowsAt (a .n) s)) (omega arith) s (c .before .before .before .before .before .before .check-below .result) (c .before .before .before .before .before .value .ensures .0) (c .before .before .before .before .task-listed .ensures) (c .before .before .before .check-number .ensures) _
-    ∙ number-scan 8 ProcessField pswSound (omega arith) s (c .before .before .before .check-number .result) (c .before .before .value2 .ensures .0) (c .before .psw-sound .ensures) (c .check-number2 .ensures))
+    ∙ then-scan (num-spans 1 ProcessField _) s (a .c) (check-below .ensures) _
+    ∙ field-scan 1 ProcessField (λ t. leb (a .before) t && hasRow t (rowsAt (a .n) s)) (omega arith) s (check-below .result) (value .ensures .0)
+    (task-listed .ensures) (check-number .ensures) _
+    ∙ number-scan 8 ProcessField pswSound (omega arith) s (check-number .result) (value2 .ensures .0) (psw-sound .ensures)
+    (c .check-number2 .ensures))
 
 pub check-process-spec : {M : Type 1} → statement M
 check-process-spec =
     tie.close
-    (tie.spec check-below-requires value-requires task-listed-requires check-number-requires value-requires-2 psw-sound-requires check-number-requires-2 returns)
+    (tie.spec check-below-requires value-requires task-listed-requires check-number-requires value-requires-2 psw-sound-requires
+    check-number-requires-2 returns)

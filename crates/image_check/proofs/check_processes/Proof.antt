@@ -26,16 +26,27 @@ check-number-requires-2 : tie.Need-check-number-requires-2
 check-number-requires-2 c κs = search needs
 
 check-each-process-requires : tie.Need-check-each-process-requires
-check-each-process-requires c κs = (c .before .before .before .before .before .pre, within _ (c .before .before .before .before .before .args .s .now) (c .before .before .check-number .result) (c .check-number2 .ensures))
+check-each-process-requires c κs =
+    let pre = c .before .before .before .before .before .pre in
+    let args = c .before .before .before .before .before .args in
+    let check-number = c .before .before .check-number in
+    (pre, within _ (args .s .now) (check-number .result) (c .check-number2 .ensures))
 
 returns : tie.Need-returns
 unfolding processesCodec flagSound
 returns c =
-    let s = c .before .before .before .before .before .before .args .s .now in
-    let rows = rowsAt (c .before .before .before .before .before .before .args .n) s in
+    let args = c .before .before .before .before .before .before .args in
+    let value = c .before .before .before .before .value in
+    let check-number = c .before .before .before .check-number in
+    let value2 = c .before .before .value2 in
+    let check-number2 = c .before .check-number2 in
+    let s = args .s .now in
+    let rows = rowsAt (args .n) s in
     c .check-each-process .ensures
-    ∙ sym (section-scan (processCodec rows) processTask s 1 64 (omega arith) (c .before .before .before .before .before .before .args .c) (c .before .before .before .before .value .ensures .0) refl (c .before .before .before .check-number .ensures) (num-spans 1 ProcessField flagSound) 0
-    ∙ ap (scan (decMany (processCodec rows) processTask 0 (c .before .before .before .before .value .result)) s) (number-scan 1 ProcessField flagSound (omega arith) s (c .before .before .before .check-number .result) (c .before .before .value2 .ensures .0) refl (c .before .check-number2 .ensures)))
+    ∙ sym (section-scan (processCodec rows) processTask s 1 64 (omega arith) (args .c) (value .ensures .0) refl (check-number .ensures)
+    (num-spans 1 ProcessField flagSound) 0
+    ∙ ap (scan (decMany (processCodec rows) processTask 0 (value .result)) s) (number-scan 1 ProcessField flagSound (omega arith) s
+    (check-number .result) (value2 .ensures .0) refl (check-number2 .ensures)))
 
 pub check-processes-spec : {M : Type 1} → statement M
 check-processes-spec =

@@ -40,11 +40,23 @@ check-trap-requires c κs = search needs
 
 returns : tie.Need-returns
 returns c =
+    let args = c .before .before .before .before .before .before .before .before .before .before .before .before .args in
+    let value = c .before .before .before .before .before .before .before .before .before .before .value in
+    let task-sound = c .before .before .before .before .before .before .before .before .before .task-sound in
+    let check-number = c .before .before .before .before .before .before .before .before .check-number in
+    let check-below = c .before .before .before .before .before .before .before .check-below in
+    let check-below2 = c .before .before .before .before .before .before .check-below2 in
+    let check-below3 = c .before .before .before .before .before .check-below3 in
+    let check-below4 = c .before .before .before .before .check-below4 in
+    let check-below5 = c .before .before .before .check-below5 in
+    let check-below6 = c .before .before .check-below6 in
+    let check-below7 = c .before .check-below7 in
     c .check-trap .ensures
-    ∙ sym (row-scan (c .before .before .before .before .before .before .before .before .before .before .before .before .args .before) (c .before .before .before .before .before .before .before .before .before .before .before .before .args .s .now) (c .before .before .before .before .before .before .before .before .before .before .before .before .args .c) (c .before .before .before .before .before .before .before .before .before .before .value .ensures .0) (c .before .before .before .before .before .before .before .before .before .task-sound .ensures) (c .before .before .before .before .before .before .before .before .check-number .ensures) (c .before .before .before .before .before .before .before .check-below .ensures)
-    (c .before .before .before .before .before .before .check-below2 .ensures) (c .before .before .before .before .before .check-below3 .ensures) (c .before .before .before .before .check-below4 .ensures) (c .before .before .before .check-below5 .ensures) (c .before .before .check-below6 .ensures) (c .before .check-below7 .ensures))
+    ∙ sym (row-scan (args .before) (args .s .now) (args .c) (value .ensures .0) (task-sound .ensures) (check-number .ensures) (check-below .ensures)
+    (check-below2 .ensures) (check-below3 .ensures) (check-below4 .ensures) (check-below5 .ensures) (check-below6 .ensures) (check-below7 .ensures))
 
 pub check-row-spec : {M : Type 1} → statement M
 check-row-spec =
     tie.close
-    (tie.spec value-requires task-sound-requires check-number-requires check-below-requires check-below-requires-2 check-below-requires-3 check-below-requires-4 check-below-requires-5 check-below-requires-6 check-below-requires-7 check-trap-requires returns)
+    (tie.spec value-requires task-sound-requires check-number-requires check-below-requires check-below-requires-2 check-below-requires-3
+    check-below-requires-4 check-below-requires-5 check-below-requires-6 check-below-requires-7 check-trap-requires returns)

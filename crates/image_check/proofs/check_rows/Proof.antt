@@ -33,12 +33,21 @@ loop-less c = search needs
 
 loop-again : tie.Need-loop-again Inv-loop μ-loop
 loop-again c =
-    let s = c .before .before .before .before .before .args .s .now in
     let l = c .before .before .before .loop in
-    (within _ s (l .c) (c .check-row .ensures), l .inv .1 ∙ many-scan rowCodec rowTask s (l .before) (row-spans (l .before)) (c .before .value .result) (l .c) (row-leads (l .before) s (l .c) (c .before .value .ensures .0)) (l .k) (c .before .before .loop-test .taken) (c .check-row .ensures))
+    let args = c .before .before .before .before .before .args in
+    let value = c .before .value in
+    let loop-test = c .before .before .loop-test in
+    let s = args .s .now in (
+      within _ s (l .c) (c .check-row .ensures),
+      l .inv .1 ∙ many-scan rowCodec rowTask s (l .before) (row-spans (l .before)) (value .result) (l .c)
+          (row-leads (l .before) s (l .c) (value .ensures .0)) (l .k) (loop-test .taken) (c .check-row .ensures),
+    )
 
 returns : tie.Need-returns Inv-loop μ-loop
-returns c = let l = c .before .loop in sym (l .inv .1 ∙ many-none rowCodec rowTask (c .before .before .before .args .s .now) (l .before) (l .c) (l .k) (c .loop-test .left) (l .inv .0))
+returns c =
+    let l = c .before .loop in
+    let args = c .before .before .before .args in
+    sym (l .inv .1 ∙ many-none rowCodec rowTask (args .s .now) (l .before) (l .c) (l .k) (c .loop-test .left) (l .inv .0))
 
 pub check-rows-spec : {M : Type 1} → statement M
 check-rows-spec =

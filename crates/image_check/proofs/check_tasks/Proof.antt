@@ -18,7 +18,12 @@ check-rows-requires c κs = within _ (c .before .before .before .args .s .now) (
 
 returns : tie.Need-returns
 unfolding tasksCodec
-returns c = c .check-rows .ensures ∙ sym (listSection-scan rowCodec rowTask (c .before .before .before .before .args .s .now) 1 7 (omega arith) (c .before .before .before .before .args .c) (c .before .before .value .ensures .0) refl (c .before .check-number .ensures) 0)
+returns c =
+    let args = c .before .before .before .before .args in
+    let value = c .before .before .value in
+    let check-number = c .before .check-number in
+    c .check-rows .ensures ∙ sym (listSection-scan rowCodec rowTask (args .s .now) 1 7 (omega arith) (args .c) (value .ensures .0) refl
+    (check-number .ensures) 0)
 
 pub check-tasks-spec : {M : Type 1} → statement M
 check-tasks-spec =

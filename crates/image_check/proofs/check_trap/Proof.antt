@@ -30,11 +30,19 @@ check-number-requires-2 c κs = search needs
 returns : tie.Need-returns
 unfolding trapCodec
 returns c =
-    let s = c .before .before .before .before .before .before .before .args .s .now in
-    sym (field-scan 1 TaskField kindSound (omega arith) s (c .before .before .before .before .before .before .before .args .c) (c .before .before .before .before .before .value .ensures .0) (c .before .before .before .before .kind-sound .ensures) (c .before .before .before .check-number .ensures) _
-    ∙ number-scan 8 TaskField (recordSound (c .before .before .before .before .before .value .result)) (omega arith) s (c .before .before .before .check-number .result) (c .before .before .value2 .ensures .0) (c .before .record-sound .ensures) (c .check-number2 .ensures))
+    let args = c .before .before .before .before .before .before .before .args in
+    let value = c .before .before .before .before .before .value in
+    let kind-sound = c .before .before .before .before .kind-sound in
+    let check-number = c .before .before .before .check-number in
+    let value2 = c .before .before .value2 in
+    let record-sound = c .before .record-sound in
+    let s = args .s .now in
+    sym (field-scan 1 TaskField kindSound (omega arith) s (args .c) (value .ensures .0) (kind-sound .ensures) (check-number .ensures) _
+    ∙ number-scan 8 TaskField (recordSound (value .result)) (omega arith) s (check-number .result) (value2 .ensures .0) (record-sound .ensures)
+    (c .check-number2 .ensures))
 
 pub check-trap-spec : {M : Type 1} → statement M
 check-trap-spec =
     tie.close
-    (tie.spec value-requires kind-sound-requires check-number-requires value-requires-2 record-sound-requires check-number-requires-2 returns)
+    (tie.spec value-requires kind-sound-requires check-number-requires value-requires-2 record-sound-requires check-number-requires-2
+    returns)

@@ -18,7 +18,13 @@ check-words-requires c κs = search needs
 
 returns : tie.Need-returns
 unfolding wordsCodec uniformSection
-returns c = c .check-words .ensures ∙ sym (listSection-scan (λ _. wordCodec) noState (c .before .before .before .before .args .s .now) (c .before .before .before .before .args .w) (c .before .before .before .before .args .most) (c .before .before .before .before .pre) (c .before .before .before .before .args .c) (c .before .before .value .ensures .0) refl (c .before .check-number .ensures) tt)
+returns c =
+    let args = c .before .before .before .before .args in
+    let pre = c .before .before .before .before .pre in
+    let value = c .before .before .value in
+    let check-number = c .before .check-number in
+    c .check-words .ensures ∙ sym (listSection-scan (λ _. wordCodec) noState (args .s .now) (args .w) (args .most) (pre) (args .c)
+    (value .ensures .0) refl (check-number .ensures) tt)
 
 pub check-words-spec : {M : Type 1} → statement M
 check-words-spec =

@@ -68,12 +68,18 @@ number-at-requires-6 c κs = search needs
 
 returns : tie.Need-returns
 unfolding countsIn numberAt
-returns c = (
-  simp (c .number-at6 .ensures .0, c .before .number-at5 .ensures .0, c .before .before .number-at4 .ensures .0, c .before .before .before .number-at3 .ensures .0, c .before .before .before .before .number-at2 .ensures .0, c .before .before .before .before .before .number-at .ensures .0),
-  (omega (arith, c .before .before .before .before .before .number-at .ensures .1), omega (arith, c .before .before .before .before .number-at2 .ensures .1)),
-)
+returns c =
+    let number-at5 = c .before .number-at5 in
+    let number-at4 = c .before .before .number-at4 in
+    let number-at3 = c .before .before .before .number-at3 in
+    let number-at2 = c .before .before .before .before .number-at2 in
+    let number-at = c .before .before .before .before .before .number-at in (
+      simp (c .number-at6 .ensures .0, number-at5 .ensures .0, number-at4 .ensures .0, number-at3 .ensures .0, number-at2 .ensures .0, number-at .ensures .0),
+      (omega (arith, number-at .ensures .1), omega (arith, number-at2 .ensures .1)),
+    )
 
 pub counts-spec : {M : Type 1} → statement M
 counts-spec =
     tie.close
-    (tie.spec number-at-requires mul-at add-at number-at-requires-2 mul-at-2 add-at-2 add-at-3 number-at-requires-3 mul-at-3 add-at-4 add-at-5 number-at-requires-4 mul-at-4 add-at-6 add-at-7 number-at-requires-5 mul-at-5 add-at-8 add-at-9 number-at-requires-6 returns)
+    (tie.spec number-at-requires mul-at add-at number-at-requires-2 mul-at-2 add-at-2 add-at-3 number-at-requires-3 mul-at-3 add-at-4
+    add-at-5 number-at-requires-4 mul-at-4 add-at-6 add-at-7 number-at-requires-5 mul-at-5 add-at-8 add-at-9 number-at-requires-6 returns)

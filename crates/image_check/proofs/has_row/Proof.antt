@@ -25,7 +25,12 @@ number-at-requires c κs = search needs
 
 returns : tie.Need-returns Inv-loop μ-loop
 unfolding numberAt
-returns c = sym (c .before .before .before .loop .inv .1 ∙ row-found (c .before .before .before .before .before .args .s .now) (c .before .before .before .loop .p) (c .before .before .before .loop .k) (c .before .before .loop-test .taken) (c .before .before .before .before .before .args .t) (sym (c .before .number-at .ensures .0) ∙ c .if1 .taken))
+returns c =
+    let loop = c .before .before .before .loop in
+    let args = c .before .before .before .before .before .args in
+    let loop-test = c .before .before .loop-test in
+    let number-at = c .before .number-at in
+    sym (loop .inv .1 ∙ row-found (args .s .now) (loop .p) (loop .k) (loop-test .taken) (args .t) (sym (number-at .ensures .0) ∙ c .if1 .taken))
 
 add-p : tie.Need-add-p Inv-loop μ-loop
 add-p c = search needs
@@ -38,10 +43,21 @@ loop-less c = search needs
 
 loop-again : tie.Need-loop-again Inv-loop μ-loop
 unfolding numberAt
-loop-again c = (omega (arith, c .before .before .before .loop .inv .0, c .before .before .loop-test .taken), c .before .before .before .loop .inv .1 ∙ row-next (c .before .before .before .before .before .args .s .now) (c .before .before .before .loop .p) (c .before .before .before .loop .k) (c .before .before .loop-test .taken) (c .before .before .before .before .before .args .t) (λ e. c .if1 .left (c .before .number-at .ensures .0 ∙ e)))
+loop-again c =
+    let loop = c .before .before .before .loop in
+    let loop-test = c .before .before .loop-test in
+    let args = c .before .before .before .before .before .args in
+    let number-at = c .before .number-at in (
+      omega (arith, loop .inv .0, loop-test .taken),
+      loop .inv .1 ∙ row-next (args .s .now) (loop .p) (loop .k) (loop-test .taken) (args .t)
+          (λ e. c .if1 .left (number-at .ensures .0 ∙ e)),
+    )
 
 returns-2 : tie.Need-returns-2 Inv-loop μ-loop
-returns-2 c = sym (c .before .loop .inv .1 ∙ row-none (c .before .before .before .args .s .now) (c .before .loop .p) (c .before .loop .k) (c .loop-test .left) (c .before .before .before .args .t))
+returns-2 c =
+    let loop = c .before .loop in
+    let args = c .before .before .before .args in
+    sym (loop .inv .1 ∙ row-none (args .s .now) (loop .p) (loop .k) (c .loop-test .left) (args .t))
 
 pub has-row-spec : {M : Type 1} → statement M
 has-row-spec =

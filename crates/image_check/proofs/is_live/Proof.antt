@@ -26,7 +26,13 @@ number-at-requires c κs = search needs
 
 returns : tie.Need-returns Inv-loop μ-loop
 unfolding numberAt
-returns c = sym (ap (λ (m : ℕ). not (eqb m 0)) (c .before .before .before .loop .inv .1) ∙ live-found (c .before .before .before .before .before .args .s .now) (c .before .before .before .loop .p) (c .before .before .before .loop .k) (c .before .before .loop-test .taken) (c .before .before .before .before .before .args .x) (sym (c .before .number-at .ensures .0) ∙ c .if1 .taken))
+returns c =
+    let loop = c .before .before .before .loop in
+    let args = c .before .before .before .before .before .args in
+    let loop-test = c .before .before .loop-test in
+    let number-at = c .before .number-at in
+    sym (ap (λ (m : ℕ). not (eqb m 0)) (loop .inv .1) ∙ live-found (args .s .now) (loop .p) (loop .k) (loop-test .taken) (args .x)
+    (sym (number-at .ensures .0) ∙ c .if1 .taken))
 
 add-p : tie.Need-add-p Inv-loop μ-loop
 add-p c = search needs
@@ -39,10 +45,21 @@ loop-less c = search needs
 
 loop-again : tie.Need-loop-again Inv-loop μ-loop
 unfolding numberAt
-loop-again c = (omega (arith, c .before .before .before .loop .inv .0, c .before .before .loop-test .taken), c .before .before .before .loop .inv .1 ∙ live-next (c .before .before .before .before .before .args .s .now) (c .before .before .before .loop .p) (c .before .before .before .loop .k) (c .before .before .loop-test .taken) (c .before .before .before .before .before .args .x) (λ e. c .if1 .left (c .before .number-at .ensures .0 ∙ e)))
+loop-again c =
+    let loop = c .before .before .before .loop in
+    let loop-test = c .before .before .loop-test in
+    let args = c .before .before .before .before .before .args in
+    let number-at = c .before .number-at in (
+      omega (arith, loop .inv .0, loop-test .taken),
+      loop .inv .1 ∙ live-next (args .s .now) (loop .p) (loop .k) (loop-test .taken) (args .x)
+          (λ e. c .if1 .left (number-at .ensures .0 ∙ e)),
+    )
 
 returns-2 : tie.Need-returns-2 Inv-loop μ-loop
-returns-2 c = sym (ap (λ (m : ℕ). not (eqb m 0)) (c .before .loop .inv .1 ∙ live-none (c .before .before .before .args .s .now) (c .before .loop .p) (c .before .loop .k) (c .loop-test .left) (c .before .before .before .args .x)))
+returns-2 c =
+    let loop = c .before .loop in
+    let args = c .before .before .before .args in
+    sym (ap (λ (m : ℕ). not (eqb m 0)) (loop .inv .1 ∙ live-none (args .s .now) (loop .p) (loop .k) (c .loop-test .left) (args .x)))
 
 pub is-live-spec : {M : Type 1} → statement M
 is-live-spec =

@@ -9,7 +9,8 @@ use Rattle.image_check.proofs.kind_sound.Tie as tie
 returns : tie.Need-returns
 unfolding kindSound kinds kindOf member
 returns c =
-    ⊎-elim (λ e. rw e) (⊎-elim (λ e. rw e) (⊎-elim (λ e. rw e) (⊎-elim (λ e. rw e) (⊎-elim (λ e. rw e) (⊎-elim (λ e. rw e) (⊎-elim (λ e. rw e) (λ e. rw e))))))) (c .match .keys1)
+    ⊎-elim (λ e. rw e) (⊎-elim (λ e. rw e) (⊎-elim (λ e. rw e)
+    (⊎-elim (λ e. rw e) (⊎-elim (λ e. rw e) (⊎-elim (λ e. rw e) (⊎-elim (λ e. rw e) (λ e. rw e))))))) (c .match .keys1)
 
 returns-2 : tie.Need-returns-2
 unfolding kindSound kinds kindOf member

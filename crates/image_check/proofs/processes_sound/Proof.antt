@@ -31,7 +31,11 @@ room-sound-requires c κs = search needs
 
 returns-2 : tie.Need-returns-2
 unfolding numberAt
-returns-2 c = simp (← c .before .before .before .pts-distinct .ensures, not-false (c .before .before .before .pts-distinct .result) (c .before .before .if1 .left), c .room-sound .ensures, c .before .number-at .ensures .0)
+returns-2 c =
+    let pts-distinct = c .before .before .before .pts-distinct in
+    let if1 = c .before .before .if1 in
+    let number-at = c .before .number-at in
+    simp (← pts-distinct .ensures, not-false (pts-distinct .result) (if1 .left), c .room-sound .ensures, number-at .ensures .0)
 
 pub processes-sound-spec : {M : Type 1} → statement M
 processes-sound-spec =

@@ -39,9 +39,14 @@ returns : tie.Need-returns Inv-loop μ-loop
 unfolding numberAt
 returns c =
     let l = c .before .before .before .before .loop in
-    let s = c .before .before .before .before .before .before .args .s .now in
-    let t : eqb (occ (fieldAt 1 (l .p) s) (ptsAt (l .k - 1) (l .p + 10) s)) 0 ≡ false = not-true _ (rw (c .before .before .number-at .ensures .0) at (sym (c .before .is-live .ensures) ∙ c .if1 .taken)) in
-    sym (l .inv .1 ∙ distinct-next s (l .p) (l .k) (c .before .before .before .loop-test .taken) ∙ rw t)
+    let args = c .before .before .before .before .before .before .args in
+    let number-at = c .before .before .number-at in
+    let is-live = c .before .is-live in
+    let loop-test = c .before .before .before .loop-test in
+    let s = args .s .now in
+    let t : eqb (occ (fieldAt 1 (l .p) s) (ptsAt (l .k - 1) (l .p + 10) s)) 0 ≡ false = not-true _
+    (rw (number-at .ensures .0) at (sym (is-live .ensures) ∙ c .if1 .taken)) in
+    sym (l .inv .1 ∙ distinct-next s (l .p) (l .k) (loop-test .taken) ∙ rw t)
 
 add-p : tie.Need-add-p Inv-loop μ-loop
 add-p c = search needs
@@ -53,12 +58,20 @@ loop-again : tie.Need-loop-again Inv-loop μ-loop
 unfolding numberAt
 loop-again c =
     let l = c .before .before .before .before .loop in
-    let s = c .before .before .before .before .before .before .args .s .now in
-    let t : eqb (occ (fieldAt 1 (l .p) s) (ptsAt (l .k - 1) (l .p + 10) s)) 0 ≡ true = not-false _ (rw (c .before .before .number-at .ensures .0) at (sym (c .before .is-live .ensures) ∙ c .if1 .left)) in
-    (omega (arith, l .inv .0, c .before .before .before .loop-test .taken), l .inv .1 ∙ distinct-next s (l .p) (l .k) (c .before .before .before .loop-test .taken) ∙ rw t)
+    let args = c .before .before .before .before .before .before .args in
+    let number-at = c .before .before .number-at in
+    let is-live = c .before .is-live in
+    let loop-test = c .before .before .before .loop-test in
+    let s = args .s .now in
+    let t : eqb (occ (fieldAt 1 (l .p) s) (ptsAt (l .k - 1) (l .p + 10) s)) 0 ≡ true = not-false _
+    (rw (number-at .ensures .0) at (sym (is-live .ensures) ∙ c .if1 .left)) in
+    (omega (arith, l .inv .0, loop-test .taken), l .inv .1 ∙ distinct-next s (l .p) (l .k) (loop-test .taken) ∙ rw t)
 
 returns-2 : tie.Need-returns-2 Inv-loop μ-loop
-returns-2 c = sym (c .before .loop .inv .1 ∙ distinct-none (c .before .before .before .args .s .now) (c .before .loop .p) (c .before .loop .k) (c .loop-test .left))
+returns-2 c =
+    let loop = c .before .loop in
+    let args = c .before .before .before .args in
+    sym (loop .inv .1 ∙ distinct-none (args .s .now) (loop .p) (loop .k) (c .loop-test .left))
 
 pub pts-distinct-spec : {M : Type 1} → statement M
 pts-distinct-spec =

@@ -66,9 +66,20 @@ value-requires-10 c κs = search needs
 
 returns : tie.Need-returns
 unfolding rowAt valueAt numberAt
-returns c = simp (c .before .before .before .before .before .before .before .before .before .value .ensures .0, c .before .before .before .before .before .before .before .before .value2 .ensures .0, c .before .before .before .before .before .before .before .value3 .ensures .0, c .before .before .before .before .before .before .value4 .ensures .0, c .before .before .before .before .before .value5 .ensures .0, c .before .before .before .before .value6 .ensures .0, c .before .before .before .value7 .ensures .0, c .before .before .value8 .ensures .0, c .before .value9 .ensures .0, c .value10 .ensures .0, add-zero)
+returns c =
+    let value = c .before .before .before .before .before .before .before .before .before .value in
+    let value2 = c .before .before .before .before .before .before .before .before .value2 in
+    let value3 = c .before .before .before .before .before .before .before .value3 in
+    let value4 = c .before .before .before .before .before .before .value4 in
+    let value5 = c .before .before .before .before .before .value5 in
+    let value6 = c .before .before .before .before .value6 in
+    let value7 = c .before .before .before .value7 in
+    let value8 = c .before .before .value8 in
+    let value9 = c .before .value9 in
+    simp (value .ensures .0, value2 .ensures .0, value3 .ensures .0, value4 .ensures .0, value5 .ensures .0, value6 .ensures .0, value7 .ensures .0, value8 .ensures .0, value9 .ensures .0, c .value10 .ensures .0, add-zero)
 
 pub row-at-spec : {M : Type 1} → statement M
 row-at-spec =
     tie.close
-    (tie.spec value-requires cast-t5 value-requires-2 cast-t7 value-requires-3 cast-t9 value-requires-4 cast-t11 value-requires-5 cast-t13 value-requires-6 cast-t15 value-requires-7 cast-t17 value-requires-8 cast-t19 value-requires-9 cast-t21 value-requires-10 returns)
+    (tie.spec value-requires cast-t5 value-requires-2 cast-t7 value-requires-3 cast-t9 value-requires-4 cast-t11 value-requires-5 cast-t13
+    value-requires-6 cast-t15 value-requires-7 cast-t17 value-requires-8 cast-t19 value-requires-9 cast-t21 value-requires-10 returns)

@@ -13,7 +13,10 @@ ends-in-requires c κs = search needs
 
 returns : tie.Need-returns
 unfolding rowEndsIn
-returns c = simp (← c .before .before .register-window .ensures, ← c .before .ends-in .ensures, not-true (c .before .ends-in .result) (c .if1 .taken))
+returns c =
+    let register-window = c .before .before .register-window in
+    let ends-in = c .before .ends-in in
+    simp (← register-window .ensures, ← ends-in .ensures, not-true (ends-in .result) (c .if1 .taken))
 
 program-window-requires : tie.Need-program-window-requires
 program-window-requires c κs = search needs
@@ -24,7 +27,20 @@ ends-in-requires-2 c κs = search needs
 returns-2 : tie.Need-returns-2
 unfolding rowEndsIn
 returns-2 c =
-    simp (← c .before .before .before .before .before .register-window .ensures, ← c .before .before .before .before .ends-in .ensures, not-false (c .before .before .before .before .ends-in .result) (c .before .before .before .if1 .left), ← c .before .before .program-window .ensures, ← c .before .ends-in2 .ensures, not-true (c .before .ends-in2 .result) (c .if2 .taken))
+    let register-window = c .before .before .before .before .before .register-window in
+    let ends-in = c .before .before .before .before .ends-in in
+    let if1 = c .before .before .before .if1 in
+    let program-window = c .before .before .program-window in
+    let ends-in2 = c .before .ends-in2 in
+    simp (
+      ← register-window .ensures,
+      ← ends-in .ensures,
+      not-false (ends-in .result)
+          (if1 .left),
+      ← program-window .ensures,
+      ← ends-in2 .ensures,
+      not-true (ends-in2 .result) (c .if2 .taken),
+    )
 
 data-word-window-requires : tie.Need-data-word-window-requires
 data-word-window-requires c κs = search needs
@@ -35,9 +51,28 @@ ends-in-requires-3 c κs = search needs
 returns-3 : tie.Need-returns-3
 unfolding rowEndsIn
 returns-3 c =
-    simp (← c .before .before .before .before .before .before .before .register-window .ensures, ← c .before .before .before .before .before .before .ends-in .ensures, not-false (c .before .before .before .before .before .before .ends-in .result) (c .before .before .before .before .before .if1 .left), ← c .before .before .before .before .program-window .ensures, ← c .before .before .before .ends-in2 .ensures, not-false (c .before .before .before .ends-in2 .result) (c .before .before .if2 .left), ← c .before .data-word-window .ensures, ← c .ends-in3 .ensures)
+    let register-window = c .before .before .before .before .before .before .before .register-window in
+    let ends-in = c .before .before .before .before .before .before .ends-in in
+    let if1 = c .before .before .before .before .before .if1 in
+    let program-window = c .before .before .before .before .program-window in
+    let ends-in2 = c .before .before .before .ends-in2 in
+    let if2 = c .before .before .if2 in
+    let data-word-window = c .before .data-word-window in
+    simp (
+      ← register-window .ensures,
+      ← ends-in .ensures,
+      not-false (ends-in .result)
+          (if1 .left),
+      ← program-window .ensures,
+      ← ends-in2 .ensures,
+      not-false (ends-in2 .result)
+          (if2 .left),
+      ← data-word-window .ensures,
+      ← c .ends-in3 .ensures,
+    )
 
 pub row-ends-in-spec : {M : Type 1} → statement M
 row-ends-in-spec =
     tie.close
-    (tie.spec register-window-requires ends-in-requires returns program-window-requires ends-in-requires-2 returns-2 data-word-window-requires ends-in-requires-3 returns-3)
+    (tie.spec register-window-requires ends-in-requires returns program-window-requires ends-in-requires-2 returns-2
+    data-word-window-requires ends-in-requires-3 returns-3)

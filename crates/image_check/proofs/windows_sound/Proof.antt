@@ -12,7 +12,8 @@ use Rattle.image_check.proofs.windows_sound.Statement.{statement}
 use Rattle.image_check.proofs.windows_sound.Tie as tie
 
 abbrev Inv-loop : tie.InvT-loop
-Inv-loop s n registers program data-words p₀ k₀ p k = (p + 28 * k ≤ 7141) × (windowsSound registers program data-words (rowsAt n s) ≡ windowsSound registers program data-words (rowsFrom k p s))
+Inv-loop s n registers program data-words p₀ k₀ p k = (p + 28 * k ≤ 7141) × (windowsSound registers program data-words
+    (rowsAt n s) ≡ windowsSound registers program data-words (rowsFrom k p s))
 
 abbrev μ-loop : tie.MeasureT-loop
 μ-loop s n registers program data-words p₀ k₀ p k = k
@@ -31,8 +32,12 @@ returns : tie.Need-returns Inv-loop μ-loop
 returns c =
     let l = c .before .before .before .before .loop in
     let a = c .before .before .before .before .before .before .args in
-    let t : rowEndsIn (a .registers) (a .program) (a .data-words) (rowAt (l .p) (a .s .now)) ≡ false = rw (c .before .before .row-at .ensures) at (sym (c .before .row-ends-in .ensures) ∙ not-true _ (c .if1 .taken)) in
-    sym (l .inv .1 ∙ windows-next (a .s .now) (l .p) (l .k) (c .before .before .before .loop-test .taken) _ _ _ ∙ rw t)
+    let row-at = c .before .before .row-at in
+    let row-ends-in = c .before .row-ends-in in
+    let loop-test = c .before .before .before .loop-test in
+    let t : rowEndsIn (a .registers) (a .program) (a .data-words) (rowAt (l .p) (a .s .now)) ≡ false = rw (row-at .ensures) at
+    (sym (row-ends-in .ensures) ∙ not-true _ (c .if1 .taken)) in
+    sym (l .inv .1 ∙ windows-next (a .s .now) (l .p) (l .k) (loop-test .taken) _ _ _ ∙ rw t)
 
 add-p : tie.Need-add-p Inv-loop μ-loop
 add-p c = search needs
@@ -47,11 +52,18 @@ loop-again : tie.Need-loop-again Inv-loop μ-loop
 loop-again c =
     let l = c .before .before .before .before .loop in
     let a = c .before .before .before .before .before .before .args in
-    let t : rowEndsIn (a .registers) (a .program) (a .data-words) (rowAt (l .p) (a .s .now)) ≡ true = rw (c .before .before .row-at .ensures) at (sym (c .before .row-ends-in .ensures) ∙ not-false _ (c .if1 .left)) in
-    (omega (arith, l .inv .0, c .before .before .before .loop-test .taken), l .inv .1 ∙ windows-next (a .s .now) (l .p) (l .k) (c .before .before .before .loop-test .taken) _ _ _ ∙ rw t)
+    let row-at = c .before .before .row-at in
+    let row-ends-in = c .before .row-ends-in in
+    let loop-test = c .before .before .before .loop-test in
+    let t : rowEndsIn (a .registers) (a .program) (a .data-words) (rowAt (l .p) (a .s .now)) ≡ true = rw (row-at .ensures) at
+    (sym (row-ends-in .ensures) ∙ not-false _ (c .if1 .left)) in
+    (omega (arith, l .inv .0, loop-test .taken), l .inv .1 ∙ windows-next (a .s .now) (l .p) (l .k) (loop-test .taken) _ _ _ ∙ rw t)
 
 returns-2 : tie.Need-returns-2 Inv-loop μ-loop
-returns-2 c = sym (c .before .loop .inv .1 ∙ windows-none (c .before .before .before .args .s .now) (c .before .loop .p) (c .before .loop .k) (c .loop-test .left) _ _ _)
+returns-2 c =
+    let loop = c .before .loop in
+    let args = c .before .before .before .args in
+    sym (loop .inv .1 ∙ windows-none (args .s .now) (loop .p) (loop .k) (c .loop-test .left) _ _ _)
 
 pub windows-sound-spec : {M : Type 1} → statement M
 windows-sound-spec =

@@ -13,7 +13,8 @@ use Rattle.image_words.proofs.cell_tags_ok.Statement.{statement}
 use Rattle.image_words.proofs.cell_tags_ok.Tie as tie
 
 abbrev Inv-loop : tie.InvT-loop
-Inv-loop s at n register p₀ k₀ good₀ p k good = (9 * k ≤ (length s - p) + 8) × ((good && every (tagTest register) (tagsAt k p s)) ≡ every (tagTest register) (tagsAt n at s))
+Inv-loop s at n register p₀ k₀ good₀ p k good = (9 * k ≤ (length s - p) + 8) × ((good && every (tagTest register) (tagsAt k p s)) ≡ every
+    (tagTest register) (tagsAt n at s))
 
 abbrev μ-loop : tie.MeasureT-loop
 μ-loop s at n register p₀ k₀ good₀ p k good = k
@@ -39,7 +40,12 @@ loop-less c = search needs
 loop-again : tie.Need-loop-again Inv-loop μ-loop
 loop-again c =
     let l = c .before .before .before .loop in
-    (omega (arith, l .inv .0, c .before .before .loop-test .taken), rw (c .still .ensures) (tags-step (tagTest (c .before .before .before .before .before .args .register)) (c .before .before .before .before .before .args .s .now) (l .p) (l .k) (l .good) (c .before .before .loop-test .taken) ∙ l .inv .1))
+    let loop-test = c .before .before .loop-test in
+    let args = c .before .before .before .before .before .args in (
+      omega (arith, l .inv .0, loop-test .taken),
+      rw (c .still .ensures) (tags-step (tagTest (args .register)) (args .s .now) (l .p) (l .k) (l .good)
+          (loop-test .taken) ∙ l .inv .1),
+    )
 
 returns : tie.Need-returns Inv-loop μ-loop
 returns c = sym (tags-end _ _ _ _ _ (c .loop-test .left)) ∙ c .before .loop .inv .1

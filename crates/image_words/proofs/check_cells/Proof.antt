@@ -30,16 +30,26 @@ cell-tags-ok-requires c κs = search needs
 returns-2 : tie.Need-returns-2
 returns-2 c =
     let a = c .before .before .before .before .before .before .before .before .args in
-    let p = c .before .before .before .before .before .c .given .0 .0 in
-    at-place _ (a .s .now) (a .c) p (c .before .before .before .before .before .c .given .1)
-    (cells-short (tagTest (a .register)) (a .s .now) (a .n) p (c .before .before .before .left-from .ensures) (omega (arith, c .before .before .if1 .taken)) (c .before .cell-tags-ok .ensures) ∙ rw (not-true (c .before .cell-tags-ok .result) (c .if2 .taken)))
+    let at = c .before .before .before .before .before .c in
+    let left-from = c .before .before .before .left-from in
+    let if1 = c .before .before .if1 in
+    let cell-tags-ok = c .before .cell-tags-ok in
+    let p = at .given .0 .0 in
+    at-place _ (a .s .now) (a .c) p (at .given .1)
+    (cells-short (tagTest (a .register)) (a .s .now) (a .n) p (left-from .ensures) (omega (arith, if1 .taken)) (cell-tags-ok .ensures)
+    ∙ rw (not-true (cell-tags-ok .result) (c .if2 .taken)))
 
 returns-3 : tie.Need-returns-3
 returns-3 c =
     let a = c .before .before .before .before .before .before .before .before .args in
-    let p = c .before .before .before .before .before .c .given .0 .0 in
-    at-place _ (a .s .now) (a .c) p (c .before .before .before .before .before .c .given .1)
-    (cells-short (tagTest (a .register)) (a .s .now) (a .n) p (c .before .before .before .left-from .ensures) (omega (arith, c .before .before .if1 .taken)) (c .before .cell-tags-ok .ensures) ∙ rw (not-false (c .before .cell-tags-ok .result) (c .if2 .left)))
+    let at = c .before .before .before .before .before .c in
+    let left-from = c .before .before .before .left-from in
+    let if1 = c .before .before .if1 in
+    let cell-tags-ok = c .before .cell-tags-ok in
+    let p = at .given .0 .0 in
+    at-place _ (a .s .now) (a .c) p (at .given .1)
+    (cells-short (tagTest (a .register)) (a .s .now) (a .n) p (left-from .ensures) (omega (arith, if1 .taken)) (cell-tags-ok .ensures)
+    ∙ rw (not-false (cell-tags-ok .result) (c .if2 .left)))
 
 cell-tags-ok-requires-2 : tie.Need-cell-tags-ok-requires-2
 cell-tags-ok-requires-2 c κs = search needs
@@ -47,9 +57,14 @@ cell-tags-ok-requires-2 c κs = search needs
 returns-4 : tie.Need-returns-4
 returns-4 c =
     let a = c .before .before .before .before .before .before .before .before .args in
-    let p = c .before .before .before .before .before .c .given .0 .0 in
-    at-place _ (a .s .now) (a .c) p (c .before .before .before .before .before .c .given .1)
-    (cells-whole (tagTest (a .register)) (a .s .now) (a .n) p (c .before .before .before .left-from .ensures) (omega (arith, c .before .before .if1 .left)) (c .before .cell-tags-ok2 .ensures) ∙ rw (not-true (c .before .cell-tags-ok2 .result) (c .if3 .taken)))
+    let at = c .before .before .before .before .before .c in
+    let left-from = c .before .before .before .left-from in
+    let if1 = c .before .before .if1 in
+    let cell-tags-ok2 = c .before .cell-tags-ok2 in
+    let p = at .given .0 .0 in
+    at-place _ (a .s .now) (a .c) p (at .given .1)
+    (cells-whole (tagTest (a .register)) (a .s .now) (a .n) p (left-from .ensures) (omega (arith, if1 .left)) (cell-tags-ok2 .ensures)
+    ∙ rw (not-true (cell-tags-ok2 .result) (c .if3 .taken)))
 
 mul-t17 : tie.Need-mul-t17
 mul-t17 c = search needs
@@ -63,11 +78,17 @@ sub-t19 c = search needs
 returns-5 : tie.Need-returns-5
 returns-5 c =
     let a = c .before .before .before .before .before .before .before .before .args in
-    let p = c .before .before .before .before .before .c .given .0 .0 in
-    at-place _ (a .s .now) (a .c) p (c .before .before .before .before .before .c .given .1)
-    (cells-whole (tagTest (a .register)) (a .s .now) (a .n) p (c .before .before .before .left-from .ensures) (omega (arith, c .before .before .if1 .left)) (c .before .cell-tags-ok2 .ensures) ∙ rw (not-false (c .before .cell-tags-ok2 .result) (c .if3 .left)))
+    let at = c .before .before .before .before .before .c in
+    let left-from = c .before .before .before .left-from in
+    let if1 = c .before .before .if1 in
+    let cell-tags-ok2 = c .before .cell-tags-ok2 in
+    let p = at .given .0 .0 in
+    at-place _ (a .s .now) (a .c) p (at .given .1)
+    (cells-whole (tagTest (a .register)) (a .s .now) (a .n) p (left-from .ensures) (omega (arith, if1 .left)) (cell-tags-ok2 .ensures)
+    ∙ rw (not-false (cell-tags-ok2 .result) (c .if3 .left)))
 
 pub check-cells-spec : {M : Type 1} → statement M
 check-cells-spec =
     tie.close
-    (tie.spec enum-known-c enum-told returns left-from-requires add-cell-tags-ok cell-tags-ok-requires returns-2 returns-3 cell-tags-ok-requires-2 returns-4 mul-t17 sub-t18 sub-t19 returns-5)
+    (tie.spec enum-known-c enum-told returns left-from-requires add-cell-tags-ok cell-tags-ok-requires returns-2 returns-3
+    cell-tags-ok-requires-2 returns-4 mul-t17 sub-t18 sub-t19 returns-5)

@@ -20,13 +20,22 @@ left-from-requires : tie.Need-left-from-requires
 left-from-requires c κs = search needs
 
 returns-2 : tie.Need-returns-2
-returns-2 c = at-place _ (c .before .before .before .before .before .before .args .s .now) (c .before .before .before .before .before .before .args .c) (c .before .before .before .c .given .0 .0) (c .before .before .before .c .given .1) (number-short (c .before .before .before .before .before .before .args .w) (c .before .before .before .before .before .before .args .e) (c .before .before .before .before .before .before .args .s .now) (c .before .before .before .c .given .0 .0) (c .before .before .before .before .before .before .args .good) (omega (arith, c .before .left-from .ensures, c .if1 .taken)))
+returns-2 c =
+    let args = c .before .before .before .before .before .before .args in
+    let at = c .before .before .before .c in
+    let left-from = c .before .left-from in
+    at-place _ (args .s .now) (args .c) (at .given .0 .0) (at .given .1) (number-short (args .w) (args .e) (args .s .now) (at .given .0 .0)
+    (args .good) (omega (arith, left-from .ensures, c .if1 .taken)))
 
 returns-3 : tie.Need-returns-3
 returns-3 c =
     let a = c .before .before .before .before .before .before .before .args in
-    let p = c .before .before .before .before .c .given .0 .0 in
-    at-place _ (a .s .now) (a .c) p (c .before .before .before .before .c .given .1) (number-bad (a .w) (a .e) (a .s .now) p (a .good) (omega (arith, c .before .before .left-from .ensures, c .before .if1 .left)) (not-true _ (c .if2 .taken)))
+    let at = c .before .before .before .before .c in
+    let left-from = c .before .before .left-from in
+    let if1 = c .before .if1 in
+    let p = at .given .0 .0 in
+    at-place _ (a .s .now) (a .c) p (at .given .1) (number-bad (a .w) (a .e) (a .s .now) p (a .good) (omega (arith, left-from .ensures, if1 .left))
+    (not-true _ (c .if2 .taken)))
 
 sub-t12 : tie.Need-sub-t12
 sub-t12 c = search needs
@@ -34,9 +43,13 @@ sub-t12 c = search needs
 returns-4 : tie.Need-returns-4
 returns-4 c =
     let a = c .before .before .before .before .before .before .before .args in
-    let p = c .before .before .before .before .c .given .0 .0 in
-    rw (c .before .before .left-from .ensures)
-    (at-place _ (a .s .now) (a .c) p (c .before .before .before .before .c .given .1) (number-fine (a .w) (a .e) (a .s .now) p (a .good) (omega (arith, c .before .before .left-from .ensures, c .before .if1 .left)) (not-false _ (c .if2 .left))))
+    let at = c .before .before .before .before .c in
+    let left-from = c .before .before .left-from in
+    let if1 = c .before .if1 in
+    let p = at .given .0 .0 in
+    rw (left-from .ensures)
+    (at-place _ (a .s .now) (a .c) p (at .given .1) (number-fine (a .w) (a .e) (a .s .now) p (a .good)
+    (omega (arith, left-from .ensures, if1 .left)) (not-false _ (c .if2 .left))))
 
 pub check-number-spec : {M : Type 1} → statement M
 check-number-spec =

@@ -20,7 +20,12 @@ left-from-requires : tie.Need-left-from-requires
 left-from-requires c κs = search needs
 
 returns-2 : tie.Need-returns-2
-returns-2 c = at-place _ (c .before .before .before .before .before .before .args .s .now) (c .before .before .before .before .before .before .args .c) (c .before .before .before .c .given .0 .0) (c .before .before .before .c .given .1) (words-short (c .before .before .before .before .before .before .args .s .now) (c .before .before .before .before .before .before .args .n) (c .before .before .before .c .given .0 .0) (omega (arith, c .before .left-from .ensures, c .if1 .taken)))
+returns-2 c =
+    let args = c .before .before .before .before .before .before .args in
+    let at = c .before .before .before .c in
+    let left-from = c .before .left-from in
+    at-place _ (args .s .now) (args .c) (at .given .0 .0) (at .given .1) (words-short (args .s .now) (args .n) (at .given .0 .0)
+    (omega (arith, left-from .ensures, c .if1 .taken)))
 
 mul-t9 : tie.Need-mul-t9
 mul-t9 c = search needs
@@ -32,7 +37,12 @@ sub-t11 : tie.Need-sub-t11
 sub-t11 c = search needs
 
 returns-3 : tie.Need-returns-3
-returns-3 c = rw (c .before .left-from .ensures) (at-place _ (c .before .before .before .before .before .before .args .s .now) (c .before .before .before .before .before .before .args .c) (c .before .before .before .c .given .0 .0) (c .before .before .before .c .given .1) (words-whole (c .before .before .before .before .before .before .args .s .now) (c .before .before .before .before .before .before .args .n) (c .before .before .before .c .given .0 .0) (omega (arith, c .before .left-from .ensures, c .if1 .left))))
+returns-3 c =
+    let left-from = c .before .left-from in
+    let args = c .before .before .before .before .before .before .args in
+    let at = c .before .before .before .c in
+    rw (left-from .ensures) (at-place _ (args .s .now) (args .c) (at .given .0 .0) (at .given .1)
+    (words-whole (args .s .now) (args .n) (at .given .0 .0) (omega (arith, left-from .ensures, c .if1 .left))))
 
 pub check-words-spec : {M : Type 1} → statement M
 check-words-spec =

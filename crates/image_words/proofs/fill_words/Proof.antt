@@ -19,7 +19,10 @@ left-from-requires : tie.Need-left-from-requires Inv-loop μ-loop
 left-from-requires c κs = search needs
 
 returns : tie.Need-returns Inv-loop μ-loop
-returns c = words-stay (c .before .before .before .before .args .at) (c .before .before .before .before .args .s .now) (c .before .before .before .before .args .words .now) (omega (arith, c .before .left-from .ensures, c .if1 .taken))
+returns c =
+    let args = c .before .before .before .before .args in
+    let left-from = c .before .left-from in
+    words-stay (args .at) (args .s .now) (args .words .now) (omega (arith, left-from .ensures, c .if1 .taken))
 
 loop-holds : tie.Need-loop-holds Inv-loop μ-loop
 loop-holds c = start _ _ _ _ _ _ (omega (arith, c .before .left-from .ensures, c .if1 .left)) refl
@@ -51,10 +54,14 @@ same-length c = c .before .loop .inv .size
 returns-2 : tie.Need-returns-2 Inv-loop μ-loop
 returns-2 c =
     let a = c .before .before .before .before .before .before .args in
-    let h : 8 * length (a .words .now) ≤ length (a .s .now) - a .at = omega (arith, c .before .before .before .left-from .ensures, c .before .before .if1 .left) in
-    words-filled (a .at) (a .s .now) (a .words .now) h (done _ _ _ _ _ _ _ _ (c .before .loop .inv) (c .loop-test .left))
+    let left-from = c .before .before .before .left-from in
+    let if1 = c .before .before .if1 in
+    let loop = c .before .loop in
+    let h : 8 * length (a .words .now) ≤ length (a .s .now) - a .at = omega (arith, left-from .ensures, if1 .left) in
+    words-filled (a .at) (a .s .now) (a .words .now) h (done _ _ _ _ _ _ _ _ (loop .inv) (c .loop-test .left))
 
 pub fill-words-spec : {M : Type 1} → statement M
 fill-words-spec =
     tie.close
-    (tie.spec Inv-loop μ-loop left-from-requires returns loop-holds get-word-requires mul-words slice-write-words add-p add-i loop-less loop-again same-length returns-2)
+    (tie.spec Inv-loop μ-loop left-from-requires returns loop-holds get-word-requires mul-words slice-write-words add-p add-i loop-less
+    loop-again same-length returns-2)

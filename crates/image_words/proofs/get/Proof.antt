@@ -33,7 +33,11 @@ wide-requires : tie.Need-wide-requires Inv-loop μ-loop
 wide-requires c κs = search needs
 
 add-v : tie.Need-add-v Inv-loop μ-loop
-add-v c = omega (arith, below _ _ 7 (c .before .before .before .loop .inv .1 .0) (omega arith), c .wide .ensures, c .before .shared-slice-known2 .given (c .before .before .before .before .before .args .at + c .before .before .before .loop .i))
+add-v c =
+    let loop = c .before .before .before .loop in
+    let shared-slice-known2 = c .before .shared-slice-known2 in
+    let args = c .before .before .before .before .before .args in
+    omega (arith, below _ _ 7 (loop .inv .1 .0) (omega arith), c .wide .ensures, shared-slice-known2 .given (args .at + loop .i))
 
 add-i : tie.Need-add-i Inv-loop μ-loop
 add-i c = search needs
@@ -45,9 +49,16 @@ loop-again : tie.Need-loop-again Inv-loop μ-loop
 loop-again c =
     let l = c .before .before .before .loop in
     let a = c .before .before .before .before .before .args in
-    let x = c .before .shared-slice-known2 .given (a .at + l .i) in
-    rw (c .wide .ensures)
-    (search needs, (pow-step _ _ _ (l .inv .1 .0) (x .fits), number-step (a .s .now) (a .at) (a .w) (l .i) (l .v) (omega arith) (omega arith) ∙ l .inv .1 .1))
+    let shared-slice-known2 = c .before .shared-slice-known2 in
+    let x = shared-slice-known2 .given (a .at + l .i) in
+    rw (c .wide .ensures) (
+      search needs,
+      (
+        pow-step _ _ _ (l .inv .1 .0) (x .fits),
+        number-step (a .s .now) (a .at) (a .w) (l .i) (l .v) (omega arith) (omega arith)
+            ∙ l .inv .1 .1,
+      ),
+    )
 
 returns : tie.Need-returns Inv-loop μ-loop
 returns c =

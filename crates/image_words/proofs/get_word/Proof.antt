@@ -28,9 +28,10 @@ add-result c = search needs
 returns : tie.Need-returns
 returns c =
     let a = c .before .before .before .args in
+    let get = c .before .get in
     let b = drop (a .at) (a .s .now) in
     let f : field 8 b ≡ field 4 b * 4294967296 + field 4 (drop 4 b) = field-split 4 4 b (rw length-drop (omega arith)) in
-    omega (arith, f, c .before .get .ensures .0, c .get2 .ensures .0 ∙ ap (field 4) (sym (drop-drop 4 (a .at) (a .s .now))))
+    omega (arith, f, get .ensures .0, c .get2 .ensures .0 ∙ ap (field 4) (sym (drop-drop 4 (a .at) (a .s .now))))
 
 pub get-word-spec : {M : Type 1} → statement M
 get-word-spec =

@@ -23,15 +23,23 @@ returns-2 : tie.Need-returns-2
 unfolding numberAt
 returns-2 c =
     let a = c .before .before .before .before .before .args in
-    let e = c .before .before .left-from .ensures in
-    (rw (le-leb (a .w) 8 (c .before .before .before .if1 .left)) (rw e at (c .get .ensures .0) ∙ field-short (a .w) (a .at) (a .s .now) (omega arith)), below _ _ _ (c .get .ensures .1) (omega arith))
+    let left-from = c .before .before .left-from in
+    let if1 = c .before .before .before .if1 in
+    let e = left-from .ensures in (
+      rw (le-leb (a .w) 8 (if1 .left)) (rw e at (c .get .ensures .0) ∙ field-short (a .w) (a .at) (a .s .now) (omega arith)),
+      below _ _ _
+          (c .get .ensures .1) (omega arith),
+    )
 
 get-requires-2 : tie.Need-get-requires-2
 get-requires-2 c κs = search needs
 
 returns-3 : tie.Need-returns-3
 unfolding numberAt
-returns-3 c = (rw (le-leb (c .before .before .before .before .before .args .w) 8 (c .before .before .before .if1 .left)) (c .get2 .ensures .0), c .get2 .ensures .1)
+returns-3 c =
+    let args = c .before .before .before .before .before .args in
+    let if1 = c .before .before .before .if1 in
+    (rw (le-leb (args .w) 8 (if1 .left)) (c .get2 .ensures .0), c .get2 .ensures .1)
 
 pub number-at-spec : {M : Type 1} → statement M
 number-at-spec =

@@ -9,13 +9,17 @@ use Rattle.image_words.proofs.put_number.Statement.{statement}
 use Rattle.image_words.proofs.put_number.Tie as tie
 
 returns : tie.Need-returns
-returns c = put-not (c .before .before .args .at) (digits (c .before .before .args .w) (c .before .before .args .v)) (c .before .before .args .out .now) (rw length-digits (omega arith))
+returns c =
+    let args = c .before .before .args in
+    put-not (args .at) (digits (args .w) (args .v)) (args .out .now) (rw length-digits (omega arith))
 
 sub-if2 : tie.Need-sub-if2
 sub-if2 c = search needs
 
 returns-2 : tie.Need-returns-2
-returns-2 c = put-not (c .before .before .before .args .at) (digits (c .before .before .before .args .w) (c .before .before .before .args .v)) (c .before .before .before .args .out .now) (rw length-digits (omega arith))
+returns-2 c =
+    let args = c .before .before .before .args in
+    put-not (args .at) (digits (args .w) (args .v)) (args .out .now) (rw length-digits (omega arith))
 
 put-requires : tie.Need-put-requires
 put-requires c κs = search needs
@@ -24,7 +28,10 @@ same-length : tie.Need-same-length
 same-length c = search needs
 
 returns-3 : tie.Need-returns-3
-returns-3 c = c .before .before .put .ensures ∙ put-fits (c .before .before .before .before .before .before .before .args .at) (digits (c .before .before .before .before .before .before .before .args .w) (c .before .before .before .before .before .before .before .args .v)) (c .before .before .before .before .before .before .before .args .out .now) (rw length-digits (omega arith))
+returns-3 c =
+    let put = c .before .before .put in
+    let args = c .before .before .before .before .before .before .before .args in
+    put .ensures ∙ put-fits (args .at) (digits (args .w) (args .v)) (args .out .now) (rw length-digits (omega arith))
 
 pub put-number-spec : {M : Type 1} → statement M
 put-number-spec =

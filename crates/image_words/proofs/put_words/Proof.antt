@@ -19,13 +19,17 @@ abbrev μ-loop : tie.MeasureT-loop
 μ-loop out₀ at words n p₀ i₀ out p i = n - i
 
 returns : tie.Need-returns Inv-loop μ-loop
-returns c = put-not (c .before .before .before .args .at) (wordBytes (c .before .before .before .args .words .now)) (c .before .before .before .args .out .now) (rw word-bytes-length (omega arith))
+returns c =
+    let args = c .before .before .before .args in
+    put-not (args .at) (wordBytes (args .words .now)) (args .out .now) (rw word-bytes-length (omega arith))
 
 sub-if2 : tie.Need-sub-if2 Inv-loop μ-loop
 sub-if2 c = search needs
 
 returns-2 : tie.Need-returns-2 Inv-loop μ-loop
-returns-2 c = put-not (c .before .before .before .before .args .at) (wordBytes (c .before .before .before .before .args .words .now)) (c .before .before .before .before .args .out .now) (rw word-bytes-length (omega arith))
+returns-2 c =
+    let args = c .before .before .before .before .args in
+    put-not (args .at) (wordBytes (args .words .now)) (args .out .now) (rw word-bytes-length (omega arith))
 
 loop-holds : tie.Need-loop-holds Inv-loop μ-loop
 loop-holds c = start wordCodec 8 word-length _ _ _ (omega arith)
@@ -37,10 +41,17 @@ shared-slice-read-put : tie.Need-shared-slice-read-put Inv-loop μ-loop
 shared-slice-read-put c = search needs
 
 put-requires : tie.Need-put-requires Inv-loop μ-loop
-put-requires c κs = omega (arith, fits wordCodec 8 word-length _ _ _ (c .before .before .before .loop .inv) (c .before .before .loop-test .taken), c .before .before .before .loop .inv .same)
+put-requires c κs =
+    let loop = c .before .before .before .loop in
+    let loop-test = c .before .before .loop-test in
+    omega (arith, fits wordCodec 8 word-length _ _ _ (loop .inv) (loop-test .taken), loop .inv .same)
 
 add-p : tie.Need-add-p Inv-loop μ-loop
-add-p c = omega (arith, fits wordCodec 8 word-length _ _ _ (c .before .before .before .before .before .before .loop .inv) (c .before .before .before .before .before .loop-test .taken), c .before .before .before .before .before .before .before .before .before .before .before .good)
+add-p c =
+    let loop = c .before .before .before .before .before .before .loop in
+    let loop-test = c .before .before .before .before .before .loop-test in
+    let good = c .before .before .before .before .before .before .before .before .before .before .before .good in
+    omega (arith, fits wordCodec 8 word-length _ _ _ (loop .inv) (loop-test .taken), good)
 
 add-i : tie.Need-add-i Inv-loop μ-loop
 add-i c = search needs
@@ -50,7 +61,11 @@ loop-less c = search needs
 
 loop-again : tie.Need-loop-again Inv-loop μ-loop
 unfolding wordCodec num
-loop-again c = step wordCodec 8 word-length _ _ _ (c .before .before .before .before .before .before .loop .inv) (c .before .before .before .before .before .loop-test .taken) (drop-cons _ _ 0 (c .before .before .before .before .before .loop-test .taken)) (c .before .before .put .ensures)
+loop-again c =
+    let loop = c .before .before .before .before .before .before .loop in
+    let loop-test = c .before .before .before .before .before .loop-test in
+    let put = c .before .before .put in
+    step wordCodec 8 word-length _ _ _ (loop .inv) (loop-test .taken) (drop-cons _ _ 0 (loop-test .taken)) (put .ensures)
 
 same-length : tie.Need-same-length Inv-loop μ-loop
 same-length c = c .before .loop .inv .same
@@ -58,10 +73,15 @@ same-length c = c .before .loop .inv .same
 returns-3 : tie.Need-returns-3 Inv-loop μ-loop
 unfolding wordBytes
 returns-3 c =
-    let h : c .before .before .before .before .before .before .args .at + 8 * length (c .before .before .before .before .before .before .args .words .now) ≤ length (c .before .before .before .before .before .before .args .out .now) = omega (arith, c .before .before .before .if1 .left, c .before .before .if2 .left) in
-    done wordCodec 8 word-length _ _ _ (c .before .loop .inv) (c .loop-test .left) h
+    let args = c .before .before .before .before .before .before .args in
+    let if1 = c .before .before .before .if1 in
+    let if2 = c .before .before .if2 in
+    let loop = c .before .loop in
+    let h : args .at + 8 * length (args .words .now) ≤ length (args .out .now) = omega (arith, if1 .left, if2 .left) in
+    done wordCodec 8 word-length _ _ _ (loop .inv) (c .loop-test .left) h
 
 pub put-words-spec : {M : Type 1} → statement M
 put-words-spec =
     tie.close
-    (tie.spec Inv-loop μ-loop returns sub-if2 returns-2 loop-holds mul-put shared-slice-read-put put-requires add-p add-i loop-less loop-again same-length returns-3)
+    (tie.spec Inv-loop μ-loop returns sub-if2 returns-2 loop-holds mul-put shared-slice-read-put put-requires add-p add-i loop-less
+    loop-again same-length returns-3)

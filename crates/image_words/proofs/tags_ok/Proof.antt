@@ -34,7 +34,9 @@ loop-less c = search needs
 loop-again : tie.Need-loop-again Inv-loop μ-loop
 loop-again c =
     let l = c .before .before .before .loop in
-    rw (c .still .ensures) (every-step (tagTest (c .before .before .before .before .before .args .register)) (c .before .before .before .before .before .args .tags .now) (l .i) (l .good) (c .before .before .loop-test .taken) ∙ l .inv)
+    let args = c .before .before .before .before .before .args in
+    let loop-test = c .before .before .loop-test in
+    rw (c .still .ensures) (every-step (tagTest (args .register)) (args .tags .now) (l .i) (l .good) (loop-test .taken) ∙ l .inv)
 
 returns : tie.Need-returns Inv-loop μ-loop
 returns c = sym (every-end _ _ _ _ (c .loop-test .left)) ∙ c .before .loop .inv

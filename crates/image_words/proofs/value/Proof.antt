@@ -24,7 +24,14 @@ left-from-requires c κs = search needs
 
 returns-2 : tie.Need-returns-2
 unfolding valueAt
-returns-2 c = (rw (c .before .before .before .c .given .1) (sym (number-past (c .before .before .before .before .before .before .args .w) (c .before .before .before .c .given .0 .0 + c .before .before .before .before .before .before .args .k) (c .before .before .before .before .before .before .args .s .now) (omega (arith, c .before .left-from .ensures, c .if1 .taken)))), below _ 0 _ (omega arith) (omega arith))
+returns-2 c =
+    let at = c .before .before .before .c in
+    let args = c .before .before .before .before .before .before .args in
+    let left-from = c .before .left-from in (
+      rw (at .given .1) (sym (number-past (args .w) (at .given .0 .0 + args .k) (args .s .now)
+          (omega (arith, left-from .ensures, c .if1 .taken)))),
+      below _ 0 _ (omega arith) (omega arith),
+    )
 
 add-number-at : tie.Need-add-number-at
 add-number-at c = search needs
