@@ -7,10 +7,10 @@ use mathlib.Core.List.{List, [], _∷_, _++_}
 use native.Mathlib.Omega.{arith}
 use lib.ListN.{length, getD, set, drop, replicate, length-set, getD-replicate}
 use lib.Seq.{getD-set-same, getD-set-other}
-use lib.Dec.{eqb}
-use borrow.Author.Tests.{ltb-true}
+use lib.Dec.{eqb, leb, ltb}
+use borrow.Author.Tests.{ltb-true, le-ltb}
 use Rattle.word.specs.Fields.{pswSound}
-use Rattle.word.specs.Laws.Bools.{Eq?, same, differ, eq?, and-left, and-right}
+use Rattle.word.specs.Laws.Bools.{Eq?, same, differ, eq?, Le?, below, above, le?, and-left, and-right}
 use Rattle.word.specs.Laws.Conjunctions.{also}
 use Rattle.step.specs.declared.Queue.{Queue}
 use Rattle.step.specs.Queues.{ring, listOf, livePts, occ}
@@ -151,6 +151,27 @@ module _ (psw : List ℕ) where
   seen-case : (b : Bool) (s : Seen) (x : ℕ) → fresh psw s x ≡ b → seenOne psw s x ≡ cond b (marked s x) (record { sound = false; pts = s .pts })
   unfolding seenOne
   seen-case b s x e = ap (λ (t : Bool). cond t (marked s x) (record { sound = false; pts = s .pts })) e
+
+  -- the code reads at the PT modulo 64, where every place is
+  fresh-at : (s : Seen) (p : ℕ) → ptSound p && (not (getD (s .pts) (p % 64) false) && pswSound (getD psw (p % 64) 0)) ≡ fresh psw s p
+  unfolding fresh ptSound
+  fresh-at s p = go (leb 64 p) (le? 64 p)
+    where
+      go : (b : Bool) → Le? 64 p b
+          → ltb p 64 && (not (getD (s .pts) (p % 64) false) && pswSound (getD psw (p % 64) 0)) ≡ ltb p 64 && (not (getD (s .pts) p false) && pswSound (getD psw p 0))
+      go true (below k) = rw (le-ltb p 64 k)
+      go false (above k) = let e : p % 64 ≡ p = omega arith in rw e
+
+  module _ (s : Seen) (p : ℕ) {b : Bool} (f : b ≡ ptSound p && (not (getD (s .pts) (p % 64) false) && pswSound (getD psw (p % 64) 0))) where
+    pub marks : {r : Seen} → b ≡ true → r ≡ record { sound = s .sound; pts = set (s .pts) (p % 64) true } → r ≡ seenOne psw s p
+    marks t e =
+        let g : fresh psw s p ≡ true = sym (fresh-at s p) ∙ sym f ∙ t in
+        let h : p < 64 = fresh-low s p g in
+        let i : p % 64 ≡ p = omega arith in
+        e ∙ ap (λ (k : ℕ). marked s k) i ∙ sym (seen-case true s p g)
+
+    pub spoils : {r : Seen} → b ≡ false → r ≡ record { sound = false; pts = s .pts } → r ≡ seenOne psw s p
+    spoils t e = e ∙ sym (seen-case false s p (sym (fresh-at s p) ∙ sym f ∙ t))
 
   seen-parts : (pts : List ℕ) (s : Seen) → length (s .pts) ≡ 64 → seenAfter psw pts s .sound ≡ true → (s .sound ≡ true) × Fresh s pts
   unfolding seenAfter

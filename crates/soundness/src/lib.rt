@@ -1,16 +1,18 @@
 // Whether a state is sound, so that some image reads as it: the tests of refusal 8.
 ghost use mathlib.Core.Path.{_≡_};
+ghost use mathlib.Core.Bool.{not, _&&_};
 ghost use mathlib.Core.List.{List};
 ghost use Prim.Native.Nat.{ℕ, min};
 ghost use lib.ListN.{length, take};
+ghost use Rattle.word.specs.Fields.{pswSound};
 ghost use Rattle.window.specs.Memories.{memory};
 ghost use Rattle.window.specs.declared.Row.{Row};
 ghost use Rattle.step.specs.declared.ProcessTable.{ProcessTable};
 ghost use Rattle.step.specs.Queues.{total, listOf, livePts};
-ghost use Rattle.step.specs.Soundness.{taskSound, kindSound, recordSound, basesSound, rowSound, rowsSound, hasRow, endsIn, windowsSound, queuesSound, processesSound, roomSound, tableSound, memorySound, memoriesSound};
+ghost use Rattle.step.specs.Soundness.{taskSound, kindSound, recordSound, basesSound, rowSound, rowsSound, hasRow, endsIn, windowsSound, queuesSound, processesSound, ptSound, roomSound, tableSound, memorySound, memoriesSound};
 ghost use Rattle.image_words.specs.Scanning.{tagTest};
 ghost use Rattle.soundness.specs.Held.{stateIn, soundIn, rowEndsIn, queueSound};
-ghost use Rattle.soundness.specs.Seen.{fresh, seenOne, seenAfter};
+ghost use Rattle.soundness.specs.Seen.{seenAfter};
 use step::ProcessTable;
 use step::Queue;
 use window::Row;
@@ -194,46 +196,38 @@ pub struct Seen {
     pub pts: [bool; 64],
 }
 
-fn is_fresh(psw: [u64; 64], seen: Seen, pt: u8) -> bool
-    ensures { λ r. ⌜ r ≡ fresh psw seen pt ⌝ }
+// A PT that has not come before, with a sound PSW.
+fn is_fresh(pt: u8, marked: bool, psw: u64) -> bool
+    ensures { λ r. ⌜ r ≡ (ptSound pt && (not marked && pswSound psw)) ⌝ }
 {
     if 64 <= pt {
         return false;
     }
-    let i = pt as usize;
-    if seen.pts[i] {
+    if marked {
         return false;
     }
-    word::psw_sound(psw[i])
+    word::psw_sound(psw)
 }
 
-// One PT more.
-fn see(psw: [u64; 64], seen: Seen, pt: u8) -> Seen
-    ensures { λ r. ⌜ r ≡ seenOne psw seen pt ⌝ }
-{
-    let mut next = seen;
-    if !is_fresh(psw, seen, pt) {
-        next.sound = false;
-        return next;
-    }
-    let i = pt as usize;
-    next.pts[i] = true;
-    next
-}
-
-// The PTs of a queue, from its head on.
+// The PTs of a queue, from its head on. Each is marked where it lies: a copy after each mark would cost more than all else.
 fn see_queue(psw: [u64; 64], seen: Seen, q: Queue) -> Seen
     ensures { λ r. ⌜ r ≡ seenAfter psw (listOf q) seen ⌝ }
 {
-    let mut seen = seen;
+    let mut next = seen;
     let mut at = q.head % 64;
     let mut left = q.len;
     while 0 < left {
-        seen = see(psw, seen, q.pts[at]);
+        let pt = q.pts[at];
+        let i = pt as usize % 64;
+        if is_fresh(pt, next.pts[i], psw[i]) {
+            next.pts[i] = true;
+        } else {
+            next.sound = false;
+        }
         at = (at + 1) % 64;
         left -= 1;
     }
-    seen
+    next
 }
 
 // No PT twice, and every process has a PT and a PSW.
