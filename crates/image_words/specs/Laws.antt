@@ -6,3 +6,4 @@ pub mod Scans
 pub mod Cells
 pub mod Bytes
 pub mod Placed
+pub mod Laid

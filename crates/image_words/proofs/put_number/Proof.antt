@@ -2,7 +2,7 @@
 use mathlib.Core.Path.{_∙_}
 use Rattle.image.specs.Codec.{digits}
 use Rattle.image.specs.Laws.Numbers.{length-digits}
-use Rattle.image_words.proofs.Putting.{put-fits, put-not}
+use Rattle.image_words.specs.Laws.Laid.{put-fits, put-not}
 use borrow.Author.Needs.{needs}
 use native.Mathlib.Omega.{arith}
 use Rattle.image_words.proofs.put_number.Statement.{statement}

@@ -6,7 +6,8 @@ use Rattle.image.specs.Codec.{num}
 use Rattle.image.specs.Image.{wordCodec}
 use Rattle.image_words.specs.Writing.{wordBytes}
 use Rattle.image_words.specs.Laws.Bytes.{word-length, word-bytes-length}
-use Rattle.image_words.proofs.Putting.{put-not, Putting, start, fits, step, done}
+use Rattle.image_words.specs.Laws.Laid.{put-not}
+use Rattle.image_words.proofs.Putting.{Putting, start, fits, step, done}
 use borrow.Author.Needs.{needs}
 use native.Mathlib.Omega.{arith}
 use Rattle.image_words.proofs.put_words.Statement.{statement}

@@ -1,5 +1,5 @@
 -- Numbers at a place of the input.
-use Prim.Native.Nat.{ℕ, suc, _+_, _-_, _*_, _^_, _≤_}
+use Prim.Native.Nat.{ℕ, suc, _+_, _-_, _*_, _^_, _≤_, _<_}
 use mathlib.Core.Path.{_≡_, refl, sym, ap, _∙_}
 use mathlib.Core.Bool.{Bool, true, false, cond}
 use mathlib.Core.List.{List, [], _∷_, _++_}
@@ -8,7 +8,7 @@ use native.Mathlib.Omega.{arith}
 use lib.ListN.{length, getD, take, drop, length-drop, drop-of-length-le}
 use lib.Seq.{take-add, take-all, take-nil, length-take-le, getD-drop}
 use lib.Dec.{leb}
-use Rattle.image.specs.Codec.{number, field}
+use Rattle.image.specs.Codec.{Bytes, number, field}
 use Rattle.image_words.specs.Reading.{fieldAt, numberAt}
 
 -- a number of one byte is that byte, and 0 past the end
@@ -35,6 +35,12 @@ number-past w p s h = rw (drop-of-length-le s h, take-nil w) (go (leb w 8))
     go : (b : Bool) → _≡_ {A = ℕ} (cond b 0 0) 0
     go true = refl
     go false = refl
+
+-- a list of bytes, byte by byte
+pub all-bytes : (s : List ℕ) → ((i : ℕ) → getD s i 0 < 256) → Bytes s
+unfolding Bytes
+all-bytes [] h = tt
+all-bytes (x ∷ s) h = (h 0, all-bytes s (λ i. h (suc i)))
 
 -- ---- a number read in two parts
 
