@@ -21,7 +21,7 @@ use Rattle.step.specs.Laws.Every.{once-of, every-at}
 use Rattle.step.specs.Laws.Sound.{sound-parts}
 use Rattle.image.specs.Image.{encode}
 use Rattle.image_words.specs.Writing.{laid, putAt}
-use Rattle.image_words.proofs.Putting.{put-fits}
+use Rattle.image_words.specs.Laws.Laid.{put-fits}
 use Rattle.soundness.proofs.Seeing.{zero-of}
 use Rattle.soundness.specs.Held.{stateIn, soundIn}
 use Rattle.image_write.specs.declared.Writing.the-variants.{Refused, Wrote}

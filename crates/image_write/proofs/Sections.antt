@@ -17,7 +17,7 @@ use Rattle.image.specs.Image.{processesFrom}
 use Rattle.image.specs.Laws.Numbers.{length-digits}
 use Rattle.image_words.specs.Writing.{laid, putAt, wordBytes, cellBytes, putCells}
 use Rattle.image_words.specs.Laws.Bytes.{word-bytes-length, cell-bytes-length}
-use Rattle.image_words.proofs.Putting.{length-laid}
+use Rattle.image_words.specs.Laws.Laid.{length-laid}
 use Rattle.image_write.specs.Bytes.{rowsBytes, processesBytes, tasksSection, processesSection, wordsSection, cellsSection}
 use Rattle.image_write.proofs.Going.{start, goes, last}
 use Rattle.image_write.proofs.Parts.{rows-size, processes-length, from-length}
