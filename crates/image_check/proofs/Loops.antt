@@ -8,10 +8,10 @@ use borrow.Author.Tests.{eq-eqb, ne-eqb}
 use lib.Dec.{eqb}
 use Rattle.window.specs.declared.Row.{Row}
 use Rattle.step.specs.Queues.{hit, occ}
-use Rattle.step.specs.Soundness.{hasRow, windowsSound, distinct}
+use Rattle.step.specs.Soundness.{hasRow, rowEndsIn, windowsSound, distinct}
 use Rattle.image_words.specs.Reading.{fieldAt, listed}
 use Rattle.image_words.specs.Laws.Listed.{listed-cons, listed-none}
-use Rattle.image_check.specs.Checked.{rowAt, ptsAt, rowEndsIn}
+use Rattle.image_check.specs.Checked.{rowAt, ptsAt}
 
 -- k rows from p on
 abbrev pub rowsFrom : (k p : ℕ) → List ℕ → List Row
@@ -35,7 +35,7 @@ module _ (s : List ℕ) (p k : ℕ) where
     row-next t e = ap (hasRow t) rows-cons ∙ rw (ne-eqb (fieldAt 1 p s) t e)
 
     pub windows-next : (nr np nd : ℕ) → windowsSound nr np nd (rowsFrom k p s) ≡ (rowEndsIn nr np nd (rowAt p s) && windowsSound nr np nd (rowsFrom (k - 1) (p + 28) s))
-    unfolding windowsSound rowEndsIn
+    unfolding windowsSound
     windows-next nr np nd = ap (windowsSound nr np nd) rows-cons
 
     pub live-found : (x : ℕ) → fieldAt 1 p s ≡ x → not (eqb (occ x (ptsAt k p s)) 0) ≡ true

@@ -1,11 +1,9 @@
 -- What checking an image finds; and the image of accepted bytes, section by section, at its place.
 use Prim.Native.Nat.{ℕ, _+_, _*_}
-use mathlib.Core.Bool.{Bool, _&&_}
 use mathlib.Core.List.{List}
 use lib.ListN.{length}
 use Rattle.window.specs.declared.Row.{Row}
-use Rattle.window.specs.Windows.{registerWindow, programWindow, dataWordWindow}
-use Rattle.step.specs.Soundness.{kindSound, recordSound, endsIn}
+use Rattle.step.specs.Soundness.{kindSound, recordSound}
 use Rattle.refusal.specs.declared.Refusal.the-variants.{TaskField}
 use Rattle.image.specs.declared.Process.{Process}
 use Rattle.image.specs.Codec.{Codec, num, seq}
@@ -110,7 +108,3 @@ imageAt z s = record {
 -- the trap record of a row
 unfoldable pub trapCodec : Codec (ℕ × ℕ)
 trapCodec = seq (num 1 TaskField kindSound) (λ kind. num 8 TaskField (recordSound kind))
-
--- the windows of a row, where they aren't empty, end in memories of so many registers, program words and data words
-unfoldable pub rowEndsIn : (registers program dataWords : ℕ) → Row → Bool
-rowEndsIn nr np nd r = endsIn (registerWindow r) nr && (endsIn (programWindow r) np && endsIn (dataWordWindow r) nd)

@@ -5,16 +5,15 @@ ghost use Prim.Native.Nat.{_+_, _-_, _*_, _≤_, _<_};
 ghost use lib.Dec.{ltb, leb, eqb};
 ghost use lib.ListN.{drop};
 ghost use Rattle.step.specs.Queues.{occ};
-ghost use Rattle.step.specs.Soundness.{taskSound, kindSound, recordSound, hasRow, endsIn, windowsSound, distinct, roomSound};
+ghost use Rattle.step.specs.Soundness.{hasRow, windowsSound, distinct, roomSound};
 ghost use Rattle.image.specs.Codec.{num, decMany, accepted};
 ghost use Rattle.image.specs.Image.{rowCodec, rowTask, tasksCodec, processCodec, processTask, processesCodec, wordsCodec, cellsCodec, afterSections, decode};
 ghost use Rattle.image_words.specs.Reading.{fieldAt};
 ghost use Rattle.image_words.specs.Scanning.{scan, Within, tagTest};
-ghost use Rattle.image_check.specs.Checked.{rowAt, rowsAt, ptsAt, rowEndsIn, trapCodec, countsIn, imageAt, checkedOf};
+ghost use Rattle.image_check.specs.Checked.{rowAt, rowsAt, ptsAt, trapCodec, countsIn, imageAt, checkedOf};
 use image_words::Scan;
 use refusal::Refusal;
 use window::Row;
-use window::Window;
 
 // How many values each section of an image has.
 pub struct Counted {
@@ -43,41 +42,14 @@ fn check_below(s: &[u8], c: Scan, w: usize, bound: u64, e: Refusal) -> Scan
     image_words::check_number(s, c, w, v < bound, e)
 }
 
-// Whether a row of task t may stand behind the row of task `before`.
-pub fn task_sound(before: u64, t: u64) -> bool
-    ensures { λ r. ⌜ r ≡ taskSound before t ⌝ }
-{
-    before < t && t <= 7
-}
-
-// Whether a trap of kind k may be recorded, or none: FF.
-pub fn kind_sound(k: u64) -> bool
-    ensures { λ r. ⌜ r ≡ kindSound k ⌝ }
-{
-    match k {
-        0x00 | 0x12 | 0x14 | 0x16 | 0x1A | 0x1C | 0x1E | 0xFF => true,
-        _ => false,
-    }
-}
-
-// Whether a PSW may stand beside a trap kind.
-pub fn record_sound(kind: u64, psw: u64) -> bool
-    ensures { λ r. ⌜ r ≡ recordSound kind psw ⌝ }
-{
-    if kind == 255 {
-        return psw == 0;
-    }
-    word::psw_sound(psw)
-}
-
 // The trap record of a row: its kind and its PSW.
 fn check_trap(s: &[u8], c: Scan) -> Scan
     ensures { λ r. ⌜ r ≡ scan (trapCodec .dec) (now (s .entry)) c ⌝ }
 {
     let kind = image_words::value(s, c, 0, 1);
-    let c = image_words::check_number(s, c, 1, kind_sound(kind), Refusal::TaskField);
+    let c = image_words::check_number(s, c, 1, field_tests::kind_sound(kind), Refusal::TaskField);
     let psw = image_words::value(s, c, 0, 8);
-    image_words::check_number(s, c, 8, record_sound(kind, psw), Refusal::TaskField)
+    image_words::check_number(s, c, 8, field_tests::record_sound(kind, psw), Refusal::TaskField)
 }
 
 // A row after the row of task `before`.
@@ -85,7 +57,7 @@ fn check_row(s: &[u8], c: Scan, before: u64) -> Scan
     ensures { λ r. ⌜ r ≡ scan (rowCodec before .dec) (now (s .entry)) c ⌝ }
 {
     let task = image_words::value(s, c, 0, 1);
-    let c = image_words::check_number(s, c, 1, task_sound(before, task), Refusal::TaskField);
+    let c = image_words::check_number(s, c, 1, field_tests::task_sound(before, task), Refusal::TaskField);
     let c = check_below(s, c, 2, 4096, Refusal::TaskField);
     let c = check_below(s, c, 2, 1024, Refusal::TaskField);
     let c = check_below(s, c, 2, 1024, Refusal::TaskField);
@@ -242,27 +214,7 @@ pub fn row_at(s: &[u8], at: usize) -> Row
     }
 }
 
-// Whether a window that isn't empty ends in its memory of n places.
-fn ends_in(w: Window, n: usize) -> bool
-    ensures { λ r. ⌜ r ≡ endsIn w n ⌝ }
-{
-    w.last < w.first || w.last < n
-}
-
-// Whether the windows of a row do, in memories of so many registers, program words and data words.
-pub fn row_ends_in(row: Row, registers: usize, program: usize, data_words: usize) -> bool
-    ensures { λ r. ⌜ r ≡ rowEndsIn registers program data_words row ⌝ }
-{
-    if !ends_in(window::register_window(row), registers) {
-        return false;
-    }
-    if !ends_in(window::program_window(row), program) {
-        return false;
-    }
-    ends_in(window::data_word_window(row), data_words)
-}
-
-// Whether the windows of all n rows do.
+// Whether the windows of all n rows end in memories of so many registers, program words and data words.
 fn windows_sound(s: &[u8], n: usize, registers: usize, program: usize, data_words: usize) -> bool
     requires { ⌜ n ≤ 255 ⌝ }
     ensures { λ r. ⌜ r ≡ windowsSound registers program data_words (rowsAt n (now (s .entry))) ⌝ }
@@ -270,7 +222,7 @@ fn windows_sound(s: &[u8], n: usize, registers: usize, program: usize, data_word
     let mut p = 1;
     let mut k = n;
     while 0 < k {
-        if !row_ends_in(row_at(s, p), registers, program, data_words) {
+        if !field_tests::row_ends_in(row_at(s, p), registers, program, data_words) {
             return false;
         }
         p += 28;
@@ -339,16 +291,6 @@ fn counts(s: &[u8]) -> Counted
     }
 }
 
-// Whether there is room for one more process, or the flag is up.
-pub fn room_sound(live: usize, flag: u64) -> bool
-    ensures { λ r. ⌜ r ≡ roomSound live flag ⌝ }
-{
-    if live < 64 {
-        return true;
-    }
-    flag != 0
-}
-
 // Whether the m processes after n rows have different PTs, and aren't 64 with flag 0.
 fn processes_sound(s: &[u8], n: usize, m: usize) -> bool
     requires { ⌜ (n ≤ 255) × (m ≤ 255) ⌝ }
@@ -358,7 +300,7 @@ fn processes_sound(s: &[u8], n: usize, m: usize) -> bool
     if !pts_distinct(s, at + 2, m) {
         return false;
     }
-    room_sound(m, image_words::number_at(s, at + 1, 1))
+    field_tests::room_sound(m, image_words::number_at(s, at + 1, 1))
 }
 
 // After the last section, which ends at `end`.

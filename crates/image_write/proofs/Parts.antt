@@ -9,7 +9,7 @@ use Rattle.window.specs.declared.Row.{Row}
 use Rattle.step.specs.declared.Queue.{Queue}
 use Rattle.step.specs.Queues.{ring, listOf, livePts}
 use Rattle.step.specs.State.{noQueue}
-use Rattle.step.specs.Laws.Queues.{ring-same, length-list}
+use Rattle.step.specs.Laws.Queues.{ring-same, ring-first, length-list}
 use Rattle.image.specs.declared.Process.{Process}
 use Rattle.image.specs.Codec.{num, seq, via, encMany}
 use Rattle.image.specs.Image.{rowCodec, processCodec, toProcess, processesIn, processesFrom}
@@ -17,7 +17,6 @@ use Rattle.image.specs.Laws.Numbers.{length-digits}
 use Rattle.image_words.specs.Laws.Bytes.{uniform-length}
 use Rattle.image_words.specs.Writing.{putAt}
 use Rattle.soundness.proofs.Loops.{next-of, none-of, next-in, past-count}
-use Rattle.soundness.proofs.Seeing.{ring-first}
 use Rattle.image_write.specs.Bytes.{rowFirst, rowSecond, rowRecord, rowBytes, processBytes, rowsBytes, processesBytes}
 use Rattle.image_write.proofs.Going.{Splits, Going, start, room, goes, last}
 

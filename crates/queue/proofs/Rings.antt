@@ -1,33 +1,18 @@
 -- The loops over a ring and over all queues: what they start with, a turn, and the end.
-use mathlib.Core.Path.{_≡_, refl, sym, ap, ap₂, _∙_}
+use mathlib.Core.Path.{_≡_, refl, sym, ap, _∙_}
 use mathlib.Core.Bool.{Bool, true, false}
-use mathlib.Core.List.{List, [], _∷_, _++_}
-use Prim.Native.Nat.{ℕ, zero, suc, _+_, _-_, _%_, _≤_, _<_}
+use mathlib.Core.List.{List}
+use Prim.Native.Nat.{ℕ, suc, _+_, _-_, _%_, _≤_, _<_}
 use native.Mathlib.Omega.{arith}
 use lib.Dec.{ltb}
-use lib.ListN.{length, getD, drop, length-append, drop-of-length-le}
-use lib.Seq.{drop-cons}
+use lib.ListN.{length, getD, drop, length-append}
 use borrow.Author.Tests.{le-ltb, ltb-true, ltb-false}
 use Rattle.step.specs.declared.Queue.{Queue}
 use Rattle.step.specs.Queues.{ring, listOf, livePts}
 use Rattle.step.specs.State.{noQueue}
-use Rattle.step.specs.Laws.Queues.{ring-same, length-list}
+use Rattle.step.specs.Laws.Queues.{ring-same, ring-first, length-list, live-next, live-none}
 use Rattle.queue.specs.Mask.{without, freeAfter}
 use Rattle.queue.proofs.Free.{after-append}
-
-ring-first : (a : List ℕ) (h n : ℕ) → h < 64 → 0 < n → ring a h n ≡ getD a h 0 ∷ ring a ((h + 1) % 64) (n - 1)
-unfolding ring
-ring-first a h zero p q = absurd (omega arith)
-ring-first a h (suc n) p q =
-    let m : n ≡ suc n - 1 = omega arith in
-    let i : h % 64 ≡ h = omega arith in
-    ap₂ {C = List ℕ} (λ x y. x ∷ y) (ap (λ (i : ℕ). getD a i 0) i)
-    (ring-same a (suc h) ((h + 1) % 64) n (omega arith) ∙ ap (ring a ((h + 1) % 64)) m)
-
--- the PTs of the queues from the kth on
-live-from : (qs : List Queue) (k : ℕ) → k < length qs → livePts (drop k qs) ≡ listOf (getD qs k noQueue) ++ livePts (drop (k + 1) qs)
-unfolding livePts
-live-from qs k h = let m : suc k ≡ k + 1 = omega arith in ap livePts (drop-cons qs k noQueue h) ∙ ap (λ (i : ℕ). listOf (getD qs k noQueue) ++ livePts (drop i qs)) m
 
 -- two tests that hold together
 same-test : (a b c d : ℕ) → (a < b → c < d) → (c < d → a < b) → ltb a b ≡ ltb c d
@@ -62,19 +47,15 @@ pub queues-go : (qs : List Queue) (k z r s : ℕ) → k < length qs → r ≡ fr
 queues-go qs k z r s h e i =
     ap (freeAfter (livePts (drop (k + 1) qs))) e
     ∙ sym (after-append (listOf (getD qs k noQueue)) (livePts (drop (k + 1) qs)) z)
-    ∙ sym (ap (λ (l : List ℕ). freeAfter l z) (live-from qs k h)) ∙ i
+    ∙ sym (ap (λ (l : List ℕ). freeAfter l z) (live-next qs k h)) ∙ i
 
 pub none-in : (q : Queue) (z : ℕ) → q .len ≡ 0 → z ≡ freeAfter (listOf q) z
 unfolding listOf freeAfter ring
 none-in q z e = sym (ap (λ (n : ℕ). freeAfter (ring (q .pts) (q .head) n) z) e)
 
-pub no-more : (qs : List Queue) (k : ℕ) → length qs ≤ k → livePts (drop k qs) ≡ []
-unfolding livePts
-no-more qs k h = ap livePts (drop-of-length-le qs h)
-
 pub queues-end : (qs : List Queue) (k z s : ℕ) → length qs ≤ k → freeAfter (livePts (drop k qs)) z ≡ s → z ≡ s
 unfolding freeAfter
-queues-end qs k z s h i = sym (ap (λ (l : List ℕ). freeAfter l z) (no-more qs k h)) ∙ i
+queues-end qs k z s h i = sym (ap (λ (l : List ℕ). freeAfter l z) (live-none qs k h)) ∙ i
 
 -- ---- the room
 
@@ -83,7 +64,7 @@ live qs k = length (livePts (drop k qs))
 
 live-length : (qs : List Queue) (k : ℕ) → k < length qs → live qs k ≡ getD qs k noQueue .len + live qs (k + 1)
 live-length qs k h =
-    ap length (live-from qs k h)
+    ap length (live-next qs k h)
     ∙ length-append (listOf (getD qs k noQueue)) (livePts (drop (k + 1) qs))
     ∙ ap (λ (n : ℕ). n + live qs (k + 1)) (length-list (getD qs k noQueue))
 
@@ -97,4 +78,4 @@ pub no-room : (qs : List Queue) (k room : ℕ) (s : Bool) → k < length qs → 
 no-room qs k room s h l i = sym (le-ltb (suc (live qs k)) room (omega (arith, live-length qs k h))) ∙ i
 
 pub room-ends : (qs : List Queue) (k room : ℕ) (s : Bool) → length qs ≤ k → ltb (suc (live qs k)) room ≡ s → ltb 1 room ≡ s
-room-ends qs k room s h i = sym (ap (λ (l : List ℕ). ltb (suc (length l)) room) (no-more qs k h)) ∙ i
+room-ends qs k room s h i = sym (ap (λ (l : List ℕ). ltb (suc (length l)) room) (live-none qs k h)) ∙ i

@@ -14,9 +14,9 @@ use Rattle.window.specs.declared.Row.{Row}
 use Rattle.step.specs.declared.Queue.{Queue}
 use Rattle.step.specs.Queues.{listOf, livePts}
 use Rattle.step.specs.State.{noQueue}
-use Rattle.step.specs.Soundness.{rowSound, rowsSound, hasRow, windowsSound, queuesSound, roomSound}
-use Rattle.soundness.specs.Held.{rowEndsIn, queueSound}
-use Rattle.step.specs.Laws.Queues.{length-list}
+use Rattle.step.specs.Soundness.{rowSound, rowsSound, hasRow, rowEndsIn, windowsSound, queuesSound, roomSound}
+use Rattle.soundness.specs.Held.{queueSound}
+use Rattle.step.specs.Laws.Queues.{length-list, live-next, live-none}
 
 -- ---- the elements of a list from the ith on
 
@@ -77,7 +77,7 @@ unfolding windowsSound
 windows-nil nr np nd = refl
 
 pub windows-cons : (nr np nd : ℕ) (r : Row) (rs : List Row) → windowsSound nr np nd (r ∷ rs) ≡ rowEndsIn nr np nd r && windowsSound nr np nd rs
-unfolding windowsSound rowEndsIn
+unfolding windowsSound
 windows-cons nr np nd r rs = refl
 
 abbrev pub windows-tested : (registers program dataWords : ℕ) → Tested (windows registers program dataWords)
@@ -112,26 +112,18 @@ module _ (t : ℕ) where
 -- ---- the PTs of the queues from the kth on
 
 module _ (qs : List Queue) (k : ℕ) where
-  pub live-next : k < length qs → livePts (drop k qs) ≡ listOf (getD qs k noQueue) ++ livePts (drop (k + 1) qs)
-  unfolding livePts
-  live-next h = ap livePts (next-of qs k noQueue h)
-
-  pub live-none : length qs ≤ k → livePts (drop k qs) ≡ []
-  unfolding livePts
-  live-none h = ap livePts (none-of qs k h)
-
   -- one queue more is counted
   pub count-goes : (n m : ℕ) → k < length qs → n + length (livePts (drop k qs)) ≡ m → n + getD qs k noQueue .len + length (livePts (drop (k + 1) qs)) ≡ m
   count-goes n m h i =
       let e : length (livePts (drop k qs)) ≡ length (listOf (getD qs k noQueue)) + length (livePts (drop (k + 1) qs)) =
-      ap length (live-next h) ∙ length-append (listOf (getD qs k noQueue)) (livePts (drop (k + 1) qs)) in
+      ap length (live-next qs k h) ∙ length-append (listOf (getD qs k noQueue)) (livePts (drop (k + 1) qs)) in
       omega (arith, length-list (getD qs k noQueue))
 
   pub count-full : (n m : ℕ) → k < length qs → 64 ≤ n + getD qs k noQueue .len → n + length (livePts (drop k qs)) ≡ m → 64 ≡ min 64 m
   count-full n m h f i = sym (min-eq-left (omega (arith, count-goes n m h i)))
 
   pub count-ends : (n m : ℕ) → length qs ≤ k → n < 64 → n + length (livePts (drop k qs)) ≡ m → n ≡ min 64 m
-  count-ends n m h f i = let e = ap length (live-none h) in let q : m ≡ n = omega arith in rw q (sym (min-eq-right (omega arith)))
+  count-ends n m h f i = let e = ap length (live-none qs k h) in let q : m ≡ n = omega arith in rw q (sym (min-eq-right (omega arith)))
 
 -- ---- the room for processes
 
@@ -139,15 +131,11 @@ pub and-false : (b : Bool) → (b && false) ≡ false
 and-false true = refl
 and-false false = refl
 
-module _ (live flag : ℕ) where
-  pub room-up : (flag ≡ 0 → ⊥) → true ≡ roomSound live flag
-  unfolding roomSound
-  room-up h = sym (ap not (ap (λ (b : Bool). leb 64 live && b) (ne-eqb flag 0 h) ∙ and-false (leb 64 live)))
-
-  pub room-down : flag ≡ 0 → ltb (min 64 live) 64 ≡ roomSound live flag
-  unfolding roomSound
-  room-down h = rw (eq-eqb flag 0 h) (go (leb 64 live) (le? 64 live))
-    where
-      go : (b : Bool) → Le? 64 live b → ltb (min 64 live) 64 ≡ not (b && true)
-      go true (below k) = rw (min-eq-left k)
-      go false (above k) = let h : live ≤ 64 = omega arith in rw (min-eq-right h) (lt-ltb live 64 k)
+-- counted to 64, they leave the same room
+pub room-counted : (live flag : ℕ) → roomSound (min 64 live) flag ≡ roomSound live flag
+unfolding roomSound
+room-counted live flag = ap (λ (b : Bool). not (b && eqb flag 0)) (go (leb 64 live) (le? 64 live))
+  where
+    go : (b : Bool) → Le? 64 live b → leb 64 (min 64 live) ≡ b
+    go true (below k) = rw (min-eq-left k)
+    go false (above k) = let h : live ≤ 64 = omega arith in rw (min-eq-right h) (lt-leb 64 live k)

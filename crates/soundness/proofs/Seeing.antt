@@ -16,12 +16,11 @@ use Rattle.step.specs.declared.Queue.{Queue}
 use Rattle.step.specs.Queues.{ring, listOf, livePts, occ}
 use Rattle.step.specs.State.{noQueue, pswsOf}
 use Rattle.step.specs.Soundness.{every, distinct, ptSound, processesSound}
-use Rattle.step.specs.Laws.Queues.{ring-same}
+use Rattle.step.specs.Laws.Queues.{ring-same, ring-first, live-next, live-none}
 use Rattle.step.specs.Laws.Occurrences.{occ-nil, occ-cons, hit-same, hit-differ}
 use Rattle.step.specs.Laws.Every.{every-at, every-of, every-map, once-of, distinct-of}
 use Rattle.soundness.specs.declared.Seen.{Seen}
 use Rattle.soundness.specs.Seen.{fresh, seenOne, seenAfter}
-use Rattle.soundness.proofs.Loops.{live-next, live-none}
 
 pub zero-of : (n : ℕ) → (n ≢ 0 → ⊥) → n ≡ 0
 zero-of zero h = refl
@@ -34,15 +33,6 @@ together false true f g = g refl
 together false false f g = refl
 
 -- ---- over a ring
-
-pub ring-first : (a : List ℕ) (h n : ℕ) → h < 64 → 0 < n → ring a h n ≡ getD a h 0 ∷ ring a ((h + 1) % 64) (n - 1)
-unfolding ring
-ring-first a h zero p q = absurd (omega arith)
-ring-first a h (suc n) p q =
-    let m : n ≡ suc n - 1 = omega arith in
-    let i : h % 64 ≡ h = omega arith in
-    ap₂ {C = List ℕ} (λ x y. x ∷ y) (ap (λ (i : ℕ). getD a i 0) i)
-    (ring-same a (suc h) ((h + 1) % 64) n (omega arith) ∙ ap (ring a ((h + 1) % 64)) m)
 
 module _ (psw : List ℕ) where
   pub ring-starts : (q : Queue) (s : Seen) → seenAfter psw (ring (q .pts) (q .head % 64) (q .len)) s ≡ seenAfter psw (listOf q) s

@@ -5,12 +5,11 @@ use mathlib.Core.List.{List}
 use lib.Dec.{eqb, leb}
 use lib.ListN.{take}
 use Rattle.window.specs.declared.Row.{Row}
-use Rattle.window.specs.Windows.{registerWindow, programWindow, dataWordWindow}
 use Rattle.window.specs.Memories.{memory}
 use Rattle.step.specs.declared.Queue.{Queue}
 use Rattle.step.specs.declared.ProcessTable.{ProcessTable}
 use Rattle.step.specs.State.{State}
-use Rattle.step.specs.Soundness.{hasRow, endsIn, queueShaped, sound}
+use Rattle.step.specs.Soundness.{hasRow, queueShaped, sound}
 
 -- the state that is held
 unfoldable pub stateIn : (rows : List Row) → (n : ℕ) → ProcessTable → (constants tags words program dataTags dataWords : List ℕ) → State
@@ -22,10 +21,6 @@ stateIn rows n table constants tags words program dataTags dataWords = record {
   program = program;
   dataWords = memory dataTags dataWords;
 }
-
--- the windows of a row end in memories of so many places
-unfoldable pub rowEndsIn : (registers program dataWords : ℕ) → Row → Bool
-rowEndsIn nr np nd r = endsIn (registerWindow r) nr && (endsIn (programWindow r) np && endsIn (dataWordWindow r) nd)
 
 -- the queue of task t: in its array, and empty where t is unlisted
 unfoldable pub queueSound : List Row → (t : ℕ) → Queue → Bool

@@ -9,22 +9,15 @@ ghost use Rattle.window.specs.Memories.{memory};
 ghost use Rattle.window.specs.declared.Row.{Row};
 ghost use Rattle.step.specs.declared.ProcessTable.{ProcessTable};
 ghost use Rattle.step.specs.Queues.{total, listOf, livePts};
-ghost use Rattle.step.specs.Soundness.{taskSound, kindSound, recordSound, basesSound, rowSound, rowsSound, hasRow, endsIn, windowsSound, queuesSound, processesSound, ptSound, roomSound, tableSound, memorySound, memoriesSound};
+ghost use Rattle.step.specs.Soundness.{basesSound, rowSound, rowsSound, hasRow, windowsSound, queuesSound, processesSound, ptSound, tableSound, memorySound, memoriesSound};
 ghost use Rattle.image_words.specs.Scanning.{tagTest};
-ghost use Rattle.soundness.specs.Held.{stateIn, soundIn, rowEndsIn, queueSound};
+ghost use Rattle.soundness.specs.Held.{stateIn, soundIn, queueSound};
 ghost use Rattle.soundness.specs.Seen.{seenAfter};
 use step::ProcessTable;
 use step::Queue;
 use window::Row;
-use window::Window;
 
 // ---- rows
-
-fn task_sound(before: u8, task: u8) -> bool
-    ensures { λ r. ⌜ r ≡ taskSound before task ⌝ }
-{
-    before < task && task <= 7
-}
 
 // The widths of PB and PL are those of their types.
 fn bases_sound(row: Row) -> bool
@@ -45,38 +38,21 @@ fn bases_sound(row: Row) -> bool
     row.dl < 0x100_0000
 }
 
-fn kind_sound(kind: u8) -> bool
-    ensures { λ r. ⌜ r ≡ kindSound kind ⌝ }
-{
-    match kind {
-        0x00 | 0x12 | 0x14 | 0x16 | 0x1A | 0x1C | 0x1E | 0xFF => true,
-        _ => false,
-    }
-}
-
-fn record_sound(kind: u8, psw: u64) -> bool
-    ensures { λ r. ⌜ r ≡ recordSound kind psw ⌝ }
-{
-    if kind == 0xFF {
-        return psw == 0;
-    }
-    word::psw_sound(psw)
-}
-
 // A row after the row of task `before`.
 fn row_sound(before: u8, row: Row) -> bool
     ensures { λ r. ⌜ r ≡ rowSound before row ⌝ }
 {
-    if !task_sound(before, row.task) {
+    if !field_tests::task_sound(before as u64, row.task as u64) {
         return false;
     }
     if !bases_sound(row) {
         return false;
     }
-    if !kind_sound(row.kind) {
+    let kind = row.kind as u64;
+    if !field_tests::kind_sound(kind) {
         return false;
     }
-    record_sound(row.kind, row.psw)
+    field_tests::record_sound(kind, row.psw)
 }
 
 // The first n rows, in ascending number.
@@ -118,25 +94,6 @@ fn has_row(t: u8, rows: [Row; 7], n: usize) -> bool
 
 // ---- windows
 
-// A window that isn't empty ends in its memory of n places.
-fn ends_in(w: Window, n: usize) -> bool
-    ensures { λ r. ⌜ r ≡ endsIn w n ⌝ }
-{
-    w.last < w.first || w.last < n
-}
-
-fn row_ends_in(row: Row, registers: usize, program: usize, data_words: usize) -> bool
-    ensures { λ r. ⌜ r ≡ rowEndsIn registers program data_words row ⌝ }
-{
-    if !ends_in(window::register_window(row), registers) {
-        return false;
-    }
-    if !ends_in(window::program_window(row), program) {
-        return false;
-    }
-    ends_in(window::data_word_window(row), data_words)
-}
-
 // The windows of the first n rows.
 fn windows_sound(
     rows: [Row; 7],
@@ -152,7 +109,7 @@ fn windows_sound(
         if n <= i {
             return true;
         }
-        if !row_ends_in(rows[i], registers, program, data_words) {
+        if !field_tests::row_ends_in(rows[i], registers, program, data_words) {
             return false;
         }
         i += 1;
@@ -262,16 +219,6 @@ pub fn live(queues: [Queue; 7]) -> usize
     n
 }
 
-// Not all processes with the flag down.
-fn room_sound(queues: [Queue; 7], flag: u8) -> bool
-    ensures { λ r. ⌜ r ≡ roomSound (length (livePts queues)) flag ⌝ }
-{
-    if flag != 0 {
-        return true;
-    }
-    live(queues) < 64
-}
-
 fn table_sound(rows: [Row; 7], n: usize, table: ProcessTable) -> bool
     ensures { λ r. ⌜ r ≡ tableSound (take n rows) table ⌝ }
 {
@@ -287,7 +234,7 @@ fn table_sound(rows: [Row; 7], n: usize, table: ProcessTable) -> bool
     if 1 < flag {
         return false;
     }
-    room_sound(queues, flag)
+    field_tests::room_sound(live(queues), flag as u64)
 }
 
 // ---- the memories

@@ -3,8 +3,8 @@ use Prim.Native.Nat.{_+_, _*_, _≤_}
 use mathlib.Core.Path.{_≡_, refl, sym, _∙_}
 use mathlib.Core.Bool.{true, false}
 use borrow.Author.Tests.{not-true, not-false}
-use Rattle.step.specs.Soundness.{windowsSound}
-use Rattle.image_check.specs.Checked.{rowAt, rowsAt, rowEndsIn}
+use Rattle.step.specs.Soundness.{rowEndsIn, windowsSound}
+use Rattle.image_check.specs.Checked.{rowAt, rowsAt}
 use Rattle.image_check.proofs.Loops.{rowsFrom, windows-next, windows-none}
 use borrow.Author.Needs.{needs}
 use native.Mathlib.Omega.{arith}

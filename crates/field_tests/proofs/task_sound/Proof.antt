@@ -1,7 +1,8 @@
+-- `field_tests::task_sound` meets its contract.
 use borrow.Author.Tests.{lt-ltb, le-ltb}
 use Rattle.step.specs.Soundness.{taskSound}
-use Rattle.soundness.proofs.task_sound.Statement.{statement}
-use Rattle.soundness.proofs.task_sound.Tie as tie
+use Rattle.field_tests.proofs.task_sound.Statement.{statement}
+use Rattle.field_tests.proofs.task_sound.Tie as tie
 
 returns : tie.Need-returns
 unfolding taskSound
@@ -12,4 +13,6 @@ unfolding taskSound
 returns-2 c = simp (le-ltb _ _ (c .if1 .left))
 
 pub task-sound-spec : {M : Type 1} → statement M
-task-sound-spec = tie.close (tie.spec returns returns-2)
+task-sound-spec =
+    tie.close
+    (tie.spec returns returns-2)

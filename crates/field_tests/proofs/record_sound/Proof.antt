@@ -1,9 +1,9 @@
--- `image_check::record_sound` meets its contract.
+-- `field_tests::record_sound` meets its contract.
 use borrow.Author.Tests.{eq-eqb, ne-eqb}
 use Rattle.step.specs.Soundness.{recordSound}
 use borrow.Author.Needs.{needs}
-use Rattle.image_check.proofs.record_sound.Statement.{statement}
-use Rattle.image_check.proofs.record_sound.Tie as tie
+use Rattle.field_tests.proofs.record_sound.Statement.{statement}
+use Rattle.field_tests.proofs.record_sound.Tie as tie
 
 returns : tie.Need-returns
 unfolding recordSound

@@ -1,8 +1,8 @@
--- `image_check::ends_in` meets its contract.
+-- `field_tests::ends_in` meets its contract.
 use borrow.Author.Tests.{lt-ltb, le-ltb}
 use Rattle.step.specs.Soundness.{endsIn}
-use Rattle.image_check.proofs.ends_in.Statement.{statement}
-use Rattle.image_check.proofs.ends_in.Tie as tie
+use Rattle.field_tests.proofs.ends_in.Statement.{statement}
+use Rattle.field_tests.proofs.ends_in.Tie as tie
 
 returns : tie.Need-returns
 unfolding endsIn

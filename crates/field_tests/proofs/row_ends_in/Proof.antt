@@ -1,9 +1,9 @@
--- `image_check::row_ends_in` meets its contract.
+-- `field_tests::row_ends_in` meets its contract.
 use borrow.Author.Tests.{not-true, not-false}
-use Rattle.image_check.specs.Checked.{rowEndsIn}
+use Rattle.step.specs.Soundness.{rowEndsIn}
 use borrow.Author.Needs.{needs}
-use Rattle.image_check.proofs.row_ends_in.Statement.{statement}
-use Rattle.image_check.proofs.row_ends_in.Tie as tie
+use Rattle.field_tests.proofs.row_ends_in.Statement.{statement}
+use Rattle.field_tests.proofs.row_ends_in.Tie as tie
 
 register-window-requires : tie.Need-register-window-requires
 register-window-requires c κs = search needs

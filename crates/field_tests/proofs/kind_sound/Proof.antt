@@ -1,10 +1,10 @@
--- `image_check::kind_sound` meets its contract: at one of the eight kinds `kindSound` computes, and else no test of it holds.
+-- `field_tests::kind_sound` meets its contract: at one of the eight kinds `kindSound` computes, and else no test of it holds.
 use borrow.Author.Tests.{ne-eqb}
 use mathlib.Core.Logic.{inl, inr, ⊎-elim}
 use Rattle.operation.specs.Environment.{kindOf}
 use Rattle.step.specs.Soundness.{member, kinds, kindSound}
-use Rattle.image_check.proofs.kind_sound.Statement.{statement}
-use Rattle.image_check.proofs.kind_sound.Tie as tie
+use Rattle.field_tests.proofs.kind_sound.Statement.{statement}
+use Rattle.field_tests.proofs.kind_sound.Tie as tie
 
 returns : tie.Need-returns
 unfolding kindSound kinds kindOf member

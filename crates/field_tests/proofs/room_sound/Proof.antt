@@ -1,8 +1,8 @@
--- `image_check::room_sound` meets its contract.
+-- `field_tests::room_sound` meets its contract.
 use borrow.Author.Tests.{lt-leb, le-leb}
 use Rattle.step.specs.Soundness.{roomSound}
-use Rattle.image_check.proofs.room_sound.Statement.{statement}
-use Rattle.image_check.proofs.room_sound.Tie as tie
+use Rattle.field_tests.proofs.room_sound.Statement.{statement}
+use Rattle.field_tests.proofs.room_sound.Tie as tie
 
 returns : tie.Need-returns
 unfolding roomSound
