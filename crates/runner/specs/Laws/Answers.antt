@@ -1,0 +1,1 @@
+-- The answers of a run, refusal by refusal.

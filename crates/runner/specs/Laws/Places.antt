@@ -1,0 +1,68 @@
+-- The place of a row is where a search finds it and where a row is put for it.
+use Prim.Native.Nat.{ℕ, suc, _+_, _<_}
+use mathlib.Core.Path.{_≡_, refl, sym, ap, _∙_, subst}
+use mathlib.Core.Bool.{Bool, true, false, cond}
+use mathlib.Core.Option.{Option, none, some}
+use mathlib.Core.List.{List, [], _∷_}
+use native.Mathlib.Omega.{arith}
+use lib.Dec.{eqb}
+use lib.ListN.{length, getD, set, take, drop, length-take}
+use lib.Seq.{getD-take, take-set-lt, drop-set-lt}
+use Rattle.window.specs.declared.Row.{Row}
+use Rattle.step.specs.State.{findRow, putRow}
+use Rattle.runner.specs.declared.RowPlace.{RowPlace}
+use Rattle.runner.specs.declared.RowPlace.the-variants.{Listed, Unlisted}
+use Rattle.runner.specs.Place.{placeFrom}
+
+-- what a search of rows finds, and the rows with another for the found one, by the place; d stands for a row outside of an array
+data Placed (d : Row) (k : ℕ) (rows : List Row) (found : Option Row) (put : Row → List Row) : RowPlace → Type 0 where
+  listed : (i j : ℕ) → i ≡ k + j → j < length rows → found ≡ some (getD rows j d) → ((x : Row) → put x ≡ set rows j x) → Placed d k rows found put (Listed i)
+  unlisted : found ≡ none → Placed d k rows found put Unlisted
+
+-- behind one more row
+behind : (d r : Row) (k : ℕ) (rows : List Row) (found : Option Row) (put : Row → List Row) (p : RowPlace) → Placed d (suc k) rows found put p
+    → Placed d k (r ∷ rows) found (λ x. r ∷ put x) p
+behind d r k rows found put p (listed i j e h f g) = listed i (suc j) (omega arith) (omega arith) f (λ x. ap (λ (l : List Row). r ∷ l) (g x))
+behind d r k rows found put p (unlisted f) = unlisted f
+
+placed : (d : Row) (t k : ℕ) (rows : List Row) → Placed d k rows (findRow t rows) (λ x. putRow t x rows) (placeFrom t k rows)
+unfolding findRow putRow placeFrom
+placed d t k [] = unlisted refl
+placed d t k (r ∷ rs) = go (eqb (r .task) t) (placed d t (suc k) rs)
+  where
+    go : (b : Bool) → Placed d (suc k) rs (findRow t rs) (λ x. putRow t x rs) (placeFrom t (suc k) rs)
+        → Placed d k (r ∷ rs) (cond b (some r) (findRow t rs)) (λ x. cond b (x ∷ rs) (r ∷ putRow t x rs)) (cond b (Listed k) (placeFrom t (suc k) rs))
+    go true p = listed k 0 (omega arith) (omega arith) refl (λ x. refl)
+    go false p = behind d r k rs (findRow t rs) (λ x. putRow t x rs) (placeFrom t (suc k) rs) p
+
+-- the row of task t stands at j of an array of which the first n count
+pub record Stands (d : Row) (t n : ℕ) (rows : List Row) (j : ℕ) : Type 0 where
+  pub inside : j < length rows
+  pub finds : findRow t (take n rows) ≡ some (getD rows j d)
+  pub puts : (x : Row) → putRow t x (take n rows) ≡ take n (set rows j x)
+  pub beyond : (x : Row) → drop n (set rows j x) ≡ drop n rows
+
+module _ (d : Row) (t n : ℕ) (rows : List Row) where
+  pub stands : (j : ℕ) → Listed j ≡ placeFrom t 0 (take n rows) → Stands d t n rows j
+  stands j e = go (placeFrom t 0 (take n rows)) e (placed d t 0 (take n rows))
+    where
+      go : (p : RowPlace) → Listed j ≡ p → Placed d 0 (take n rows) (findRow t (take n rows)) (λ x. putRow t x (take n rows)) p → Stands d t n rows j
+      go p e (listed i k q h f g) =
+          let s : j ≡ i = cc in
+          let m : j ≡ k = omega arith in
+          let a : k < n = omega (arith, length-take) in
+          rw m
+          (record {
+            inside = omega (arith, length-take);
+            finds = f ∙ ap some (getD-take n rows k d a);
+            puts = λ x. g x ∙ sym (take-set-lt n rows k x a);
+            beyond = λ x. drop-set-lt n rows k x a;
+          })
+      go p e (unlisted f) = let z : _≡_ {A = ℕ} 0 1 = cc in absurd (omega arith)
+
+  pub unfound : Unlisted ≡ placeFrom t 0 (take n rows) → findRow t (take n rows) ≡ none
+  unfound e = go (placeFrom t 0 (take n rows)) e (placed d t 0 (take n rows))
+    where
+      go : (p : RowPlace) → Unlisted ≡ p → Placed d 0 (take n rows) (findRow t (take n rows)) (λ x. putRow t x (take n rows)) p → findRow t (take n rows) ≡ none
+      go p e (listed i k q h f g) = let z : _≡_ {A = ℕ} 0 1 = cc in absurd (omega arith)
+      go p e (unlisted f) = f
