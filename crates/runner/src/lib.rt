@@ -174,17 +174,19 @@ fn run_items(
     }
 }
 
+fn item_sound(t: u8) -> bool
+    ensures { λ r. ⌜ r ≡ itemSound t ⌝ }
+{
+    1 <= t && t <= 7
+}
+
 // Whether every item is a task number 1 to 7.
 fn items_sound(schedule: &[u8]) -> bool
     ensures { λ r. ⌜ r ≡ every itemSound (now (schedule .entry)) ⌝ }
 {
     let mut i = 0;
     while i < schedule.len() {
-        let t = schedule[i];
-        if t < 1 {
-            return false;
-        }
-        if 7 < t {
+        if !item_sound(schedule[i]) {
             return false;
         }
         i += 1;

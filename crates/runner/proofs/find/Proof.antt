@@ -1,49 +1,44 @@
+use Prim.Native.Nat.{_-_, _≤_}
+use mathlib.Core.Path.{_≡_, refl}
+use native.Mathlib.Omega.{arith}
+use lib.ListN.{take, drop}
+use Rattle.runner.specs.Place.{placeFrom}
+use Rattle.runner.specs.Laws.Places.{row-found, row-passed, past-count, past-end}
 use Rattle.runner.proofs.find.Statement.{statement}
 use Rattle.runner.proofs.find.Tie as tie
-use Rattle.runner.proofs.find.Reads as reads
-use Rattle.runner.proofs.find.Lts as lts
 
 abbrev Inv-loop : tie.InvT-loop
-Inv-loop n t rows i₀ i = ?
+Inv-loop n t rows i₀ i = (i ≤ 7) × (placeFrom t i (drop i (take n rows)) ≡ placeFrom t 0 (take n rows))
 
 abbrev μ-loop : tie.MeasureT-loop
-μ-loop n t rows i₀ i = ?
+μ-loop n t rows i₀ i = 7 - i
 
--- src/lib.rt:53:5
 loop-holds : tie.Need-loop-holds Inv-loop μ-loop
-loop-holds c = ?
+loop-holds c = (omega arith, refl)
 
--- src/lib.rt:55:13
 returns : tie.Need-returns Inv-loop μ-loop
-returns c = ?
+returns c = past-count _ _ _ _ (c .if1 .taken) (c .before .before .loop .inv .1)
 
--- src/lib.rt:57:12
 mul-if2 : tie.Need-mul-if2 Inv-loop μ-loop
-mul-if2 c = ?
+mul-if2 c = omega arith
 
--- src/lib.rt:57:12
 element-copy-out-if2 : tie.Need-element-copy-out-if2 Inv-loop μ-loop
-element-copy-out-if2 c = ?
+element-copy-out-if2 c = omega arith
 
--- src/lib.rt:58:13
 returns-2 : tie.Need-returns-2 Inv-loop μ-loop
-returns-2 c = ?
+returns-2 c = row-found _ _ _ _ _ (c .before .if1 .left) (omega arith) (c .if2 .taken) (c .before .before .before .loop .inv .1)
 
--- src/lib.rt:60:9
 add-i : tie.Need-add-i Inv-loop μ-loop
-add-i c = ?
+add-i c = omega arith
 
--- src/lib.rt:53:5
 loop-less : tie.Need-loop-less Inv-loop μ-loop
-loop-less c = ?
+loop-less c = omega arith
 
--- src/lib.rt:53:5
 loop-again : tie.Need-loop-again Inv-loop μ-loop
-loop-again c = ?
+loop-again c = (omega arith, row-passed _ _ _ _ _ (c .before .if1 .left) (omega arith) (c .if2 .left) (c .before .before .before .loop .inv .1))
 
--- src/lib.rt:49:1
 returns-3 : tie.Need-returns-3 Inv-loop μ-loop
-returns-3 c = ?
+returns-3 c = past-end _ (c .before .before .args .n) (c .before .loop .i) (c .before .before .args .t1) (omega arith) (c .before .loop .inv .1)
 
 pub find-spec : {M : Type 1} → statement M
 find-spec =

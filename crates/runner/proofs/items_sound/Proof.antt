@@ -1,45 +1,43 @@
+use Prim.Native.Nat.{_-_}
+use mathlib.Core.Path.{_≡_, refl, sym, _∙_}
+use lib.ListN.{length, drop}
+use borrow.Author.Needs.{needs}
+use borrow.Author.Tests.{not-true, not-false}
+use Rattle.step.specs.Soundness.{every}
+use Rattle.run.specs.Schedule.{itemSound}
+use Rattle.runner.specs.Laws.Items.{item-passes, item-fails, items-end}
 use Rattle.runner.proofs.items_sound.Statement.{statement}
 use Rattle.runner.proofs.items_sound.Tie as tie
-use Rattle.runner.proofs.items_sound.Reads as reads
-use Rattle.runner.proofs.items_sound.Lts as lts
 
 abbrev Inv-loop : tie.InvT-loop
-Inv-loop schedule i₀ i = ?
+Inv-loop schedule i₀ i = every itemSound (drop i schedule) ≡ every itemSound schedule
 
 abbrev μ-loop : tie.MeasureT-loop
-μ-loop schedule i₀ i = ?
+μ-loop schedule i₀ i = length schedule - i
 
--- src/lib.rt:182:5
 loop-holds : tie.Need-loop-holds Inv-loop μ-loop
-loop-holds c = ?
+loop-holds c = refl
 
--- src/lib.rt:183:17
-shared-slice-read-t : tie.Need-shared-slice-read-t Inv-loop μ-loop
-shared-slice-read-t c = ?
+shared-slice-read-item-sound : tie.Need-shared-slice-read-item-sound Inv-loop μ-loop
+shared-slice-read-item-sound c = search needs
 
--- src/lib.rt:185:13
+item-sound-requires : tie.Need-item-sound-requires Inv-loop μ-loop
+item-sound-requires c κs = search needs
+
 returns : tie.Need-returns Inv-loop μ-loop
-returns c = ?
+returns c = item-fails _ _ (c .before .before .before .loop-test .taken) (sym (c .before .item-sound .ensures) ∙ not-true (c .before .item-sound .result) (c .if1 .taken)) (c .before .before .before .before .loop .inv)
 
--- src/lib.rt:188:13
-returns-2 : tie.Need-returns-2 Inv-loop μ-loop
-returns-2 c = ?
-
--- src/lib.rt:190:9
 add-i : tie.Need-add-i Inv-loop μ-loop
-add-i c = ?
+add-i c = search needs
 
--- src/lib.rt:182:5
 loop-less : tie.Need-loop-less Inv-loop μ-loop
-loop-less c = ?
+loop-less c = search needs
 
--- src/lib.rt:182:5
 loop-again : tie.Need-loop-again Inv-loop μ-loop
-loop-again c = ?
+loop-again c = item-passes _ _ (c .before .before .before .loop-test .taken) (sym (c .before .item-sound .ensures) ∙ not-false (c .before .item-sound .result) (c .if1 .left)) (c .before .before .before .before .loop .inv)
 
--- src/lib.rt:178:1
-returns-3 : tie.Need-returns-3 Inv-loop μ-loop
-returns-3 c = ?
+returns-2 : tie.Need-returns-2 Inv-loop μ-loop
+returns-2 c = items-end _ _ (c .loop-test .left) (c .before .loop .inv)
 
 pub items-sound-spec : {M : Type 1} → statement M
 items-sound-spec =
@@ -48,10 +46,10 @@ items-sound-spec =
     Inv-loop
     μ-loop
     loop-holds
-    shared-slice-read-t
+    shared-slice-read-item-sound
+    item-sound-requires
     returns
-    returns-2
     add-i
     loop-less
     loop-again
-    returns-3)
+    returns-2)

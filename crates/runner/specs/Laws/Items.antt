@@ -1,7 +1,7 @@
 -- A run goes on by one item.
 use Prim.Native.Nat.{ℕ, zero, suc, _+_, _-_, _≤_, _<_}
 use mathlib.Core.Path.{_≡_, refl, sym, ap, _∙_}
-use mathlib.Core.Bool.{Bool, true, false}
+use mathlib.Core.Bool.{Bool, true, false, _&&_}
 use mathlib.Core.Option.{none}
 use mathlib.Core.List.{List, [], _∷_}
 use native.Mathlib.Numerals.{add-one}
@@ -34,6 +34,22 @@ unfolding itemSound
 item-in l i e h =
     let s : itemSound (getD l i 0) ≡ true = sound-at l i e h in
     (leb-true 1 (getD l i 0) (and-left (leb 1 (getD l i 0)) (leb (getD l i 0) 7) s), leb-true (getD l i 0) 7 (and-right (leb 1 (getD l i 0)) (leb (getD l i 0) 7) s))
+
+-- a test of the items one by one, those from the ith on being left
+module _ (l : List ℕ) (i : ℕ) where
+  next-test : i < length l → every itemSound (drop i l) ≡ itemSound (getD l i 0) && every itemSound (drop (i + 1) l)
+  unfolding every
+  next-test h = rw (add-one i) (ap (every itemSound) (drop-cons l i 0 h))
+
+  pub item-passes : {w : Bool} → i < length l → itemSound (getD l i 0) ≡ true → every itemSound (drop i l) ≡ w → every itemSound (drop (i + 1) l) ≡ w
+  item-passes h e p = sym (next-test h ∙ ap (λ (b : Bool). b && every itemSound (drop (i + 1) l)) e) ∙ p
+
+  pub item-fails : {w : Bool} → i < length l → itemSound (getD l i 0) ≡ false → every itemSound (drop i l) ≡ w → false ≡ w
+  item-fails h e p = sym (next-test h ∙ ap (λ (b : Bool). b && every itemSound (drop (i + 1) l)) e) ∙ p
+
+  pub items-end : {w : Bool} → length l ≤ i → every itemSound (drop i l) ≡ w → true ≡ w
+  unfolding every
+  items-end h p = sym (ap (every itemSound) (drop-of-length-le l h)) ∙ p
 
 -- an unlisted task is idle
 pub unlisted-idle : (t : ℕ) (s : State) → findRow t (s .rows) ≡ none → step t s ≡ record { state = s; ending = Idle }

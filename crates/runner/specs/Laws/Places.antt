@@ -1,13 +1,16 @@
 -- The place of a row is where a search finds it and where a row is put for it.
-use Prim.Native.Nat.{ℕ, suc, _+_, _<_}
+use Prim.Native.Nat.{ℕ, suc, _+_, _≤_, _<_, min}
 use mathlib.Core.Path.{_≡_, refl, sym, ap, _∙_, subst}
+use mathlib.Core.Logic.{_≢_}
 use mathlib.Core.Bool.{Bool, true, false, cond}
 use mathlib.Core.Option.{Option, none, some}
 use mathlib.Core.List.{List, [], _∷_}
+use native.Mathlib.Numerals.{add-one}
 use native.Mathlib.Omega.{arith}
 use lib.Dec.{eqb}
-use lib.ListN.{length, getD, set, take, drop, length-take}
-use lib.Seq.{getD-take, take-set-lt, drop-set-lt}
+use lib.ListN.{length, getD, set, take, drop, length-take, drop-of-length-le}
+use lib.Seq.{drop-cons, getD-take, take-set-lt, drop-set-lt}
+use borrow.Author.Tests.{eq-eqb, ne-eqb}
 use Rattle.window.specs.declared.Row.{Row}
 use Rattle.step.specs.State.{findRow, putRow}
 use Rattle.runner.specs.declared.RowPlace.{RowPlace}
@@ -50,10 +53,11 @@ module _ (d : Row) (t n : ℕ) (rows : List Row) where
       go p e (listed i k q h f g) =
           let s : j ≡ i = cc in
           let m : j ≡ k = omega arith in
-          let a : k < n = omega (arith, length-take) in
+          let b : length (take n rows) ≡ min n (length rows) = length-take n rows in
+          let a : k < n = omega arith in
           rw m
           (record {
-            inside = omega (arith, length-take);
+            inside = omega arith;
             finds = f ∙ ap some (getD-take n rows k d a);
             puts = λ x. g x ∙ sym (take-set-lt n rows k x a);
             beyond = λ x. drop-set-lt n rows k x a;
@@ -66,3 +70,33 @@ module _ (d : Row) (t n : ℕ) (rows : List Row) where
       go : (p : RowPlace) → Unlisted ≡ p → Placed d 0 (take n rows) (findRow t (take n rows)) (λ x. putRow t x (take n rows)) p → findRow t (take n rows) ≡ none
       go p e (listed i k q h f g) = let z : _≡_ {A = ℕ} 0 1 = cc in absurd (omega arith)
       go p e (unlisted f) = f
+
+-- a search of the rows one by one, those from the ith on being left
+module _ (t n i : ℕ) (rows : List Row) where
+  next-row : (d : Row) → i < n → i < length rows
+      → placeFrom t i (drop i (take n rows)) ≡ cond (eqb (getD rows i d .task) t) (Listed i) (placeFrom t (i + 1) (drop (i + 1) (take n rows)))
+  unfolding placeFrom
+  next-row d h k =
+      let m : i < length (take n rows) = rw length-take (omega arith) in
+      rw (add-one i)
+      (ap (placeFrom t i) (drop-cons (take n rows) i d m)
+      ∙ ap (λ (r : Row). cond (eqb (r .task) t) (Listed i) (placeFrom t (suc i) (drop (suc i) (take n rows)))) (getD-take n rows i d h))
+
+  pub row-found : {w : RowPlace} (d : Row) → i < n → i < length rows → getD rows i d .task ≡ t → placeFrom t i (drop i (take n rows)) ≡ w → Listed i ≡ w
+  row-found d h k e p =
+      sym (next-row d h k ∙ ap (λ (b : Bool). cond b (Listed i) (placeFrom t (i + 1) (drop (i + 1) (take n rows)))) (eq-eqb (getD rows i d .task) t e)) ∙ p
+
+  pub row-passed : {w : RowPlace} (d : Row) → i < n → i < length rows → getD rows i d .task ≢ t → placeFrom t i (drop i (take n rows)) ≡ w
+      → placeFrom t (i + 1) (drop (i + 1) (take n rows)) ≡ w
+  row-passed d h k e p =
+      sym (next-row d h k ∙ ap (λ (b : Bool). cond b (Listed i) (placeFrom t (i + 1) (drop (i + 1) (take n rows)))) (ne-eqb (getD rows i d .task) t e)) ∙ p
+
+  none-left : {w : RowPlace} → length (take n rows) ≤ i → placeFrom t i (drop i (take n rows)) ≡ w → Unlisted ≡ w
+  unfolding placeFrom
+  none-left h p = sym (ap (placeFrom t i) (drop-of-length-le (take n rows) h)) ∙ p
+
+  pub past-count : {w : RowPlace} → n ≤ i → placeFrom t i (drop i (take n rows)) ≡ w → Unlisted ≡ w
+  past-count h p = none-left (rw length-take (omega arith)) p
+
+  pub past-end : {w : RowPlace} → length rows ≤ i → placeFrom t i (drop i (take n rows)) ≡ w → Unlisted ≡ w
+  past-end h p = none-left (rw length-take (omega arith)) p
