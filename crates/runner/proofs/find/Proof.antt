@@ -26,7 +26,7 @@ element-copy-out-if2 : tie.Need-element-copy-out-if2 Inv-loop μ-loop
 element-copy-out-if2 c = omega arith
 
 returns-2 : tie.Need-returns-2 Inv-loop μ-loop
-returns-2 c = row-found _ _ _ _ _ (c .before .if1 .left) (omega arith) (c .if2 .taken) (c .before .before .before .loop .inv .1)
+returns-2 c = row-found _ _ _ _ (c .before .if1 .left) (omega arith) (c .if2 .taken) (c .before .before .before .loop .inv .1)
 
 add-i : tie.Need-add-i Inv-loop μ-loop
 add-i c = omega arith
@@ -35,7 +35,7 @@ loop-less : tie.Need-loop-less Inv-loop μ-loop
 loop-less c = omega arith
 
 loop-again : tie.Need-loop-again Inv-loop μ-loop
-loop-again c = (omega arith, row-passed _ _ _ _ _ (c .before .if1 .left) (omega arith) (c .if2 .left) (c .before .before .before .loop .inv .1))
+loop-again c = (omega arith, row-passed _ _ _ _ (c .before .if1 .left) (omega arith) (c .if2 .left) (c .before .before .before .loop .inv .1))
 
 returns-3 : tie.Need-returns-3 Inv-loop μ-loop
 returns-3 c = past-end _ (c .before .before .args .n) (c .before .loop .i) (c .before .before .args .t1) (omega arith) (c .before .loop .inv .1)

@@ -1,224 +1,220 @@
+use Prim.Native.Nat.{_+_, _-_, _<_}
+use mathlib.Core.Path.{_≡_, refl, sym, ap, _∙_}
+use mathlib.Core.Logic.{⊎-elim}
+use mathlib.Core.Bool.{true≢false}
+use native.Mathlib.Omega.{arith}
+use lib.ListN.{length, getD, set, take, drop}
+use Rattle.window.specs.Memories.{memory}
+use Rattle.step.specs.declared.Queue.{Queue}
+use Rattle.step.specs.Queues.{headOf}
+use Rattle.step.specs.State.{noQueue, queueIn, withQueue, processesOf}
+use Rattle.step.specs.Act.{tableOf}
+use Rattle.step.specs.Laws.Parts.{unraised, queues-moved, queues-kept}
+use Rattle.run.specs.Run.{run}
+use Rattle.soundness.specs.Held.{stateIn}
+use Rattle.runner.specs.Laws.Places.{stands, unfound}
+use Rattle.runner.specs.Laws.Items.{Running, item-in, idle-turn, turn, row-stays, no-item}
+use borrow.Author.Needs.{needs}
 use Rattle.runner.proofs.run_items.Statement.{statement}
 use Rattle.runner.proofs.run_items.Tie as tie
-use Rattle.runner.proofs.run_items.Reads as reads
-use Rattle.runner.proofs.run_items.Lts as lts
-use Rattle.act.proofs.act.Reads as act-reads
-use Rattle.act.proofs.creates.Reads as creates-reads
-use Rattle.act.proofs.moved.Reads as moved-reads
-use Rattle.act.proofs.moves.Reads as moves-reads
-use Rattle.act.proofs.raised.Reads as raised-reads
-use Rattle.act.proofs.row_after.Reads as row-after-reads
-use Rattle.act.proofs.traps.Reads as traps-reads
-use Rattle.queue.proofs.has_room.Reads as has-room-reads
-use Rattle.queue.proofs.head_pt.Reads as head-pt-reads
-use Rattle.queue.proofs.lowest_free.Reads as lowest-free-reads
-use Rattle.runner.proofs.counted.Reads as counted-reads
-use Rattle.runner.proofs.find.Reads as find-reads
-use Rattle.stepper.proofs.decided.Reads as decided-reads
 
 abbrev Inv-loop : tie.InvT-loop
 Inv-loop n flag psw₀ schedule program constants tags₀ words₀ data-tags₀ data-words₀ rows₀ queues₀ flag₀ counts₀ i₀ psw tags words data-tags data-words rows queues flag' counts i =
-    ?
+    Running schedule i n rows₀ rows
+    (stateIn rows₀ n (tableOf psw₀ queues₀ flag₀) constants tags₀ words₀ program data-tags₀ data-words₀)
+    (stateIn rows n (tableOf psw queues flag') constants tags words program data-tags data-words)
+    counts
+    × ((length psw ≡ length psw₀) × (length tags ≡ length tags₀) × (length words ≡ length words₀) × (length data-tags ≡ length data-tags₀)
+    × (length data-words ≡ length data-words₀))
 
 abbrev μ-loop : tie.MeasureT-loop
 μ-loop n flag psw₀ schedule program constants tags₀ words₀ data-tags₀ data-words₀ rows₀ queues₀ flag₀ counts₀ i₀ psw tags words data-tags data-words rows queues flag' counts i =
-    ?
+    length schedule - i
 
--- src/lib.rt:116:5
 loop-holds : tie.Need-loop-holds Inv-loop μ-loop
-loop-holds c = ?
+unfolding run
+loop-holds c = (record { within = omega arith; counts = refl; seven = omega arith; beyond = refl; runs = refl }, (refl, refl, refl, refl, refl))
 
--- src/lib.rt:117:17
 shared-slice-read-t : tie.Need-shared-slice-read-t Inv-loop μ-loop
-shared-slice-read-t c = ?
+shared-slice-read-t c = search needs
 
--- src/lib.rt:118:9
 add-i : tie.Need-add-i Inv-loop μ-loop
-add-i c = ?
+add-i c = search needs
 
--- src/lib.rt:119:13
 find-requires : tie.Need-find-requires Inv-loop μ-loop
-find-requires c κs = ?
+find-requires c κs = search needs
 
--- src/lib.rt:120:30
 enum-known-place : tie.Need-enum-known-place Inv-loop μ-loop
-enum-known-place c = ?
+enum-known-place c = search needs
 
--- src/lib.rt:121:30
 enum-told : tie.Need-enum-told Inv-loop μ-loop
-enum-told c = ?
+enum-told c = search needs
 
--- src/lib.rt:121:13
 counted-requires : tie.Need-counted-requires Inv-loop μ-loop
-counted-requires c κs = ?
+counted-requires c κs = omega (arith, c .before .before .before .before .before .loop .inv .0 .counts, c .before .before .before .before .loop-test .taken)
 
--- src/lib.rt:116:5
 loop-less : tie.Need-loop-less Inv-loop μ-loop
-loop-less c = ?
+loop-less c = omega (arith, c .before .before .before .before .before .loop-test .taken)
 
--- src/lib.rt:116:5
 loop-again : tie.Need-loop-again Inv-loop μ-loop
-loop-again c = ?
+unfolding stateIn
+loop-again c = (idle-turn (c .before .before .before .before .before .before .loop .inv .0) (c .before .before .before .before .before .loop-test .taken) (unfound (getD (c .before .before .before .before .before .before .before .before .before .before .before .before .before .before .before .args .schedule .now) (c .before .before .before .before .before .before .loop .i) 0) (c .before .before .before .before .before .before .before .before .before .before .before .before .before .before .before .args .n) (c .before .before .before .before .before .before .loop .rows) (sym (c .before .enum-told .given .1) ∙ c .before .before .before .find .ensures)) (c .counted .ensures), c .before .before .before .before .before .before .loop .inv .1)
 
--- src/lib.rt:124:17
 cast-k : tie.Need-cast-k Inv-loop μ-loop
-cast-k c = ?
+cast-k c = omega (arith, item-in (c .before .before .before .before .before .before .before .before .before .before .before .before .before .before .before .args .schedule .now) (c .before .before .before .before .before .before .loop .i) (c .before .before .before .before .before .before .before .before .before .before .before .before .before .before .before .pre) (c .before .before .before .before .before .loop-test .taken) .1)
 
--- src/lib.rt:124:17
 sub-k : tie.Need-sub-k Inv-loop μ-loop
-sub-k c = ?
+sub-k c = item-in (c .before .before .before .before .before .before .before .before .before .before .before .before .before .before .before .args .schedule .now) (c .before .before .before .before .before .before .loop .i) (c .before .before .before .before .before .before .before .before .before .before .before .before .before .before .before .pre) (c .before .before .before .before .before .loop-test .taken) .0
 
--- src/lib.rt:125:17
 mul-q : tie.Need-mul-q Inv-loop μ-loop
-mul-q c = ?
+mul-q c = omega (arith, item-in (c .before .before .before .before .before .before .before .before .before .before .before .before .before .before .before .args .schedule .now) (c .before .before .before .before .before .before .loop .i) (c .before .before .before .before .before .before .before .before .before .before .before .before .before .before .before .pre) (c .before .before .before .before .before .loop-test .taken) .1)
 
--- src/lib.rt:125:17
 array-copy-out-q : tie.Need-array-copy-out-q Inv-loop μ-loop
-array-copy-out-q c = ?
+array-copy-out-q c = omega (arith, item-in (c .before .before .before .before .before .before .before .before .before .before .before .before .before .before .before .args .schedule .now) (c .before .before .before .before .before .before .loop .i) (c .before .before .before .before .before .before .before .before .before .before .before .before .before .before .before .pre) (c .before .before .before .before .before .loop-test .taken) .1)
 
--- src/lib.rt:126:13
 head-pt-requires : tie.Need-head-pt-requires Inv-loop μ-loop
-head-pt-requires c κs = ?
+head-pt-requires c κs = search needs
 
--- src/lib.rt:128:13
 mul-decided : tie.Need-mul-decided Inv-loop μ-loop
-mul-decided c = ?
+mul-decided c = omega (arith, stands (getD (c .before .before .before .before .before .before .before .before .before .before .before .before .before .before .before .before .before .args .schedule .now) (c .before .before .before .before .before .before .before .before .loop .i) 0) (c .before .before .before .before .before .before .before .before .before .before .before .before .before .before .before .before .before .args .n) (c .before .before .before .before .before .before .before .before .loop .rows) (c .before .before .before .place .given .0 .0) (sym (c .before .before .before .place .given .1) ∙ c .before .before .before .before .before .find .ensures) .inside, c .before .before .before .before .before .before .before .before .loop .inv .0 .seven)
 
--- src/lib.rt:128:13
 array-copy-out-decided : tie.Need-array-copy-out-decided Inv-loop μ-loop
-array-copy-out-decided c = ?
+array-copy-out-decided c = omega (arith, stands (getD (c .before .before .before .before .before .before .before .before .before .before .before .before .before .before .before .before .before .args .schedule .now) (c .before .before .before .before .before .before .before .before .loop .i) 0) (c .before .before .before .before .before .before .before .before .before .before .before .before .before .before .before .before .before .args .n) (c .before .before .before .before .before .before .before .before .loop .rows) (c .before .before .before .place .given .0 .0) (sym (c .before .before .before .place .given .1) ∙ c .before .before .before .before .before .find .ensures) .inside, c .before .before .before .before .before .before .before .before .loop .inv .0 .seven)
 
--- src/lib.rt:127:13
 decided-requires : tie.Need-decided-requires Inv-loop μ-loop
-decided-requires c κs = ?
+decided-requires c κs = search needs
 
--- src/lib.rt:142:12
 creates-requires : tie.Need-creates-requires Inv-loop μ-loop
-creates-requires c κs = ?
+creates-requires c κs = search needs
 
--- src/lib.rt:143:13
 lowest-free-requires : tie.Need-lowest-free-requires Inv-loop μ-loop
-lowest-free-requires c κs = ?
+lowest-free-requires c κs = search needs
 
--- src/lib.rt:144:13
 has-room-requires : tie.Need-has-room-requires Inv-loop μ-loop
-has-room-requires c κs = ?
+has-room-requires c κs = search needs
 
--- src/lib.rt:147:13
 mul-act : tie.Need-mul-act Inv-loop μ-loop
-mul-act c = ?
+mul-act c = mul-decided (c .before .before .before .before .before .before .before .before .before)
 
--- src/lib.rt:147:13
 array-copy-out-act : tie.Need-array-copy-out-act Inv-loop μ-loop
-array-copy-out-act c = ?
+array-copy-out-act c = array-copy-out-decided (c .before .before .before .before .before .before .before .before .before)
 
--- src/lib.rt:146:13
 act-requires : tie.Need-act-requires Inv-loop μ-loop
-act-requires c κs = ?
+act-requires c κs = search needs
 
--- src/lib.rt:160:9
 counted-requires-2 : tie.Need-counted-requires-2 Inv-loop μ-loop
-counted-requires-2 c κs = ?
+counted-requires-2 c κs = let l = c .before .before .before .before .before .before .before .before .before .before .before .before .before .before .before .before .before .before .before .before .before .before .before .before .before .before .before .before .before .before .before .before .before .before .loop .counts in
+    let g : l .executed + l .waved + l .trapped + l .idle < 18446744073709551615 = omega (arith, c .before .before .before .before .before .before .before .before .before .before .before .before .before .before .before .before .before .before .before .before .before .before .before .before .before .before .before .before .before .before .before .before .before .before .loop .inv .0 .counts, add-i (c .before .before .before .before .before .before .before .before .before .before .before .before .before .before .before .before .before .before .before .before .before .before .before .before .before .before .before .before .before .before .before .before)) in
+    g
 
--- src/lib.rt:161:12
 traps-requires : tie.Need-traps-requires Inv-loop μ-loop
-traps-requires c κs = ?
+traps-requires c κs = search needs
 
--- src/lib.rt:162:41
 mul-row-after : tie.Need-mul-row-after Inv-loop μ-loop
-mul-row-after c = ?
+mul-row-after c = mul-decided (c .before .before .before .before .before .before .before .before .before .before .before .before .before .before .before .before .before .before .before .before .before .before .before .before .before .before .before .before .before)
 
--- src/lib.rt:162:41
 array-copy-out-row-after : tie.Need-array-copy-out-row-after Inv-loop μ-loop
-array-copy-out-row-after c = ?
+array-copy-out-row-after c = array-copy-out-decided (c .before .before .before .before .before .before .before .before .before .before .before .before .before .before .before .before .before .before .before .before .before .before .before .before .before .before .before .before .before)
 
--- src/lib.rt:162:23
 row-after-requires : tie.Need-row-after-requires Inv-loop μ-loop
-row-after-requires c κs = ?
+row-after-requires c κs = search needs
 
--- src/lib.rt:162:13
 mul-rows : tie.Need-mul-rows Inv-loop μ-loop
-mul-rows c = ?
+mul-rows c = mul-decided (c .before .before .before .before .before .before .before .before .before .before .before .before .before .before .before .before .before .before .before .before .before .before .before .before .before .before .before .before .before .before .before)
 
--- src/lib.rt:162:13
 array-set-from-rows : tie.Need-array-set-from-rows Inv-loop μ-loop
-array-set-from-rows c = ?
+array-set-from-rows c = array-copy-out-decided (c .before .before .before .before .before .before .before .before .before .before .before .before .before .before .before .before .before .before .before .before .before .before .before .before .before .before .before .before .before .before .before)
 
--- src/lib.rt:164:26
 mul-moves : tie.Need-mul-moves Inv-loop μ-loop
-mul-moves c = ?
+mul-moves c = mul-q (c .before .before .before .before .before .before .before .before .before .before .before .before .before .before .before .before .before .before .before .before .before .before .before .before .before .before .before .before .before .before .before)
 
--- src/lib.rt:164:26
 element-copy-out-moves : tie.Need-element-copy-out-moves Inv-loop μ-loop
-element-copy-out-moves c = ?
+element-copy-out-moves c = array-copy-out-q (c .before .before .before .before .before .before .before .before .before .before .before .before .before .before .before .before .before .before .before .before .before .before .before .before .before .before .before .before .before .before .before)
 
--- src/lib.rt:164:12
 moves-requires : tie.Need-moves-requires Inv-loop μ-loop
-moves-requires c κs = ?
+moves-requires c κs = search needs
 
--- src/lib.rt:165:39
 mul-moved : tie.Need-mul-moved Inv-loop μ-loop
-mul-moved c = ?
+mul-moved c = mul-q (c .before .before .before .before .before .before .before .before .before .before .before .before .before .before .before .before .before .before .before .before .before .before .before .before .before .before .before .before .before .before .before .before .before)
 
--- src/lib.rt:165:39
 array-copy-out-moved : tie.Need-array-copy-out-moved Inv-loop μ-loop
-array-copy-out-moved c = ?
+array-copy-out-moved c = array-copy-out-q (c .before .before .before .before .before .before .before .before .before .before .before .before .before .before .before .before .before .before .before .before .before .before .before .before .before .before .before .before .before .before .before .before .before)
 
--- src/lib.rt:165:25
 moved-requires : tie.Need-moved-requires Inv-loop μ-loop
-moved-requires c κs = ?
+moved-requires c κs = search needs
 
--- src/lib.rt:165:13
 mul-queues : tie.Need-mul-queues Inv-loop μ-loop
-mul-queues c = ?
+mul-queues c = mul-q (c .before .before .before .before .before .before .before .before .before .before .before .before .before .before .before .before .before .before .before .before .before .before .before .before .before .before .before .before .before .before .before .before .before .before .before)
 
--- src/lib.rt:165:13
 array-set-from-queues : tie.Need-array-set-from-queues Inv-loop μ-loop
-array-set-from-queues c = ?
+array-set-from-queues c = array-copy-out-q (c .before .before .before .before .before .before .before .before .before .before .before .before .before .before .before .before .before .before .before .before .before .before .before .before .before .before .before .before .before .before .before .before .before .before .before)
 
--- src/lib.rt:166:13
 raised-requires : tie.Need-raised-requires Inv-loop μ-loop
-raised-requires c κs = ?
+raised-requires c κs = search needs
 
--- src/lib.rt:116:5
 loop-less-2 : tie.Need-loop-less-2 Inv-loop μ-loop
-loop-less-2 c = ?
+loop-less-2 c = omega (arith, c .before .before .before .before .before .before .before .before .before .before .before .before .before .before .before .before .before .before .before .before .before .before .before .before .before .before .before .before .before .before .before .before .before .before .before .before .before .before .before .before .before .loop-test .taken)
 
--- src/lib.rt:116:5
 loop-again-2 : tie.Need-loop-again-2 Inv-loop μ-loop
-loop-again-2 c = ?
+unfolding stateIn processesOf withQueue queueIn
+loop-again-2 c = let at = stands (getD (c .before .before .before .before .before .before .before .before .before .before .before .before .before .before .before .before .before .before .before .before .before .before .before .before .before .before .before .before .before .before .before .before .before .before .before .before .before .before .before .before .before .before .before .before .before .before .before .before .before .before .before .args .schedule .now) (c .before .before .before .before .before .before .before .before .before .before .before .before .before .before .before .before .before .before .before .before .before .before .before .before .before .before .before .before .before .before .before .before .before .before .before .before .before .before .before .before .before .before .loop .i) 0) (c .before .before .before .before .before .before .before .before .before .before .before .before .before .before .before .before .before .before .before .before .before .before .before .before .before .before .before .before .before .before .before .before .before .before .before .before .before .before .before .before .before .before .before .before .before .before .before .before .before .before .before .args .n) (c .before .before .before .before .before .before .before .before .before .before .before .before .before .before .before .before .before .before .before .before .before .before .before .before .before .before .before .before .before .before .before .before .before .before .before .before .before .before .before .before .before .before .loop .rows) (c .before .before .before .before .before .before .before .before .before .before .before .before .before .before .before .before .before .before .before .before .before .before .before .before .before .before .before .before .before .before .before .before .before .before .before .before .before .place .given .0 .0) (sym (c .before .before .before .before .before .before .before .before .before .before .before .before .before .before .before .before .before .before .before .before .before .before .before .before .before .before .before .before .before .before .before .before .before .before .before .before .before .place .given .1) ∙ c .before .before .before .before .before .before .before .before .before .before .before .before .before .before .before .before .before .before .before .before .before .before .before .before .before .before .before .before .before .before .before .before .before .before .before .before .before .before .before .find .ensures) in
+    (turn (c .before .before .before .before .before .before .before .before .before .before .before .before .before .before .before .before .before .before .before .before .before .before .before .before .before .before .before .before .before .before .before .before .before .before .before .before .before .before .before .before .before .before .loop .inv .0) (c .before .before .before .before .before .before .before .before .before .before .before .before .before .before .before .before .before .before .before .before .before .before .before .before .before .before .before .before .before .before .before .before .before .before .before .before .before .before .before .before .before .loop-test .taken) at
+    (record {
+      head = _;
+      free = _;
+      room = _;
+      row = at .finds;
+      decides = c .before .before .before .before .before .before .before .before .before .before .before .before .before .before .before .before .before .before .before .before .before .before .before .before .before .before .before .decided .ensures _ _ _ refl (sym (c .before .before .before .before .before .before .before .before .before .before .before .before .before .before .before .before .before .before .before .before .before .before .before .before .before .before .before .before .before .before .before .before .before .before .head-pt .ensures));
+      heads = c .before .before .before .before .before .before .before .before .before .before .before .before .before .before .before .before .before .before .before .before .before .before .before .before .before .before .before .before .before .before .before .before .before .before .head-pt .ensures;
+      lowest = λ z. ⊎-elim (λ w. w .3 ∙ w .1 .ensures) (λ w. absurd (true≢false (sym z ∙ sym (c .before .before .before .before .before .before .before .before .before .before .before .before .before .before .before .before .before .before .before .before .before .before .before .before .before .before .creates .ensures) ∙ w .0 .left))) (c .before .before .before .before .before .before .before .before .before .before .before .before .before .before .before .before .before .before .before .before .before .before .before .before .before .if1 .came);
+      places = λ z. ⊎-elim (λ w. w .4 ∙ w .2 .ensures) (λ w. absurd (true≢false (sym z ∙ sym (c .before .before .before .before .before .before .before .before .before .before .before .before .before .before .before .before .before .before .before .before .before .before .before .before .before .before .creates .ensures) ∙ w .0 .left))) (c .before .before .before .before .before .before .before .before .before .before .before .before .before .before .before .before .before .before .before .before .before .before .before .before .before .if1 .came);
+      acts = c .before .before .before .before .before .before .before .before .before .before .before .before .before .before .before .before .before .before .act .ensures;
+    })
+    (⊎-elim (λ w. w .3 ∙ ap (set (c .before .before .before .before .before .before .before .before .before .before .before .before .before .before .before .before .before .before .before .before .before .before .before .before .before .before .before .before .before .before .before .before .before .before .before .before .before .before .before .before .before .before .loop .rows) (c .before .before .before .before .before .before .before .before .before .before .before .before .before .before .before .before .before .before .before .before .before .before .before .before .before .before .before .before .before .before .before .before .before .before .before .before .before .place .given .0 .0)) (w .2 .ensures)) (λ w. row-stays _ _ _ _ (w .1) (sym (c .before .before .before .before .before .before .traps .ensures) ∙ w .0 .left)) (c .before .before .before .before .before .if2 .came))
+    (queues-moved (c .before .before .before .before .before .before .before .before .before .before .before .before .before .before .before .before .before .before .before .before .before .before .before .before .before .before .before .before .before .before .before .before .before .before .before .before .before .before .before .before .before .before .loop .queues) (getD (c .before .before .before .before .before .before .before .before .before .before .before .before .before .before .before .before .before .before .before .before .before .before .before .before .before .before .before .before .before .before .before .before .before .before .before .before .before .before .before .before .before .before .before .before .before .before .before .before .before .before .before .args .schedule .now) (c .before .before .before .before .before .before .before .before .before .before .before .before .before .before .before .before .before .before .before .before .before .before .before .before .before .before .before .before .before .before .before .before .before .before .before .before .before .before .before .before .before .before .loop .i) 0) _ _ _ refl (c .before .moved .ensures))
+    (c .raised .ensures)
+    (c .before .before .before .before .before .before .before .counted2 .ensures), (c .before .before .before .before .before .before .before .before .before .before .before .before .before .before .before .before .before .before .act .kept .1 .1 .1 .1 .1 .0 ∙ c .before .before .before .before .before .before .before .before .before .before .before .before .before .before .before .before .before .before .before .before .before .before .before .before .before .before .before .before .before .before .before .before .before .before .before .before .before .before .before .before .before .before .loop .inv .1 .0, c .before .before .before .before .before .before .before .before .before .before .before .before .before .before .before .before .before .before .act .kept .1 .1 .1 .1 .1 .1 .0 ∙ c .before .before .before .before .before .before .before .before .before .before .before .before .before .before .before .before .before .before .before .before .before .before .before .before .before .before .before .before .before .before .before .before .before .before .before .before .before .before .before .before .before .before .loop .inv .1 .1, c .before .before .before .before .before .before .before .before .before .before .before .before .before .before .before .before .before .before .act .kept .1 .1 .1 .1 .1 .1 .1 .0 ∙ c .before .before .before .before .before .before .before .before .before .before .before .before .before .before .before .before .before .before .before .before .before .before .before .before .before .before .before .before .before .before .before .before .before .before .before .before .before .before .before .before .before .before .loop .inv .1 .2, c .before .before .before .before .before .before .before .before .before .before .before .before .before .before .before .before .before .before .act .kept .1 .1 .1 .1 .1 .1 .1 .1 .0 ∙ c .before .before .before .before .before .before .before .before .before .before .before .before .before .before .before .before .before .before .before .before .before .before .before .before .before .before .before .before .before .before .before .before .before .before .before .before .before .before .before .before .before .before .loop .inv .1 .3, c .before .before .before .before .before .before .before .before .before .before .before .before .before .before .before .before .before .before .act .kept .1 .1 .1 .1 .1 .1 .1 .1 .1 .0 ∙ c .before .before .before .before .before .before .before .before .before .before .before .before .before .before .before .before .before .before .before .before .before .before .before .before .before .before .before .before .before .before .before .before .before .before .before .before .before .before .before .before .before .before .loop .inv .1 .4))
 
--- src/lib.rt:116:5
 loop-less-3 : tie.Need-loop-less-3 Inv-loop μ-loop
-loop-less-3 c = ?
+loop-less-3 c = omega (arith, c .before .before .before .before .before .before .before .before .before .before .before .before .before .before .before .before .before .before .before .before .before .before .before .before .before .before .before .before .before .before .before .before .before .before .before .before .before .before .loop-test .taken)
 
--- src/lib.rt:116:5
 loop-again-3 : tie.Need-loop-again-3 Inv-loop μ-loop
-loop-again-3 c = ?
+unfolding stateIn processesOf withQueue queueIn
+loop-again-3 c = let at = stands (getD (c .before .before .before .before .before .before .before .before .before .before .before .before .before .before .before .before .before .before .before .before .before .before .before .before .before .before .before .before .before .before .before .before .before .before .before .before .before .before .before .before .before .before .before .before .before .before .before .before .args .schedule .now) (c .before .before .before .before .before .before .before .before .before .before .before .before .before .before .before .before .before .before .before .before .before .before .before .before .before .before .before .before .before .before .before .before .before .before .before .before .before .before .before .loop .i) 0) (c .before .before .before .before .before .before .before .before .before .before .before .before .before .before .before .before .before .before .before .before .before .before .before .before .before .before .before .before .before .before .before .before .before .before .before .before .before .before .before .before .before .before .before .before .before .before .before .before .args .n) (c .before .before .before .before .before .before .before .before .before .before .before .before .before .before .before .before .before .before .before .before .before .before .before .before .before .before .before .before .before .before .before .before .before .before .before .before .before .before .before .loop .rows) (c .before .before .before .before .before .before .before .before .before .before .before .before .before .before .before .before .before .before .before .before .before .before .before .before .before .before .before .before .before .before .before .before .before .before .place .given .0 .0) (sym (c .before .before .before .before .before .before .before .before .before .before .before .before .before .before .before .before .before .before .before .before .before .before .before .before .before .before .before .before .before .before .before .before .before .before .place .given .1) ∙ c .before .before .before .before .before .before .before .before .before .before .before .before .before .before .before .before .before .before .before .before .before .before .before .before .before .before .before .before .before .before .before .before .before .before .before .before .find .ensures) in
+    (turn (c .before .before .before .before .before .before .before .before .before .before .before .before .before .before .before .before .before .before .before .before .before .before .before .before .before .before .before .before .before .before .before .before .before .before .before .before .before .before .before .loop .inv .0) (c .before .before .before .before .before .before .before .before .before .before .before .before .before .before .before .before .before .before .before .before .before .before .before .before .before .before .before .before .before .before .before .before .before .before .before .before .before .before .loop-test .taken) at
+    (record {
+      head = _;
+      free = _;
+      room = _;
+      row = at .finds;
+      decides = c .before .before .before .before .before .before .before .before .before .before .before .before .before .before .before .before .before .before .before .before .before .before .before .before .decided .ensures _ _ _ refl (sym (c .before .before .before .before .before .before .before .before .before .before .before .before .before .before .before .before .before .before .before .before .before .before .before .before .before .before .before .before .before .before .before .head-pt .ensures));
+      heads = c .before .before .before .before .before .before .before .before .before .before .before .before .before .before .before .before .before .before .before .before .before .before .before .before .before .before .before .before .before .before .before .head-pt .ensures;
+      lowest = λ z. ⊎-elim (λ w. w .3 ∙ w .1 .ensures) (λ w. absurd (true≢false (sym z ∙ sym (c .before .before .before .before .before .before .before .before .before .before .before .before .before .before .before .before .before .before .before .before .before .before .before .creates .ensures) ∙ w .0 .left))) (c .before .before .before .before .before .before .before .before .before .before .before .before .before .before .before .before .before .before .before .before .before .before .if1 .came);
+      places = λ z. ⊎-elim (λ w. w .4 ∙ w .2 .ensures) (λ w. absurd (true≢false (sym z ∙ sym (c .before .before .before .before .before .before .before .before .before .before .before .before .before .before .before .before .before .before .before .before .before .before .before .creates .ensures) ∙ w .0 .left))) (c .before .before .before .before .before .before .before .before .before .before .before .before .before .before .before .before .before .before .before .before .before .before .if1 .came);
+      acts = c .before .before .before .before .before .before .before .before .before .before .before .before .before .before .before .act .ensures;
+    })
+    (⊎-elim (λ w. w .3 ∙ ap (set (c .before .before .before .before .before .before .before .before .before .before .before .before .before .before .before .before .before .before .before .before .before .before .before .before .before .before .before .before .before .before .before .before .before .before .before .before .before .before .before .loop .rows) (c .before .before .before .before .before .before .before .before .before .before .before .before .before .before .before .before .before .before .before .before .before .before .before .before .before .before .before .before .before .before .before .before .before .before .place .given .0 .0)) (w .2 .ensures)) (λ w. row-stays _ _ _ _ (w .1) (sym (c .before .before .before .traps .ensures) ∙ w .0 .left)) (c .before .before .if2 .came))
+    (queues-kept (c .before .before .before .before .before .before .before .before .before .before .before .before .before .before .before .before .before .before .before .before .before .before .before .before .before .before .before .before .before .before .before .before .before .before .before .before .before .before .before .loop .queues) (getD (c .before .before .before .before .before .before .before .before .before .before .before .before .before .before .before .before .before .before .before .before .before .before .before .before .before .before .before .before .before .before .before .before .before .before .before .before .before .before .before .before .before .before .before .before .before .before .before .before .args .schedule .now) (c .before .before .before .before .before .before .before .before .before .before .before .before .before .before .before .before .before .before .before .before .before .before .before .before .before .before .before .before .before .before .before .before .before .before .before .before .before .before .before .loop .i) 0) _ _ refl (sym (c .before .moves .ensures) ∙ c .if3 .left))
+    (sym (unraised _ _ _ (sym (c .before .moves .ensures) ∙ c .if3 .left)))
+    (c .before .before .before .before .counted2 .ensures), (c .before .before .before .before .before .before .before .before .before .before .before .before .before .before .before .act .kept .1 .1 .1 .1 .1 .0 ∙ c .before .before .before .before .before .before .before .before .before .before .before .before .before .before .before .before .before .before .before .before .before .before .before .before .before .before .before .before .before .before .before .before .before .before .before .before .before .before .before .loop .inv .1 .0, c .before .before .before .before .before .before .before .before .before .before .before .before .before .before .before .act .kept .1 .1 .1 .1 .1 .1 .0 ∙ c .before .before .before .before .before .before .before .before .before .before .before .before .before .before .before .before .before .before .before .before .before .before .before .before .before .before .before .before .before .before .before .before .before .before .before .before .before .before .before .loop .inv .1 .1, c .before .before .before .before .before .before .before .before .before .before .before .before .before .before .before .act .kept .1 .1 .1 .1 .1 .1 .1 .0 ∙ c .before .before .before .before .before .before .before .before .before .before .before .before .before .before .before .before .before .before .before .before .before .before .before .before .before .before .before .before .before .before .before .before .before .before .before .before .before .before .before .loop .inv .1 .2, c .before .before .before .before .before .before .before .before .before .before .before .before .before .before .before .act .kept .1 .1 .1 .1 .1 .1 .1 .1 .0 ∙ c .before .before .before .before .before .before .before .before .before .before .before .before .before .before .before .before .before .before .before .before .before .before .before .before .before .before .before .before .before .before .before .before .before .before .before .before .before .before .before .loop .inv .1 .3, c .before .before .before .before .before .before .before .before .before .before .before .before .before .before .before .act .kept .1 .1 .1 .1 .1 .1 .1 .1 .1 .0 ∙ c .before .before .before .before .before .before .before .before .before .before .before .before .before .before .before .before .before .before .before .before .before .before .before .before .before .before .before .before .before .before .before .before .before .before .before .before .before .before .before .loop .inv .1 .4))
 
--- src/lib.rt:89:1
 same-length : tie.Need-same-length Inv-loop μ-loop
-same-length c = ?
+same-length c = search needs
 
--- src/lib.rt:89:1
 same-length-2 : tie.Need-same-length-2 Inv-loop μ-loop
-same-length-2 c = ?
+same-length-2 c = search needs
 
--- src/lib.rt:89:1
 same-length-3 : tie.Need-same-length-3 Inv-loop μ-loop
-same-length-3 c = ?
+same-length-3 c = search needs
 
--- src/lib.rt:89:1
 same-length-4 : tie.Need-same-length-4 Inv-loop μ-loop
-same-length-4 c = ?
+same-length-4 c = search needs
 
--- src/lib.rt:89:1
 same-length-5 : tie.Need-same-length-5 Inv-loop μ-loop
-same-length-5 c = ?
+same-length-5 c = search needs
 
--- src/lib.rt:89:1
 returns : tie.Need-returns Inv-loop μ-loop
-returns c = ?
+returns c = (no-item _ _ _ _ (c .loop-test .left) (c .before .loop .inv .0 .runs), c .before .loop .inv .0 .beyond)
 
 pub run-items-spec : {M : Type 1} → statement M
 run-items-spec =
