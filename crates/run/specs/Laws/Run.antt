@@ -20,7 +20,7 @@ use Rattle.run.specs.Run.{counted, noCounts, runBy, run}
 abbrev pub sum : Counts → ℕ
 sum c = c .executed + c .waved + c .trapped + c .idle
 
-sum-counted : (e : Ending) (c : Counts) → sum (counted e c) ≡ suc (sum c)
+pub sum-counted : (e : Ending) (c : Counts) → sum (counted e c) ≡ suc (sum c)
 unfolding counted
 sum-counted Executed c = omega arith
 sum-counted Waved c = omega arith

@@ -1,0 +1,119 @@
+use mathlib.Core.Path.{sym, _∙_}
+use borrow.Author.Tests.{not-true, not-false}
+use Rattle.runner.specs.Laws.Answers.{unsound, too-long, out-of-range, accepted, counts, refuses}
+use borrow.Author.Needs.{needs}
+use Rattle.runner.proofs.run.Statement.{statement}
+use Rattle.runner.proofs.run.Tie as tie
+
+sound-requires : tie.Need-sound-requires
+sound-requires c κs = search needs
+
+refused-requires : tie.Need-refused-requires
+refused-requires c κs = search needs
+
+same-length : tie.Need-same-length
+same-length c = search needs
+
+same-length-2 : tie.Need-same-length-2
+same-length-2 c = search needs
+
+same-length-3 : tie.Need-same-length-3
+same-length-3 c = search needs
+
+same-length-4 : tie.Need-same-length-4
+same-length-4 c = search needs
+
+returns : tie.Need-returns
+returns c = refuses _ _ _ _ _ _ _ _ _ _ _ _ (c .refused .ensures) (unsound _ _ _ (sym (c .before .before .sound .ensures) ∙ not-true (c .before .before .sound .result) (c .before .if1 .taken)))
+
+refused-requires-2 : tie.Need-refused-requires-2
+refused-requires-2 c κs = search needs
+
+same-length-5 : tie.Need-same-length-5
+same-length-5 c = search needs
+
+same-length-6 : tie.Need-same-length-6
+same-length-6 c = search needs
+
+same-length-7 : tie.Need-same-length-7
+same-length-7 c = search needs
+
+same-length-8 : tie.Need-same-length-8
+same-length-8 c = search needs
+
+returns-2 : tie.Need-returns-2
+returns-2 c = refuses _ _ _ _ _ _ _ _ _ _ _ _ (c .refused2 .ensures) (too-long _ _ _ (sym (c .before .before .before .sound .ensures) ∙ not-false (c .before .before .before .sound .result) (c .before .before .if1 .left)) (c .before .if2 .taken))
+
+items-sound-requires : tie.Need-items-sound-requires
+items-sound-requires c κs = search needs
+
+refused-requires-3 : tie.Need-refused-requires-3
+refused-requires-3 c κs = search needs
+
+same-length-9 : tie.Need-same-length-9
+same-length-9 c = search needs
+
+same-length-10 : tie.Need-same-length-10
+same-length-10 c = search needs
+
+same-length-11 : tie.Need-same-length-11
+same-length-11 c = search needs
+
+same-length-12 : tie.Need-same-length-12
+same-length-12 c = search needs
+
+returns-3 : tie.Need-returns-3
+returns-3 c = refuses _ _ _ _ _ _ _ _ _ _ _ _ (c .refused3 .ensures) (out-of-range _ _ _ (sym (c .before .before .before .before .before .sound .ensures) ∙ not-false (c .before .before .before .before .before .sound .result) (c .before .before .before .before .if1 .left)) (c .before .before .before .if2 .left) (sym (c .before .before .items-sound .ensures) ∙ not-true (c .before .before .items-sound .result) (c .before .if3 .taken)))
+
+slice-aggregate-run-items : tie.Need-slice-aggregate-run-items
+slice-aggregate-run-items c = search needs
+
+run-items-requires : tie.Need-run-items-requires
+run-items-requires c κs = sym (c .before .before .before .before .before .before .before .before .items-sound .ensures) ∙ not-false (c .before .before .before .before .before .before .before .before .items-sound .result) (c .before .before .before .before .before .before .before .if3 .left)
+
+same-length-13 : tie.Need-same-length-13
+same-length-13 c = search needs
+
+same-length-14 : tie.Need-same-length-14
+same-length-14 c = search needs
+
+same-length-15 : tie.Need-same-length-15
+same-length-15 c = search needs
+
+same-length-16 : tie.Need-same-length-16
+same-length-16 c = search needs
+
+returns-4 : tie.Need-returns-4
+returns-4 c = let a = counts _ _ _ _ _ (accepted _ _ _ (sym (c .before .before .before .before .before .before .before .before .before .before .before .before .before .before .before .before .before .before .before .before .before .before .before .before .sound .ensures) ∙ not-false (c .before .before .before .before .before .before .before .before .before .before .before .before .before .before .before .before .before .before .before .before .before .before .before .before .sound .result) (c .before .before .before .before .before .before .before .before .before .before .before .before .before .before .before .before .before .before .before .before .before .before .before .if1 .left)) (c .before .before .before .before .before .before .before .before .before .before .before .before .before .before .before .before .before .before .before .before .before .before .if2 .left) (sym (c .before .before .before .before .before .before .before .before .before .before .before .before .before .before .before .before .before .before .before .before .before .items-sound .ensures) ∙ not-false (c .before .before .before .before .before .before .before .before .before .before .before .before .before .before .before .before .before .before .before .before .before .items-sound .result) (c .before .before .before .before .before .before .before .before .before .before .before .before .before .before .before .before .before .before .before .before .if3 .left))) (c .before .before .before .before .before .before .before .before .before .before .before .before .run-items .ensures .0) in (a .0, a .1, c .before .before .before .before .before .before .before .before .before .before .before .before .run-items .ensures .1)
+
+pub run-spec : {M : Type 1} → statement M
+run-spec =
+    tie.close
+    (tie.spec
+    sound-requires
+    refused-requires
+    same-length
+    same-length-2
+    same-length-3
+    same-length-4
+    returns
+    refused-requires-2
+    same-length-5
+    same-length-6
+    same-length-7
+    same-length-8
+    returns-2
+    items-sound-requires
+    refused-requires-3
+    same-length-9
+    same-length-10
+    same-length-11
+    same-length-12
+    returns-3
+    slice-aggregate-run-items
+    run-items-requires
+    same-length-13
+    same-length-14
+    same-length-15
+    same-length-16
+    returns-4)
