@@ -1,0 +1,53 @@
+-- `image_read::queue_at` meets its contract: by the laws of `Table`.
+use Rattle.image_words.specs.Reading.{numberAt}
+use Rattle.image_read.proofs.Table.{Queueing, queue-start, queue-taken, queue-skipped, queue-done}
+use borrow.Author.Needs.{needs}
+use Rattle.image_read.proofs.queue_at.Statement.{statement}
+use Rattle.image_read.proofs.queue_at.Tie as tie
+
+abbrev Inv-loop : tie.InvT-loop
+Inv-loop s at m t pts₀ len₀ p₀ k₀ pts len p k = Queueing s at m t pts len p k
+
+abbrev μ-loop : tie.MeasureT-loop
+μ-loop s at m t pts₀ len₀ p₀ k₀ pts len p k = k
+
+loop-holds : tie.Need-loop-holds Inv-loop μ-loop
+loop-holds c = ?
+
+add-number-at : tie.Need-add-number-at Inv-loop μ-loop
+add-number-at c = ?
+
+number-at-requires : tie.Need-number-at-requires Inv-loop μ-loop
+number-at-requires c κs = ?
+
+number-at-requires-2 : tie.Need-number-at-requires-2 Inv-loop μ-loop
+number-at-requires-2 c κs = ?
+
+cast-pts : tie.Need-cast-pts Inv-loop μ-loop
+cast-pts c = ?
+
+array-write-pts : tie.Need-array-write-pts Inv-loop μ-loop
+array-write-pts c = ?
+
+add-len : tie.Need-add-len Inv-loop μ-loop
+add-len c = ?
+
+add-p : tie.Need-add-p Inv-loop μ-loop
+add-p c = ?
+
+sub-k : tie.Need-sub-k Inv-loop μ-loop
+sub-k c = ?
+
+loop-less : tie.Need-loop-less Inv-loop μ-loop
+loop-less c = ?
+
+loop-again : tie.Need-loop-again Inv-loop μ-loop
+loop-again c = ?
+
+returns : tie.Need-returns Inv-loop μ-loop
+returns c = ?
+
+pub queue-at-spec : {M : Type 1} → statement M
+queue-at-spec =
+    tie.close
+    (tie.spec Inv-loop μ-loop loop-holds add-number-at number-at-requires number-at-requires-2 cast-pts array-write-pts add-len add-p sub-k loop-less loop-again returns)
