@@ -1,3 +1,4 @@
 pub mod Repeated
 pub mod Rows
 pub mod Table
+pub mod Fills

@@ -2,7 +2,7 @@
 use Prim.Native.Nat.{ℕ, suc, _+_, _-_, _*_, _≤_, _<_}
 use mathlib.Core.Path.{_≡_, refl, sym, ap, _∙_}
 use mathlib.Core.Bool.{cond}
-use mathlib.Core.List.{List, _∷_, _++_, append-assoc, append-nil}
+use mathlib.Core.List.{List, [], _∷_, _++_, append-assoc, append-nil}
 use native.Mathlib.Numerals.{add-one}
 use native.Mathlib.Omega.{arith}
 use borrow.Author.Tests.{eq-eqb, ne-eqb}
@@ -101,5 +101,8 @@ module _ (s : List ℕ) (at m t : ℕ) where
     pub queue-done : k ≤ 0 → _≡_ {A = Queue} (record { pts = pts; head = 0; len = len }) (queueOf (ptsOf t (processesAt m at s)))
     unfolding queueOf processesAt ptsOf
     queue-done h =
-        let e : take len pts ≡ ptsOf t (processesAt m at s) = ?  in
-        ?
+        let none : ptsOf t (processesAt k p s) ≡ [] = ap (ptsOf t) (listed-none 10 (λ q. processAt q s) k p h) in
+        let e : take len pts ≡ ptsOf t (processesAt m at s) = sym (append-nil (take len pts)) ∙ rw none at (q .all) in
+        let n : len ≡ length (ptsOf t (processesAt m at s)) = sym (length-take-le len pts (omega (arith, q .size, q .room))) ∙ ap length e in
+        let l : pts ≡ ptsOf t (processesAt m at s) ++ replicate (64 - len) 0 = sym (take-append-drop len pts) ∙ rw (e, q .zeros) in
+        rw (← n) (ap (λ (x : List ℕ). record { pts = x; head = 0; len = len }) l)

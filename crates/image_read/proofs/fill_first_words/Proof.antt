@@ -1,36 +1,30 @@
+-- `image_read::fill_first_words` meets its contract: the first places are filled, and the rest stays.
+use Prim.Native.Nat.{ℕ}
+use mathlib.Core.Path.{sym, ap, _∙_}
+use mathlib.Core.List.{List, _++_}
+use lib.ListN.{drop}
+use lib.Seq.{length-take-le}
+use Rattle.image_read.proofs.Fills.{first-words}
 use borrow.Author.Needs.{needs}
 use Rattle.image_read.proofs.fill_first_words.Statement.{statement}
 use Rattle.image_read.proofs.fill_first_words.Tie as tie
-use Rattle.image_read.proofs.fill_first_words.Reads as reads
-use Rattle.image_read.proofs.fill_first_words.Lts as lts
-use Rattle.image_words.proofs.fill_words.Reads as fill-words-reads
 
--- src/lib.rt:173:36
 slice-relend-prefix-fill-words : tie.Need-slice-relend-prefix-fill-words
-slice-relend-prefix-fill-words c = ?
+slice-relend-prefix-fill-words c = search needs
 
--- src/lib.rt:173:36
 slice-aggregate-fill-words : tie.Need-slice-aggregate-fill-words
-slice-aggregate-fill-words c = ?
+slice-aggregate-fill-words c = let a = c .before .before .before in sym (length-take-le (a .args .n) (a .args .words .now) (a .pre .0))
 
--- src/lib.rt:173:5
 fill-words-requires : tie.Need-fill-words-requires
-fill-words-requires c κs = ?
+fill-words-requires c κs = search needs
 
--- src/lib.rt:169:1
 same-length : tie.Need-same-length
-same-length c = ?
+same-length c = search needs
 
--- src/lib.rt:169:1
 returns : tie.Need-returns
-returns c = ?
+returns c = let a = c .before .before .before .before .before .before in ap (λ (l : List ℕ). l ++ drop (a .args .n) (a .args .words .now)) (c .before .before .fill-words .ensures ∙ first-words (a .args .at) (a .args .n) (a .args .s .now) (a .args .words .now) (a .pre .0) (a .pre .1))
 
 pub fill-first-words-spec : {M : Type 1} → statement M
 fill-first-words-spec =
     tie.close
-    (tie.spec
-    slice-relend-prefix-fill-words
-    slice-aggregate-fill-words
-    fill-words-requires
-    same-length
-    returns)
+    (tie.spec slice-relend-prefix-fill-words slice-aggregate-fill-words fill-words-requires same-length returns)

@@ -13,49 +13,51 @@ abbrev μ-loop : tie.MeasureT-loop
 μ-loop s at m psw₀ p₀ j₀ psw p j = m - j
 
 mul-p : tie.Need-mul-p Inv-loop μ-loop
-mul-p c = ?
+mul-p c = search needs
 
 add-p : tie.Need-add-p Inv-loop μ-loop
-add-p c = ?
+add-p c = search needs
 
 loop-holds : tie.Need-loop-holds Inv-loop μ-loop
-loop-holds c = ?
+loop-holds c = psw-start _ _ _
 
 sub-p : tie.Need-sub-p Inv-loop μ-loop
-sub-p c = ?
+sub-p c = search needs
 
 add-j : tie.Need-add-j Inv-loop μ-loop
-add-j c = ?
+add-j c = search needs
 
 number-at-requires : tie.Need-number-at-requires Inv-loop μ-loop
-number-at-requires c κs = ?
+number-at-requires c κs = search needs
 
 add-number-at : tie.Need-add-number-at Inv-loop μ-loop
-add-number-at c = ?
+add-number-at c = search needs
 
 number-at-requires-2 : tie.Need-number-at-requires-2 Inv-loop μ-loop
-number-at-requires-2 c κs = ?
+number-at-requires-2 c κs = search needs
 
 mul-psw : tie.Need-mul-psw Inv-loop μ-loop
-mul-psw c = ?
+mul-psw c = search needs
 
 array-write-psw : tie.Need-array-write-psw Inv-loop μ-loop
-array-write-psw c = ?
+array-write-psw c = search needs
 
 loop-less : tie.Need-loop-less Inv-loop μ-loop
-loop-less c = ?
+loop-less c = search needs
 
 loop-again : tie.Need-loop-again Inv-loop μ-loop
-loop-again c = ?
+unfolding numberAt
+loop-again c = psw-step _ _ _ _ _ _ (c .before .before .before .before .loop .inv) (c .before .before .before .loop-test .taken) (c .before .before .number-at .ensures .0) (c .number-at2 .ensures .0)
 
 loop-less-2 : tie.Need-loop-less-2 Inv-loop μ-loop
-loop-less-2 c = ?
+loop-less-2 c = search needs
 
 loop-again-2 : tie.Need-loop-again-2 Inv-loop μ-loop
-loop-again-2 c = ?
+unfolding numberAt
+loop-again-2 c = psw-past _ _ _ _ _ _ (c .before .before .before .loop .inv) (c .before .before .loop-test .taken) (c .before .number-at .ensures .0) (c .if1 .left)
 
 returns : tie.Need-returns Inv-loop μ-loop
-returns c = ?
+returns c = psw-done _ _ _ _ _ _ (c .before .loop .inv) (c .loop-test .left)
 
 pub psws-at-spec : {M : Type 1} → statement M
 psws-at-spec =

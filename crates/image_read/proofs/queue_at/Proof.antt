@@ -12,40 +12,40 @@ abbrev μ-loop : tie.MeasureT-loop
 μ-loop s at m t pts₀ len₀ p₀ k₀ pts len p k = k
 
 loop-holds : tie.Need-loop-holds Inv-loop μ-loop
-loop-holds c = ?
+loop-holds c = queue-start _ _ _ _ (c .before .pre .0) (c .before .pre .1)
 
 add-number-at : tie.Need-add-number-at Inv-loop μ-loop
-add-number-at c = ?
+add-number-at c = search needs
 
 number-at-requires : tie.Need-number-at-requires Inv-loop μ-loop
-number-at-requires c κs = ?
+number-at-requires c κs = search needs
 
 number-at-requires-2 : tie.Need-number-at-requires-2 Inv-loop μ-loop
-number-at-requires-2 c κs = ?
+number-at-requires-2 c κs = search needs
 
 cast-pts : tie.Need-cast-pts Inv-loop μ-loop
-cast-pts c = ?
+cast-pts c = search needs
 
 array-write-pts : tie.Need-array-write-pts Inv-loop μ-loop
-array-write-pts c = ?
+array-write-pts c = search needs
 
 add-len : tie.Need-add-len Inv-loop μ-loop
-add-len c = ?
+add-len c = search needs
 
 add-p : tie.Need-add-p Inv-loop μ-loop
-add-p c = ?
+add-p c = search needs
 
 sub-k : tie.Need-sub-k Inv-loop μ-loop
-sub-k c = ?
+sub-k c = search needs
 
 loop-less : tie.Need-loop-less Inv-loop μ-loop
-loop-less c = ?
+loop-less c = search needs
 
 loop-again : tie.Need-loop-again Inv-loop μ-loop
 loop-again c = ?
 
 returns : tie.Need-returns Inv-loop μ-loop
-returns c = ?
+returns c = queue-done _ _ _ _ _ _ _ _ (c .before .loop .inv) (c .loop-test .left)
 
 pub queue-at-spec : {M : Type 1} → statement M
 queue-at-spec =

@@ -9,17 +9,16 @@ use Rattle.image_check.specs.Checked.{processesPlace, constantsPlace, registers
 use Rattle.image_read.specs.Read.{hasRoom}
 
 -- of so many bytes, and of buffers of these lengths
-pub record Room (z : Counted) (bytes constants tags words program dataTags dataWords : ℕ) : Type 0 where
+pub record Room (z : Counted) (bytes a b c d e f : ℕ) : Type 0 where
   pub ends : 1 + 28 * z .rows + (2 + 10 * z .processes) + (2 + 8 * z .constants) + (2 + 9 * z .registers) + (4 + 8 * z .program) + (4 + 9 * z .data_words) ≡ bytes
-  pub constants : z .constants ≤ constants
-  pub tags : z .registers ≤ tags
-  pub words : z .registers ≤ words
-  pub program : z .program ≤ program
-  pub dataTags : z .data_words ≤ dataTags
-  pub dataWords : z .data_words ≤ dataWords
+  pub constants : z .constants ≤ a
+  pub tags : z .registers ≤ b
+  pub words : z .registers ≤ c
+  pub program : z .program ≤ d
+  pub dataTags : z .data_words ≤ e
+  pub dataWords : z .data_words ≤ f
 
-pub room-of : (z : Counted) (bytes constants tags words program dataTags dataWords : ℕ) → endPlace z ≡ bytes
-    → hasRoom z constants tags words program dataTags dataWords ≡ true → Room z bytes constants tags words program dataTags dataWords
+pub room-of : (z : Counted) (bytes a b c d e f : ℕ) → endPlace z ≡ bytes → hasRoom z a b c d e f ≡ true → Room z bytes a b c d e f
 unfolding endPlace dataPlace programPlace registersPlace constantsPlace processesPlace hasRoom
 room-of z bytes a b c d e f ends h =
     let u =
