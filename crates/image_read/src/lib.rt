@@ -196,14 +196,14 @@ fn fill(
     requires { ⌜ Room z (length (now s)) (length (now constants)) (length (now tags)) (length (now words)) (length (now program)) (length (now data_tags)) (length (now data_words)) ⌝ }
     ensures { λ _. ⌜ buffers (now (constants .exit)) (now (tags .exit)) (now (words .exit)) (now (program .exit)) (now (data_tags .exit)) (now (data_words .exit)) ≡ holding (imageAt z (now (s .entry))) (buffers (now (constants .entry)) (now (tags .entry)) (now (words .entry)) (now (program .entry)) (now (data_tags .entry)) (now (data_words .entry))) ⌝ }
 {
-    let at = 1 + 28 * z.rows + (2 + 10 * z.processes);
-    fill_first_words(s, at + 2, z.constants, constants);
-    let at = at + (2 + 8 * z.constants);
-    fill_first_cells(s, at + 2, z.registers, tags, words);
-    let at = at + (2 + 9 * z.registers);
-    fill_first_words(s, at + 4, z.program, program);
-    let at = at + (4 + 8 * z.program);
-    fill_first_cells(s, at + 4, z.data_words, data_tags, data_words);
+    let constants_at = 1 + 28 * z.rows + (2 + 10 * z.processes);
+    let registers_at = constants_at + (2 + 8 * z.constants);
+    let program_at = registers_at + (2 + 9 * z.registers);
+    let data_at = program_at + (4 + 8 * z.program);
+    fill_first_words(s, constants_at + 2, z.constants, constants);
+    fill_first_cells(s, registers_at + 2, z.registers, tags, words);
+    fill_first_words(s, program_at + 4, z.program, program);
+    fill_first_cells(s, data_at + 4, z.data_words, data_tags, data_words);
 }
 
 // ---- the whole
@@ -253,9 +253,9 @@ fn read_sound(
     ) {
         return refused(Refusal::ShortBuffer);
     }
-    fill(s, z, constants, tags, words, program, data_tags, data_words);
     let rows = rows_at(s, z.rows);
     let table = table_at(s, 1 + 28 * z.rows, z.processes);
+    fill(s, z, constants, tags, words, program, data_tags, data_words);
     Reading {
         answer: ReadAnswer::Counts(z),
         rows,

@@ -26,7 +26,7 @@ returns-5 c = simp (lt-leb _ _ (c .if5 .taken), le-leb _ _ (c .before .before .i
 
 returns-6 : tie.Need-returns-6
 unfolding hasRoom
-returns-6 c = simp (le-leb _ _ (c .before .if5 .left), le-leb _ _ (c .before .before .before .if4 .left), le-leb _ _ (c .before .before .before .before .before .if3 .left), le-leb _ _ (c .before .before .before .before .before .before .before .if2 .left), le-leb _ _ (c .before .before .before .before .before .before .before .before .before .if1 .left))
+returns-6 c = rw (le-leb _ _ (c .before .before .before .before .before .before .before .before .before .if1 .left), le-leb _ _ (c .before .before .before .before .before .before .before .if2 .left), le-leb _ _ (c .before .before .before .before .before .if3 .left), le-leb _ _ (c .before .before .before .if4 .left), le-leb _ _ (c .before .if5 .left))
 
 pub has-room-spec : {M : Type 1} → statement M
 has-room-spec = tie.close (tie.spec returns returns-2 returns-3 returns-4 returns-5 returns-6)

@@ -1,4 +1,6 @@
 -- `image_read::queue_at` meets its contract: by the laws of `Table`.
+use mathlib.Core.Path.{sym, _∙_}
+use mathlib.Core.Logic.{⊎-elim}
 use Rattle.image_words.specs.Reading.{numberAt}
 use Rattle.image_read.proofs.Table.{Queueing, queue-start, queue-taken, queue-skipped, queue-done}
 use borrow.Author.Needs.{needs}
@@ -42,7 +44,12 @@ loop-less : tie.Need-loop-less Inv-loop μ-loop
 loop-less c = search needs
 
 loop-again : tie.Need-loop-again Inv-loop μ-loop
-loop-again c = ?
+unfolding numberAt
+loop-again c =
+    let q = c .before .before .before .loop .inv in
+    let more = c .before .before .loop-test .taken in
+    ⊎-elim (λ w. rw (w .2, w .3) (queue-taken _ _ _ _ _ _ _ _ q more (sym (c .before .number-at .ensures .0) ∙ w .0 .taken) (w .1 .ensures .0)))
+    (λ w. rw (w .1, w .2) (queue-skipped _ _ _ _ _ _ _ _ q more (λ e. w .0 .left (c .before .number-at .ensures .0 ∙ e)))) (c .if1 .came)
 
 returns : tie.Need-returns Inv-loop μ-loop
 returns c = queue-done _ _ _ _ _ _ _ _ (c .before .loop .inv) (c .loop-test .left)

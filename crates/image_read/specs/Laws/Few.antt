@@ -12,9 +12,13 @@ use Rattle.step.specs.Soundness.{flagSound}
 use Rattle.refusal.specs.declared.Refusal.the-variants.{InputEnds, CountOverLimit, ProcessField}
 use Rattle.image.specs.declared.Process.{Process}
 use Rattle.image.specs.Codec.{Codec, refused, accepted, field, bind, num, count, seq, via, decMany, section, noHeader, listSection}
-use Rattle.image.specs.Image.{Image, good, toImage, rowCodec, rowTask, tasksCodec, processCodec, processTask, processesCodec, imageCodec, decode}
+use Rattle.image.specs.Image.{Image, toImage, rowCodec, rowTask, tasksCodec, processCodec, processTask, processesCodec, imageCodec, decode}
 use Rattle.image.specs.Laws.Codec.{bind-elim}
 use Rattle.image.specs.Laws.Accepted.{after-good}
+use Rattle.image_check.specs.declared.Counted.{Counted}
+use Rattle.image_check.specs.Checked.{imageAt, countsOf}
+use Rattle.image_check.specs.Laws.Sections.{counts-image}
+use Rattle.image_check.specs.Laws.Found.{Found}
 
 -- ---- a section has as many values as its count says
 
@@ -68,10 +72,14 @@ image-few b i r h =
     bind-elim _ (tasksCodec .dec b) _ g λ rows u k l.
     bind-elim _ (bind (processesCodec rows .dec u) _) _ l λ x v m o.
     bind-elim _ (processesCodec rows .dec u) _ m λ p w n q.
-    bind-elim _ (_ .dec w) _ q λ y a d e.
+    bind-elim _ _ _ q λ y a d e.
     let g₁ : toImage (rows, (p, y)) ≡ i = cc in
     (omega (arith, tasks-few b rows u k, ap (λ (z : Image). length (z .rows)) g₁), omega (arith, processes-few rows u p w n, ap (λ (z : Image). length (z .processes)) g₁))
 
-pub decoded-few : (b : List ℕ) (i : Image) → decode b ≡ good i → (length (i .rows) ≤ 7) × (length (i .processes) ≤ 64)
-unfolding decode
-decoded-few b i h = image-few b i [] (after-good (imageCodec .dec b) i h .0)
+-- what a check found
+pub found-few : (z : Counted) (s : List ℕ) → Found z s → (z .rows ≤ 7) × (z .processes ≤ 64)
+unfolding decode countsOf
+found-few z s f =
+    let w = image-few s (imageAt z s) [] (after-good (imageCodec .dec s) (imageAt z s) (f .accepts) .0) in
+    let e = counts-image z s in
+    (omega (arith, w .0, ap (λ (y : Counted). y .rows) e), omega (arith, w .1, ap (λ (y : Counted). y .processes) e))
