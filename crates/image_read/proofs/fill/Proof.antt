@@ -93,7 +93,7 @@ same-length-6 c = search needs
 
 returns : tie.Need-returns
 unfolding processesPlace constantsPlace registersPlace programPlace dataPlace
-returns c = 
+returns c =
     let a = c .before .before .before .before .before .before .before .before .before .before .before .before .before .before .before .before .before .before .before .before .before .before .before .before .before .before .before .before .before .before .before .before .before .before .args in
     all-filled (a .z) (a .s .now) (buffers (a .constants .now) (a .tags .now) (a .words .now) (a .program .now) (a .data-tags .now) (a .data-words .now))
     (c .before .before .before .before .before .before .before .before .before .before .before .before .before .before .before .before .before .before .before .before .fill-first-words .ensures) (c .before .before .before .before .before .before .before .before .before .before .before .before .before .before .before .fill-first-cells .ensures)

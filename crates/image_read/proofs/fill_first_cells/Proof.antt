@@ -33,7 +33,7 @@ same-length-2 c = search needs
 
 returns : tie.Need-returns
 unfolding memoryOf
-returns c = 
+returns c =
     let a = c .before .before .before .before .before .before .before .before .before .before in
     let m = c .before .before .before .before .fill-cells .ensures ∙ first-cells (a .args .at) (a .args .n) (a .args .s .now) (a .args .tags .now) (a .args .words .now) (a .pre .0 .0) (a .pre .0 .1) (a .pre .1) in
     (ap (λ (x : Memory). x .tags ++ drop (a .args .n) (a .args .tags .now)) m, ap (λ (x : Memory). x .words ++ drop (a .args .n) (a .args .words .now)) m)

@@ -22,7 +22,7 @@ read-sound-requires : tie.Need-read-sound-requires
 read-sound-requires c κs = sym (c .before .before .before .before .before .before .before .before .before .check .ensures) ∙ c .before .before .before .before .before .before .before .found2 .given .1
 
 returns : tie.Need-returns
-returns c = 
+returns c =
     let a = c .before .before .before .before .before .before .before .before .before .before .before .before .args in
     rw (c .refused .ensures) (image-refused (a .s .now) (buffers (a .constants .now) (a .tags .now) (a .words .now) (a .program .now) (a .data-tags .now) (a .data-words .now)) (sym (c .before .before .before .before .check .ensures) ∙ c .before .before .found .given .1))
 

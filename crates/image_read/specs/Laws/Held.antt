@@ -1,19 +1,19 @@
 -- What was read is the state of the image: a run on it is a run on that state.
-use Prim.Native.Nat.{ℕ, _≤_}
-use mathlib.Core.Path.{_≡_, refl, ap, _∙_}
+use Prim.Native.Nat.{ℕ}
+use mathlib.Core.Path.{_≡_, refl, sym, ap, _∙_, subst}
 use mathlib.Core.Bool.{Bool, true, false, cond, not}
-use mathlib.Core.List.{List, _++_}
+use mathlib.Core.List.{List}
 use native.Mathlib.Omega.{arith}
 use lib.ListN.{length, take, drop, length-map}
-use lib.Seq.{take-append-seam}
+use lib.Seq.{take-append-seam, take-at}
 use Rattle.window.specs.Memories.{tagOf, wordOf}
 use Rattle.refusal.specs.declared.Refusal.the-variants.{ShortBuffer}
+use Rattle.step.specs.State.{State}
 use Rattle.image.specs.Image.{Image, Decoded, bad, good, memoryOf, stateOf, decode}
 use Rattle.soundness.specs.Held.{stateIn}
 use Rattle.image_check.specs.declared.Counted.{Counted}
 use Rattle.image_check.specs.Checked.{countsOf}
-use Rattle.image_read.specs.declared.Reading.{Reading}
-use Rattle.image_read.specs.declared.ReadAnswer.the-variants.{Refused, Counts}
+use Rattle.image_read.specs.declared.ReadAnswer.the-variants.{Counts}
 use Rattle.image_read.specs.Read.{Buffers, Read, leaving, over, holding, sevenRows, roomIn, refusal, imageReading, decodedRead, readOf}
 
 -- the state that a reading and the buffers hold, where it answers these counts
@@ -44,9 +44,24 @@ image-held i b =
       t _ (b .dataWords) (length (i .dataWords)) (length-map (i .dataWords) wordOf),
     )
 
+-- where a reading answers counts
 pub held : (bytes : List ℕ) (b : Buffers) (z : Counted) (r : Read) → r ≡ readOf bytes b → r .reading .answer ≡ Counts z → Held bytes z r
-unfolding readOf decodedRead
-held bytes b z r e h = go (decode bytes) refl _ refl e h
+unfolding readOf decodedRead refusal imageReading
+held bytes b z r e h = subst (Held bytes z) (sym e) (go (decode bytes) refl (ap (λ (x : Read). x .reading .answer) (sym e) ∙ h))
   where
-    go : (d : Decoded) → decode bytes ≡ d → (r : Read) → r ≡ decodedRead d b → r .reading .answer ≡ Counts z → Held bytes z r
-    go d q r e h = ?
+    answered : (i : Image) → decode bytes ≡ good i → (room : Bool)
+        → cond (not room) (leaving (refusal ShortBuffer) b) (leaving (imageReading i) (holding i b)) .reading .answer ≡ Counts z
+        → Held bytes z (cond (not room) (leaving (refusal ShortBuffer) b) (leaving (imageReading i) (holding i b)))
+    answered i q false h = let n : _≡_ {A = ℕ} 0 1 = cc in absurd (omega arith)
+    answered i q true h =
+        let c : countsOf i ≡ z = cc in
+        record {
+          image = i;
+          accepted = q;
+          counts = sym c;
+          state = ap (λ (y : Counted). stateRead y (leaving (imageReading i) (holding i b))) (sym c) ∙ image-held i b;
+        }
+
+    go : (d : Decoded) → decode bytes ≡ d → decodedRead d b .reading .answer ≡ Counts z → Held bytes z (decodedRead d b)
+    go (bad x) q h = let n : _≡_ {A = ℕ} 0 1 = cc in absurd (omega arith)
+    go (good i) q h = answered i q (roomIn (countsOf i) b) h
