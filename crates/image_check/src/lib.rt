@@ -49,7 +49,13 @@ fn check_trap(s: &[u8], c: Scan) -> Scan
     let kind = image_words::value(s, c, 0, 1);
     let c = image_words::check_number(s, c, 1, field_tests::kind_sound(kind), Refusal::TaskField);
     let psw = image_words::value(s, c, 0, 8);
-    image_words::check_number(s, c, 8, field_tests::record_sound(kind, psw), Refusal::TaskField)
+    image_words::check_number(
+        s,
+        c,
+        8,
+        field_tests::record_sound(kind, psw),
+        Refusal::TaskField,
+    )
 }
 
 // A row after the row of task `before`.
@@ -57,7 +63,13 @@ fn check_row(s: &[u8], c: Scan, before: u64) -> Scan
     ensures { λ r. ⌜ r ≡ scan (rowCodec before .dec) (now (s .entry)) c ⌝ }
 {
     let task = image_words::value(s, c, 0, 1);
-    let c = image_words::check_number(s, c, 1, field_tests::task_sound(before, task), Refusal::TaskField);
+    let c = image_words::check_number(
+        s,
+        c,
+        1,
+        field_tests::task_sound(before, task),
+        Refusal::TaskField,
+    );
     let c = check_below(s, c, 2, 4096, Refusal::TaskField);
     let c = check_below(s, c, 2, 1024, Refusal::TaskField);
     let c = check_below(s, c, 2, 1024, Refusal::TaskField);

@@ -2,13 +2,13 @@
 use Prim.Native.Nat.{ℕ, suc, _+_, _≤_, _<_, min}
 use mathlib.Core.Path.{_≡_, refl, sym, ap, _∙_}
 use mathlib.Core.Bool.{Bool, true, false, not, _&&_, _||_}
-use mathlib.Core.List.{List, [], _∷_, _++_}
+use mathlib.Core.List.{List, [], _∷_}
 use native.Mathlib.Nat.{min-eq-left, min-eq-right}
 use native.Mathlib.Omega.{arith}
 use lib.ListN.{length, getD, take, drop, length-take, length-append, drop-of-length-le}
 use lib.Seq.{drop-cons, getD-take}
-use lib.Dec.{leb, ltb}
-use borrow.Author.Tests.{lt-ltb, eq-eqb, ne-eqb}
+use lib.Dec.{eqb, leb}
+use borrow.Author.Tests.{lt-leb, eq-eqb, ne-eqb}
 use Rattle.word.specs.Laws.Bools.{Le?, below, above, le?}
 use Rattle.window.specs.declared.Row.{Row}
 use Rattle.step.specs.declared.Queue.{Queue}
@@ -109,7 +109,7 @@ module _ (t : ℕ) where
   unfolding hasRow
   has-ends d i = sym (ap (hasRow t) d) ∙ i
 
--- ---- the PTs of the queues from the kth on
+-- ---- how many PTs the queues have from the kth on
 
 module _ (qs : List Queue) (k : ℕ) where
   -- one queue more is counted
@@ -124,12 +124,6 @@ module _ (qs : List Queue) (k : ℕ) where
 
   pub count-ends : (n m : ℕ) → length qs ≤ k → n < 64 → n + length (livePts (drop k qs)) ≡ m → n ≡ min 64 m
   count-ends n m h f i = let e = ap length (live-none qs k h) in let q : m ≡ n = omega arith in rw q (sym (min-eq-right (omega arith)))
-
--- ---- the room for processes
-
-pub and-false : (b : Bool) → (b && false) ≡ false
-and-false true = refl
-and-false false = refl
 
 -- counted to 64, they leave the same room
 pub room-counted : (live flag : ℕ) → roomSound (min 64 live) flag ≡ roomSound live flag

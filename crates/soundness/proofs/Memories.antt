@@ -1,7 +1,7 @@
 -- The memories: lengths and tags decide, since the elements of a slice of words are words.
 use Prim.Native.Nat.{ℕ, suc, _≤_, _<_, _^_}
 use mathlib.Core.Path.{_≡_, refl, sym}
-use mathlib.Core.Bool.{Bool, true, false}
+use mathlib.Core.Bool.{Bool, true, false, _&&_}
 use mathlib.Core.List.{List, [], _∷_}
 use lib.ListN.{length, getD}
 use borrow.Author.Tests.{eq-eqb, ne-eqb, le-leb, lt-leb}
@@ -11,7 +11,10 @@ use Rattle.window.specs.Sound.{wordSound}
 use Rattle.window.specs.Laws.Sound.{word-sound}
 use Rattle.step.specs.Soundness.{every, wordsSound, memorySound}
 use Rattle.image.specs.Laws.Conjoined.{and-true}
-use Rattle.soundness.proofs.Loops.{and-false}
+
+and-false : (b : Bool) → (b && false) ≡ false
+and-false true = refl
+and-false false = refl
 
 words-of : (l : List ℕ) → ((i : ℕ) → getD l i 0 < 2 ^ 64) → every wordSound l ≡ true
 unfolding every

@@ -1,10 +1,12 @@
+use Prim.Native.Nat.{ℕ}
 use mathlib.Core.Bool.{_&&_}
-use mathlib.Core.Path.{_≡_, sym, _∙_}
+use mathlib.Core.Path.{_≡_, sym, ap, _∙_}
 use lib.ListN.{take, length, length-map}
 use borrow.Author.Tests.{not-true, not-false, eq-eqb, le-leb, lt-leb}
 use borrow.Author.Needs.{needs}
 use Rattle.step.specs.Queues.{livePts}
 use Rattle.step.specs.Soundness.{queuesSound, processesSound, roomSound, flagSound, tableSound}
+use Rattle.soundness.proofs.Loops.{room-counted}
 use Rattle.soundness.proofs.table_sound.Statement.{statement}
 use Rattle.soundness.proofs.table_sound.Tie as tie
 
@@ -43,16 +45,23 @@ returns-3 c =
     let p = c .before .before .processes-sound in
     sym (opened s ∙ simp (sym (q .ensures) ∙ not-false (q .result) (c .before .before .before .if1 .left), sym (p .ensures) ∙ not-false (p .result) (c .before .if2 .left), lt-leb _ _ (c .if3 .taken)))
 
+live-requires : tie.Need-live-requires
+live-requires c κs = search needs
+
+cast-room-sound : tie.Need-cast-room-sound
+cast-room-sound c = search needs
+
 room-sound-requires : tie.Need-room-sound-requires
 room-sound-requires c κs = search needs
 
 returns-4 : tie.Need-returns-4
 unfolding flagSound
 returns-4 c =
-    let s = c .before .before .before .before .before .before .before .before in
-    let q = c .before .before .before .before .before .queues-sound in
-    let p = c .before .before .before .processes-sound in
-    sym (opened s ∙ simp (sym (q .ensures) ∙ not-false (q .result) (c .before .before .before .before .if1 .left), sym (p .ensures) ∙ not-false (p .result) (c .before .before .if2 .left), le-leb _ _ (c .before .if3 .left), ← c .room-sound .ensures))
+    let s = c .before .before .before .before .before .before .before .before .before in
+    let q = c .before .before .before .before .before .before .queues-sound in
+    let p = c .before .before .before .before .processes-sound in
+    let room = c .room-sound .ensures ∙ ap (λ (n : ℕ). roomSound n (s .args .table .flag)) (c .before .live .ensures) ∙ room-counted _ _ in
+    sym (opened s ∙ simp (sym (q .ensures) ∙ not-false (q .result) (c .before .before .before .before .before .if1 .left), sym (p .ensures) ∙ not-false (p .result) (c .before .before .before .if2 .left), le-leb _ _ (c .before .before .if3 .left), ← room))
 
 pub table-sound-spec : {M : Type 1} → statement M
 table-sound-spec =
@@ -63,5 +72,7 @@ table-sound-spec =
     processes-sound-requires
     returns-2
     returns-3
+    live-requires
+    cast-room-sound
     room-sound-requires
     returns-4)
