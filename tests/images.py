@@ -84,7 +84,7 @@ def smallest():
 def edge(name, good, last, bad, first):
     """A pair: the last value that is accepted, or refused for another reason, and the first that is not."""
     yield name, last, good
-    yield name + ", one more", first, bad
+    yield name + " passed", first, bad
 
 
 def counts_at_limits():
