@@ -1,0 +1,22 @@
+-- The first places of buffers, filled from bytes that are all there.
+use Prim.Native.Nat.{ℕ, _-_, _*_, _≤_}
+use mathlib.Core.Path.{_≡_, refl}
+use mathlib.Core.List.{List}
+use lib.ListN.{length, take, drop, length-drop}
+use lib.Seq.{length-take-le}
+use borrow.Author.Tests.{le-leb, eq-eqb}
+use Rattle.window.specs.Memories.{memory}
+use Rattle.image.specs.Image.{memoryOf}
+use Rattle.image.specs.Fields.{paired}
+use Rattle.image_words.specs.Reading.{wordsAt, cellsAt, filledWords, filledCells}
+
+module _ (at n : ℕ) (s : List ℕ) where
+  pub first-words : (words : List ℕ) → n ≤ length words → 8 * n ≤ length s - at → filledWords at s (take n words) ≡ wordsAt n at s
+  unfolding filledWords
+  first-words words h k = rw (length-take-le n words h, le-leb (8 * n) (length (drop at s)) (rw length-drop k))
+
+  pub first-cells : (tags words : List ℕ) → n ≤ length tags → n ≤ length words → 9 * n ≤ length s - at
+      → filledCells at s (memory (take n tags) (take n words)) ≡ memoryOf (cellsAt n at s)
+  unfolding filledCells paired
+  first-cells tags words g h k =
+      rw (length-take-le n tags g, length-take-le n words h, eq-eqb n n refl, le-leb (9 * n) (length (drop at s)) (rw length-drop k))

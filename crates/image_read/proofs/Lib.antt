@@ -1,0 +1,5 @@
+pub mod Repeated
+pub mod Rows
+pub mod Table
+pub mod Fills
+pub mod Whole

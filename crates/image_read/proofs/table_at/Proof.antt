@@ -1,0 +1,36 @@
+-- `image_read::table_at` meets its contract.
+use Rattle.image_words.specs.Reading.{numberAt}
+use Rattle.image_read.specs.Read.{tableOf}
+use borrow.Author.Needs.{needs}
+use Rattle.image_read.proofs.table_at.Statement.{statement}
+use Rattle.image_read.proofs.table_at.Tie as tie
+
+add-number-at : tie.Need-add-number-at
+add-number-at c = search needs
+
+number-at-requires : tie.Need-number-at-requires
+number-at-requires c κs = search needs
+
+cast-flag : tie.Need-cast-flag
+cast-flag c = search needs
+
+add-psws-at : tie.Need-add-psws-at
+add-psws-at c = search needs
+
+psws-at-requires : tie.Need-psws-at-requires
+psws-at-requires c κs = search needs
+
+add-queues-at : tie.Need-add-queues-at
+add-queues-at c = search needs
+
+queues-at-requires : tie.Need-queues-at-requires
+queues-at-requires c κs = search needs
+
+returns : tie.Need-returns
+unfolding tableOf numberAt
+returns c = rw (c .queues-at .ensures, c .before .psws-at .ensures, c .before .before .number-at .ensures .0)
+
+pub table-at-spec : {M : Type 1} → statement M
+table-at-spec =
+    tie.close
+    (tie.spec add-number-at number-at-requires cast-flag add-psws-at psws-at-requires add-queues-at queues-at-requires returns)
