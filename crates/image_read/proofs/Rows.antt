@@ -1,11 +1,11 @@
 -- The loop that takes the rows: its invariant, and a turn.
 use Prim.Native.Nat.{ℕ, suc, _+_, _-_, _*_, _≤_, _<_}
-use mathlib.Core.Path.{_≡_, sym, ap, _∙_}
+use mathlib.Core.Path.{_≡_, sym, _∙_}
 use mathlib.Core.List.{List, [], _++_, append-assoc}
 use native.Mathlib.Nat.{sub-zero}
 use native.Mathlib.Numerals.{add-one}
 use native.Mathlib.Omega.{arith}
-use lib.ListN.{length, take, drop, set, replicate, length-set, length-replicate, take-append-drop}
+use lib.ListN.{length, take, drop, set, length-set, length-replicate, take-append-drop}
 use lib.Seq.{take-suc-set, drop-set-lt}
 use Rattle.window.specs.declared.Row.{Row}
 use Rattle.image_words.specs.Reading.{listed}

@@ -1,10 +1,10 @@
 -- The whole of a reading, by its parts.
-use Prim.Native.Nat.{ℕ, _+_, _*_}
-use mathlib.Core.Path.{_≡_, refl, _∙_}
+use Prim.Native.Nat.{ℕ, _+_}
+use mathlib.Core.Path.{_≡_, _∙_}
 use mathlib.Core.Bool.{true, false}
 use mathlib.Core.List.{List, _++_, map}
 use native.Mathlib.Omega.{arith}
-use lib.ListN.{length, drop, length-map}
+use lib.ListN.{drop, length-map}
 use Rattle.window.specs.declared.Row.{Row}
 use Rattle.window.specs.declared.Cell.{Cell}
 use Rattle.window.specs.Memories.{tagOf, wordOf}
@@ -15,7 +15,7 @@ use Rattle.image.specs.Image.{Decoded, bad, good, memoryOf, stateOf, decode}
 use Rattle.image_words.specs.Reading.{fieldAt, wordsAt, cellsAt}
 use Rattle.image_words.specs.Laws.Listed.{length-listed}
 use Rattle.image_check.specs.declared.Counted.{Counted}
-use Rattle.image_check.specs.declared.Checked.the-variants.{Refused, Sound}
+use Rattle.image_check.specs.declared.Checked.the-variants.{Refused}
 use Rattle.image_check.specs.Checked.{rowsAt, processesAt, processesPlace, constantsPlace, registersPlace, programPlace, dataPlace, imageAt, checkedOf}
 use Rattle.image_check.specs.Laws.Sections.{counts-image}
 use Rattle.image_check.specs.Laws.Found.{Found}

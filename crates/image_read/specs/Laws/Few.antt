@@ -72,9 +72,9 @@ image-few b i r h =
     bind-elim _ (tasksCodec .dec b) _ g λ rows u k l.
     bind-elim _ (bind (processesCodec rows .dec u) _) _ l λ x v m o.
     bind-elim _ (processesCodec rows .dec u) _ m λ p w n q.
-    bind-elim _ _ _ q λ y a d e.
-    let g₁ : toImage (rows, (p, y)) ≡ i = cc in
-    (omega (arith, tasks-few b rows u k, ap (λ (z : Image). length (z .rows)) g₁), omega (arith, processes-few rows u p w n, ap (λ (z : Image). length (z .processes)) g₁))
+    bind-elim _ _ _ q λ y a d o′.
+    let e : toImage (rows, (p, y)) ≡ i = cc in
+    (omega (arith, tasks-few b rows u k, ap (λ (z : Image). length (z .rows)) e), omega (arith, processes-few rows u p w n, ap (λ (z : Image). length (z .processes)) e))
 
 -- what a check found
 pub found-few : (z : Counted) (s : List ℕ) → Found z s → (z .rows ≤ 7) × (z .processes ≤ 64)
