@@ -6,7 +6,6 @@ use mathlib.Core.List.{List}
 use Rattle.refusal.specs.declared.Refusal.{Refusal}
 use Rattle.refusal.specs.declared.Refusal.the-variants.{UnsoundState}
 use Rattle.step.specs.State.{State}
-use Rattle.run.specs.declared.Counts.{Counts}
 use Rattle.run.specs.Run.{Ran, run}
 use Rattle.run.specs.Schedule.{scheduleRefusal}
 use Rattle.soundness.specs.Held.{soundIn}

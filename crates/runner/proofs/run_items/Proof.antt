@@ -3,11 +3,8 @@ use mathlib.Core.Path.{_≡_, refl, sym, ap, _∙_}
 use mathlib.Core.Logic.{⊎-elim}
 use mathlib.Core.Bool.{true≢false}
 use native.Mathlib.Omega.{arith}
-use lib.ListN.{length, getD, set, take, drop}
-use Rattle.window.specs.Memories.{memory}
-use Rattle.step.specs.declared.Queue.{Queue}
-use Rattle.step.specs.Queues.{headOf}
-use Rattle.step.specs.State.{noQueue, queueIn, withQueue, processesOf}
+use lib.ListN.{length, getD, set}
+use Rattle.step.specs.State.{queueIn, withQueue, processesOf}
 use Rattle.step.specs.Act.{tableOf}
 use Rattle.step.specs.Laws.Parts.{unraised, queues-moved, queues-kept}
 use Rattle.run.specs.Run.{run}
