@@ -208,7 +208,6 @@ def order_of_refusals():
     yield "1 in a cell whose word is cut", image(data=cells(1, 1))[:-1], 1
     yield "3 in a row that is cut behind the field", (number(1, 1) + row(cb=0x1000))[:4], 3
     yield "1 in a row that is cut in the field", (number(1, 1) + row(cb=0x1000))[:3], 1
-    yield "3 in the second process, the first task again", image([row(1), row(2)], [process(0, 2), process(64, 1)]), 3
     yield "a tag before the end of too few registers", image(registers=cells(2, 7), counts={REGISTERS: 9})[:26], 3
 
 
@@ -223,7 +222,8 @@ def cut_and_left_over():
 
 def longest():
     """Two images of 65,536 bytes."""
-    yield "mostly program", image([row()], constants=words(1), registers=cells(2), program=words(8180), data=cells(3)), ACCEPTED
+    program = image([row()], constants=words(1), registers=cells(2), program=words(8180), data=cells(3))
+    yield "mostly program", program, ACCEPTED
     most = image([row()], constants=words(4096), registers=cells(2048), program=words(8), data=cells(1581))
     yield "the most constants and registers", most, ACCEPTED
 
