@@ -2,7 +2,9 @@
 // illegal: check 2, an illegal access code or a nonzero unused field. waits: check 5, each field with the tag at its operand.
 // masked: check 6, by the tags of the sources. executed: the effects, each source with its cell before the step.
 ghost use mathlib.Core.Path.{_≡_};
-ghost use mathlib.Core.Bool.{_||_};
+ghost use Prim.Native.Nat.{_/_, _%_, _^_};
+ghost use mathlib.Core.Bool.{_&&_, _||_};
+ghost use lib.Dec.{eqb};
 ghost use Rattle.window.specs.declared.Write.the-variants.{Nothing};
 ghost use Rattle.operand.specs.declared.Role.the-variants.{Unused, Destination, Source};
 ghost use Rattle.operand.specs.Field.{accessOf, illegalField};
@@ -103,6 +105,16 @@ pub fn illegal_s2(first: u16, second: u16, third: u16) -> bool
     operand::illegal_field(Role::Source, third)
 }
 
+// The bits of AC are zero in two fields, so neither has an access test. A constant may have ones there.
+fn untested(a: u16, b: u16) -> bool
+    ensures { λ r. ⌜ r ≡ eqb (a / 2 ^ 11 % 2 ^ 3) 0 && eqb (b / 2 ^ 11 % 2 ^ 3) 0 ⌝ }
+{
+    if (a >> 11) % 8 != 0 {
+        return false;
+    }
+    (b >> 11) % 8 == 0
+}
+
 // D, S1.
 pub fn waits_d_s1(first: u16, d: u8, second: u16, a: u8) -> bool
     ensures { λ r. ⌜ r ≡ waitsOf Destination (accessOf first) d || waitsOf Source (accessOf second) a ⌝ }
@@ -117,6 +129,9 @@ pub fn waits_d_s1(first: u16, d: u8, second: u16, a: u8) -> bool
 pub fn waits_s1_s2(second: u16, a: u8, third: u16, b: u8) -> bool
     ensures { λ r. ⌜ r ≡ waitsOf Source (accessOf second) a || waitsOf Source (accessOf third) b ⌝ }
 {
+    if untested(second, third) {
+        return false;
+    }
     if operand::waits(Role::Source, operand::access(second), a) {
         return true;
     }
