@@ -1,0 +1,54 @@
+//! The batch program: input bytes to output bytes.
+
+use crate::image;
+use crate::machine::{Counts, Machine};
+use crate::psw;
+
+const MOST_BYTES: usize = 65_536;
+
+const SHORT: u8 = 1;
+const BAD_ITEM: u8 = 10;
+const TOO_LONG: u8 = 11;
+
+/// What the batch program prints for this input.
+pub fn output(input: &[u8]) -> Vec<u8> {
+    match run(input) {
+        Ok((machine, counts)) => report(&machine, &counts),
+        Err(number) => format!("R{number}\n"),
+    }
+    .into_bytes()
+}
+
+fn run(input: &[u8]) -> Result<(Machine, Counts), u8> {
+    if input.len() > MOST_BYTES {
+        return Err(TOO_LONG);
+    }
+    let (schedule, image) = schedule(input).ok_or(SHORT)?;
+    let mut machine = image::read(image)?;
+    if !schedule.iter().all(|item| (1..=7).contains(item)) {
+        return Err(BAD_ITEM);
+    }
+    let counts = machine.run(schedule);
+    Ok((machine, counts))
+}
+
+/// Splits the input into schedule and image.
+fn schedule(input: &[u8]) -> Option<(&[u8], &[u8])> {
+    let (count, rest) = input.split_first_chunk()?;
+    rest.split_at_checked(usize::from(u16::from_be_bytes(*count)))
+}
+
+fn report(machine: &Machine, counts: &Counts) -> String {
+    let mut text = String::new();
+    for task in machine.tasks() {
+        let live = machine.processes(task).len();
+        let trap = match machine.trap_record(task) {
+            Some((kind, psw)) => format!("{kind:02X} {:05X}", psw::pc(psw)),
+            None => "-- -----".to_string(),
+        };
+        text += &format!("{task} {live} {trap}\n");
+    }
+    let Counts { executed, waved, trapped, idle } = counts;
+    let flag = u8::from(machine.create_fault());
+    text + &format!("E{executed} W{waved} T{trapped} I{idle} CF{flag}\n")
+}

@@ -1,0 +1,94 @@
+//! A draft of an image: the fields as they stand, valid or not.
+
+use crate::image::put;
+
+#[derive(Clone, Copy, Debug)]
+pub struct Task {
+    pub number: u8,
+    pub cb: u16,
+    pub rb: u16,
+    pub rl: u16,
+    pub pb: u16,
+    pub pl: u16,
+    pub db: u32,
+    pub dl: u32,
+    pub kind: u8,
+    pub trapped: u64,
+}
+
+impl Task {
+    /// A task with empty windows and no trap.
+    pub fn empty(number: u8) -> Self {
+        Task { number, cb: 0, rb: 1, rl: 0, pb: 1, pl: 0, db: 1, dl: 0, kind: 0xFF, trapped: 0 }
+    }
+}
+
+#[derive(Clone, Copy, Debug)]
+pub struct Process {
+    pub pt: u8,
+    pub task: u8,
+    pub psw: u64,
+}
+
+/// Registers and data are pairs of tag or state, and word.
+#[derive(Clone, Debug, Default)]
+pub struct Draft {
+    pub tasks: Vec<Task>,
+    pub processes: Vec<Process>,
+    pub flag: u8,
+    pub constants: Vec<u64>,
+    pub registers: Vec<(u8, u64)>,
+    pub program: Vec<u64>,
+    pub data: Vec<(u8, u64)>,
+}
+
+impl Draft {
+    /// The image's bytes.
+    pub fn bytes(&self) -> Vec<u8> {
+        let mut out = vec![self.tasks.len() as u8];
+        self.tasks.iter().for_each(|task| put_task(&mut out, task));
+        out.extend([self.processes.len() as u8, self.flag]);
+        for process in &self.processes {
+            out.extend([process.pt, process.task]);
+            put(&mut out, 8, process.psw);
+        }
+        put_words(&mut out, 2, &self.constants);
+        put_tagged(&mut out, 2, &self.registers);
+        put_words(&mut out, 4, &self.program);
+        put_tagged(&mut out, 4, &self.data);
+        out
+    }
+}
+
+fn put_task(out: &mut Vec<u8>, task: &Task) {
+    out.push(task.number);
+    for field in [task.cb, task.rb, task.rl, task.pb, task.pl] {
+        put(out, 2, u64::from(field));
+    }
+    put(out, 4, u64::from(task.db));
+    put(out, 4, u64::from(task.dl));
+    out.push(task.kind);
+    put(out, 8, task.trapped);
+}
+
+fn put_words(out: &mut Vec<u8>, width: usize, words: &[u64]) {
+    put(out, width, words.len() as u64);
+    words.iter().for_each(|&word| put(out, 8, word));
+}
+
+fn put_tagged(out: &mut Vec<u8>, width: usize, cells: &[(u8, u64)]) {
+    put(out, width, cells.len() as u64);
+    for &(tag, word) in cells {
+        out.push(tag);
+        put(out, 8, word);
+    }
+}
+
+/// The batch program's input for a schedule and an image.
+pub fn batch_input(schedule: &[u8], image: &[u8]) -> Vec<u8> {
+    let mut out = Vec::new();
+    put(&mut out, 2, schedule.len() as u64);
+    out.extend_from_slice(schedule);
+    out.extend_from_slice(image);
+    out
+}

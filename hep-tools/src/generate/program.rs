@@ -1,0 +1,199 @@
+//! Random programs: each task's window gets instructions that suit its windows.
+
+use super::values::{Use, USES};
+use crate::assemble::*;
+use crate::codes;
+use crate::draft::{Draft, Task};
+use crate::random::Random;
+
+/// What the writer of a task's program knows of the task.
+struct Author<'a> {
+    random: &'a mut Random,
+    task: Task,
+    constants: u64,
+    registers: u64,
+    length: u64,
+    /// How many instructions in a thousand are strays.
+    strays: u64,
+    /// How many register operands in a hundred have an access code.
+    accessed: u64,
+}
+
+const THREE: [u16; 10] = [EOR, EQV, NAND, NOR, OR, BITCLR, BITSET, ADD, SUB, MUL];
+const TWO: [u16; 6] = [MOV, NOT, ENCODE0, ENCODE1, DEC, INC];
+
+/// Fills the program windows, later tasks over earlier ones.
+pub fn fill(draft: &mut Draft, random: &mut Random) {
+    let strays = random.pick(&[0, 2, 8, 30]);
+    let accessed = random.pick(&[0, 0, 2, 8, 40]);
+    for task in draft.tasks.clone() {
+        if task.pb > task.pl {
+            continue;
+        }
+        let length = (u64::from(task.pl) - u64::from(task.pb) + 1) * 16;
+        let registers = (u64::from(task.rl) + 1).saturating_sub(u64::from(task.rb)) * 2;
+        let constants = draft.constants.len() as u64;
+        let mut author = Author { random, task, constants, registers, length, strays, accessed };
+        let first = usize::from(task.pb) * 16;
+        for word in &mut draft.program[first..][..length as usize] {
+            *word = author.instruction();
+        }
+        draft.program[first + length as usize - 1] = author.last();
+    }
+}
+
+impl Author<'_> {
+    fn instruction(&mut self) -> u64 {
+        if self.random.rarely(self.strays) {
+            return self.stray();
+        }
+        match self.random.below(100) {
+            0..=1 => word(NOP, 0, 0, 0),
+            2..=32 => {
+                let code = self.random.pick(&THREE);
+                word(code, self.destination(), self.source(), self.source())
+            }
+            33..=49 => {
+                let code = self.random.pick(&TWO);
+                word(code, self.destination(), self.source(), 0)
+            }
+            50..=54 => {
+                let code = self.random.pick(&[CLR, ONE]);
+                word(code, self.destination(), 0, 0)
+            }
+            55..=68 => self.branch(),
+            69..=72 => {
+                let (test, target) = (self.test(), self.meant(Use::Status));
+                call(test, self.destination(), target, self.source())
+            }
+            73..=77 => self.create(),
+            78 => {
+                let test = self.random.below(16) as u16;
+                quit(test, self.source())
+            }
+            79..=89 => self.load(),
+            _ => self.store(),
+        }
+    }
+
+    /// The last instruction: a way back, or a branch that shows a register in the PC.
+    fn last(&mut self) -> u64 {
+        let target = self.random.below(self.length) as u32;
+        let zero = self.meant(Use::Zero);
+        if self.random.rarely(10 * self.strays) {
+            return branch(ALWAYS, target, self.source(), zero);
+        }
+        branch(ALWAYS, target, zero, zero)
+    }
+
+    fn test(&mut self) -> u16 {
+        if self.random.chance(25) {
+            ALWAYS
+        } else {
+            self.random.below(16) as u16
+        }
+    }
+
+    fn branch(&mut self) -> u64 {
+        let target = self.random.below(self.length) as u32;
+        let (test, tested) = (self.test(), self.source());
+        let added =
+            if self.random.rarely(self.strays) { self.source() } else { self.meant(Use::Zero) };
+        branch(test, target, added, tested)
+    }
+
+    fn create(&mut self) -> u64 {
+        let act = self.random.below(16) as u16;
+        let (test, start) = (self.test(), self.meant(Use::Status));
+        create(test, act, start, self.source())
+    }
+
+    fn load(&mut self) -> u64 {
+        let access = self.random.pick(&[0, 0, 0, 0, SAC_FULL, SAC_FULL, SAC_TAKE]);
+        let (d, address) = (self.destination(), self.address());
+        if self.random.chance(50) {
+            return word(LODI | access, d, address, 0);
+        }
+        let index = self.index();
+        word(LODX | access, d, address, index)
+    }
+
+    fn store(&mut self) -> u64 {
+        let access = self.random.pick(&[0, 0, 0, 0, 0, 0, DAC_EMPTY]);
+        let (value, address) = (self.source(), self.address());
+        if self.random.chance(50) {
+            return word(STOI | access, 0, address, value);
+        }
+        let index = self.index();
+        word(STOX | access, value, address, index)
+    }
+
+    fn address(&mut self) -> u16 {
+        if self.random.rarely(2 * self.strays) {
+            self.source()
+        } else {
+            self.meant(Use::Address)
+        }
+    }
+
+    fn index(&mut self) -> u16 {
+        let purpose = self.random.pick(&[Use::Zero, Use::Zero, Use::Address]);
+        self.meant(purpose)
+    }
+
+    /// A constant for this use, as long as CI is zero.
+    fn meant(&mut self, purpose: Use) -> u16 {
+        let turn = USES.iter().position(|&other| other == purpose).unwrap_or(0) as u64;
+        let place = 4 * self.random.below(self.constants / 4 + 1) + turn;
+        let base = u64::from(self.task.cb) * 2;
+        constant((place.wrapping_sub(base) % 8_192) as u16)
+    }
+
+    fn source(&mut self) -> u16 {
+        if self.registers == 0 || self.random.chance(25) {
+            let indexed = if self.random.chance(15) { INDEXED } else { 0 };
+            let purpose = self.random.pick(&USES);
+            return indexed | self.meant(purpose);
+        }
+        let access = self.access(&[1, 1, 1, 2, 2, 3]);
+        self.register() | access
+    }
+
+    fn destination(&mut self) -> u16 {
+        let access = self.access(&[1, 1, 2, 3]);
+        self.register() | access
+    }
+
+    fn access(&mut self, choices: &[u16]) -> u16 {
+        if self.random.chance(self.accessed) {
+            self.random.pick(choices) << 11
+        } else {
+            0
+        }
+    }
+
+    /// A register of the window, mostly one of the first few.
+    fn register(&mut self) -> u16 {
+        let few = self.registers.clamp(1, 2_048);
+        let few = if self.random.chance(70) { few.min(8) } else { few };
+        let indexed = if self.random.chance(10) { INDEXED } else { 0 };
+        indexed | register(self.random.below(few) as u16)
+    }
+
+    /// An instruction that breaks some rule, mostly.
+    fn stray(&mut self) -> u64 {
+        let word_of_code = |code: u16, random: &mut Random| word(code, random.draw() as u16, 0, 0);
+        match self.random.below(10) {
+            0 => self.random.draw(),
+            1 => word_of_code(SVC, self.random),
+            2 => word_of_code(self.random.pick(&codes::PRIVILEGED), self.random),
+            3 => word_of_code(self.random.pick(&codes::SIMULATED), self.random),
+            4 => self.instruction() | 0x0010 << 48,
+            5 => self.instruction() ^ 1 << 48 << self.random.below(16),
+            6 => self.instruction() | 0x4000 << self.random.pick(&[0, 16, 32]),
+            7 => self.instruction() | 0x2000 << self.random.pick(&[0, 16, 32]),
+            8 => self.instruction() | self.random.below(0x800) << self.random.pick(&[0, 16, 32]),
+            _ => self.instruction() ^ 1 << self.random.below(48),
+        }
+    }
+}

@@ -1,0 +1,77 @@
+//! Words that make operations and addresses interesting.
+
+use crate::assemble::psw;
+use crate::random::Random;
+
+/// What a word is meant for. Constants take turns by their place modulo 4.
+#[derive(Clone, Copy, PartialEq, Eq)]
+pub enum Use {
+    Zero,
+    Address,
+    Status,
+    Number,
+}
+
+pub const USES: [Use; 4] = [Use::Zero, Use::Address, Use::Status, Use::Number];
+
+/// A word for this use.
+pub fn word(purpose: Use, random: &mut Random) -> u64 {
+    match purpose {
+        Use::Zero => 0,
+        Use::Address => address(random),
+        Use::Status => status(random, 16),
+        Use::Number => number(random),
+    }
+}
+
+/// A word for any use.
+pub fn any(random: &mut Random) -> u64 {
+    let purpose = random.pick(&USES);
+    word(purpose, random)
+}
+
+/// A status word with PC below `program`, now and then a wilder one.
+pub fn status(random: &mut Random, program: u64) -> u64 {
+    let ci = field(random, 8, 0x1FFF);
+    let ri = field(random, 4, 0x7FF);
+    let utm = match random.below(50) {
+        0 => random.draw(),
+        1..=9 => random.draw() & 0x7F & random.draw(),
+        _ => 0,
+    };
+    let stray = random.rarely(8);
+    let pc = if stray { random.draw() } else { random.below(program.max(1)) };
+    psw(ci, ri, utm, pc)
+}
+
+/// An index: mostly zero, sometimes small, seldom anything.
+fn field(random: &mut Random, small: u64, most: u64) -> u64 {
+    match random.below(100) {
+        0 => most - random.below(most) * random.below(2),
+        1..=25 => random.below(small),
+        _ => 0,
+    }
+}
+
+/// A byte address: mostly of a whole word near the start.
+fn address(random: &mut Random) -> u64 {
+    match random.below(200) {
+        0 => random.draw(),
+        1 => random.below(512),
+        2 => random.pick(&[1 << 31, (1 << 31) - 8, (1 << 32) - 8, 0xF8, 0x100]),
+        3..=20 => (random.draw() << 32) | (random.below(32) * 8),
+        _ => random.below(32) * 8,
+    }
+}
+
+fn number(random: &mut Random) -> u64 {
+    match random.below(8) {
+        0 => random.draw(),
+        1 => random.pick(&[1 << 63, (1 << 63) - 1, (1 << 63) + 1, u64::MAX, 1 << 62]),
+        2 => random.pick(&[1 << 31, 1 << 32, (1 << 32) - 1, 3_037_000_500, u64::MAX << 31]),
+        3 => 1 << random.below(64),
+        4 => u64::MAX << random.below(64),
+        5 => random.below(20).wrapping_neg(),
+        _ => random.below(70),
+    }
+}

@@ -1,0 +1,247 @@
+//! Images: reading with refusals 1 to 6, and writing.
+
+use crate::machine::*;
+use crate::psw;
+
+const SHORT: u8 = 1;
+const COUNT: u8 = 2;
+const FIELD: u8 = 3;
+const LEFT_OVER: u8 = 4;
+const WINDOW: u8 = 5;
+const PROCESS: u8 = 6;
+
+const KINDS: [u8; 8] = [
+    CREATE_FAULT,
+    ILLEGAL,
+    PROTECTION,
+    PRIVILEGED,
+    SUPERVISOR_CALL,
+    SIMULATED,
+    DATA_EXCEPTION,
+    NO_TRAP,
+];
+
+/// Appended bits of the windows.
+const REGISTER_BITS: u32 = 1;
+const PROGRAM_BITS: u32 = 4;
+const DATA_BITS: u32 = 8;
+
+type Refusable<T> = Result<T, u8>;
+
+/// Refuses with this number unless it holds.
+fn require(holds: bool, number: u8) -> Refusable<()> {
+    if holds {
+        Ok(())
+    } else {
+        Err(number)
+    }
+}
+
+/// The bytes not yet read.
+struct Input<'a> {
+    rest: &'a [u8],
+}
+
+impl Input<'_> {
+    /// A big-endian field of `width` bytes.
+    fn field(&mut self, width: usize) -> Refusable<u64> {
+        require(self.rest.len() >= width, SHORT)?;
+        let (bytes, rest) = self.rest.split_at(width);
+        self.rest = rest;
+        Ok(bytes.iter().fold(0, |value, &byte| value << 8 | u64::from(byte)))
+    }
+
+    /// A field of one byte.
+    fn byte(&mut self) -> Refusable<u8> {
+        Ok(self.field(1)? as u8)
+    }
+
+    /// A field no greater than `most`.
+    fn within(&mut self, width: usize, most: u64) -> Refusable<u64> {
+        let value = self.field(width)?;
+        require(value <= most, FIELD)?;
+        Ok(value)
+    }
+
+    /// A section's count.
+    fn count(&mut self, width: usize, most: u64) -> Refusable<usize> {
+        let value = self.field(width)?;
+        require(value <= most, COUNT)?;
+        Ok(value as usize)
+    }
+
+    fn status_word(&mut self) -> Refusable<u64> {
+        let value = self.field(8)?;
+        require(value & psw::ZERO == 0, FIELD)?;
+        Ok(value)
+    }
+}
+
+/// The machine of an image, or the number of the refusal.
+pub fn read(bytes: &[u8]) -> Refusable<Machine> {
+    let mut machine = Machine::blank();
+    let mut input = Input { rest: bytes };
+    tasks(&mut machine, &mut input)?;
+    let twice = processes(&mut machine, &mut input)?;
+    constants(&mut machine, &mut input)?;
+    registers(&mut machine, &mut input)?;
+    program(&mut machine, &mut input)?;
+    data(&mut machine, &mut input)?;
+    require(input.rest.is_empty(), LEFT_OVER)?;
+    require(windows_fit(&machine), WINDOW)?;
+    require(!twice && (machine.flag || machine.used != u64::MAX), PROCESS)?;
+    Ok(machine)
+}
+
+fn tasks(machine: &mut Machine, input: &mut Input) -> Refusable<()> {
+    let mut last = 0;
+    for _ in 0..input.count(1, 7)? {
+        let number = input.within(1, 7)?;
+        require(number > last, FIELD)?;
+        last = number;
+        row(&mut machine.rows[number as usize], input)?;
+    }
+    Ok(())
+}
+
+fn row(row: &mut Row, input: &mut Input) -> Refusable<()> {
+    row.listed = true;
+    row.constant_base = (input.within(2, 0xFFF)? << 1) as u32;
+    row.registers = window(input, 2, 0x3FF, REGISTER_BITS)?;
+    row.program = window(input, 2, 0xFFFF, PROGRAM_BITS)?;
+    row.data = window(input, 4, 0xFF_FFFF, DATA_BITS)?;
+    row.kind = input.byte()?;
+    require(KINDS.contains(&row.kind), FIELD)?;
+    row.trapped = input.status_word()?;
+    require(row.kind != NO_TRAP || row.trapped == 0, FIELD)
+}
+
+fn window(input: &mut Input, width: usize, most: u64, appended: u32) -> Refusable<Window> {
+    let base = input.within(width, most)?;
+    let limit = input.within(width, most)?;
+    Ok(Window::new(base, limit, appended))
+}
+
+/// Tells whether a process number stands twice.
+fn processes(machine: &mut Machine, input: &mut Input) -> Refusable<bool> {
+    let count = input.count(1, PROCESSES as u64)?;
+    machine.flag = input.within(1, 1)? == 1;
+    let mut last = 1;
+    let mut twice = false;
+    for _ in 0..count {
+        let pt = input.within(1, 63)? as usize;
+        let task = input.within(1, 7)? as usize;
+        require(task >= last && machine.rows[task].listed, FIELD)?;
+        last = task;
+        machine.psws[pt] = input.status_word()?;
+        machine.rows[task].push(pt);
+        twice |= machine.used >> pt & 1 != 0;
+        machine.used |= 1 << pt;
+    }
+    Ok(twice)
+}
+
+fn constants(machine: &mut Machine, input: &mut Input) -> Refusable<()> {
+    machine.constant_count = input.count(2, 4_096)?;
+    for word in &mut machine.words[REGISTERS..][..machine.constant_count] {
+        *word = input.field(8)?;
+    }
+    Ok(())
+}
+
+fn registers(machine: &mut Machine, input: &mut Input) -> Refusable<()> {
+    machine.register_count = input.count(2, REGISTERS as u64)?;
+    for i in 0..machine.register_count {
+        let tag = input.within(1, 14)? as u8;
+        require(tag != 7, FIELD)?;
+        machine.tags[i] = tag;
+        machine.words[i] = input.field(8)?;
+    }
+    Ok(())
+}
+
+fn program(machine: &mut Machine, input: &mut Input) -> Refusable<()> {
+    for _ in 0..input.count(4, 1 << 20)? {
+        machine.program.push(input.field(8)?);
+    }
+    Ok(())
+}
+
+fn data(machine: &mut Machine, input: &mut Input) -> Refusable<()> {
+    for _ in 0..input.count(4, 1 << 20)? {
+        machine.full.push(input.within(1, 1)? as u8);
+        machine.data.push(input.field(8)?);
+    }
+    Ok(())
+}
+
+/// Data windows count bytes, the others words.
+fn windows_fit(machine: &Machine) -> bool {
+    machine.rows.iter().filter(|row| row.listed).all(|row| {
+        row.registers.fits(machine.register_count as u64)
+            && row.program.fits(machine.program.len() as u64)
+            && row.data.fits(machine.data.len() as u64 * 8)
+    })
+}
+
+/// The image of a machine.
+pub fn write(machine: &Machine) -> Vec<u8> {
+    let mut out = Vec::new();
+    write_tasks(machine, &mut out);
+    write_processes(machine, &mut out);
+    put(&mut out, 2, machine.constant_count as u64);
+    for &word in &machine.words[REGISTERS..][..machine.constant_count] {
+        put(&mut out, 8, word);
+    }
+    put(&mut out, 2, machine.register_count as u64);
+    for i in 0..machine.register_count {
+        put(&mut out, 1, u64::from(machine.tags[i]));
+        put(&mut out, 8, machine.words[i]);
+    }
+    put(&mut out, 4, machine.program.len() as u64);
+    for &word in &machine.program {
+        put(&mut out, 8, word);
+    }
+    put(&mut out, 4, machine.data.len() as u64);
+    for (&full, &word) in machine.full.iter().zip(&machine.data) {
+        put(&mut out, 1, u64::from(full));
+        put(&mut out, 8, word);
+    }
+    out
+}
+
+/// Appends the low `width` bytes of a value, big-endian.
+pub(crate) fn put(out: &mut Vec<u8>, width: usize, value: u64) {
+    out.extend_from_slice(&value.to_be_bytes()[8 - width..]);
+}
+
+fn write_tasks(machine: &Machine, out: &mut Vec<u8>) {
+    put(out, 1, machine.tasks().count() as u64);
+    for task in machine.tasks() {
+        let row = &machine.rows[usize::from(task)];
+        put(out, 1, u64::from(task));
+        put(out, 2, u64::from(row.constant_base >> 1));
+        write_window(out, 2, &row.registers, REGISTER_BITS);
+        write_window(out, 2, &row.program, PROGRAM_BITS);
+        write_window(out, 4, &row.data, DATA_BITS);
+        put(out, 1, u64::from(row.kind));
+        put(out, 8, row.trapped);
+    }
+}
+
+fn write_window(out: &mut Vec<u8>, width: usize, window: &Window, appended: u32) {
+    put(out, width, window.base >> appended);
+    put(out, width, window.limit >> appended);
+}
+
+fn write_processes(machine: &Machine, out: &mut Vec<u8>) {
+    put(out, 1, u64::from(machine.used.count_ones()));
+    put(out, 1, u64::from(machine.flag));
+    for task in machine.tasks() {
+        for (pt, psw) in machine.processes(task) {
+            put(out, 1, u64::from(pt));
+            put(out, 1, u64::from(task));
+            put(out, 8, psw);
+        }
+    }
+}

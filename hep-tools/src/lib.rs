@@ -1,0 +1,15 @@
+//! An independent emulator of the HEP process execution module (document 01),
+//! with a generator of batch inputs and timing workloads.
+
+pub mod arithmetic;
+pub mod assemble;
+pub mod batch;
+pub mod codes;
+pub mod draft;
+pub mod generate;
+pub mod image;
+pub mod machine;
+pub mod psw;
+pub mod random;
+mod step;
+pub mod workloads;

@@ -1,0 +1,205 @@
+//! The machine's state in flat arrays, and runs over a schedule.
+
+/// Trap kinds; `NO_TRAP` stands in a row that isn't trapped.
+pub const CREATE_FAULT: u8 = 0x00;
+pub const ILLEGAL: u8 = 0x12;
+pub const PROTECTION: u8 = 0x14;
+pub const PRIVILEGED: u8 = 0x16;
+pub const SUPERVISOR_CALL: u8 = 0x1A;
+pub const SIMULATED: u8 = 0x1C;
+pub const DATA_EXCEPTION: u8 = 0x1E;
+pub const NO_TRAP: u8 = 0xFF;
+
+/// Tag bit of an empty register.
+pub const EMPTY: u8 = 8;
+
+/// Cells: the registers, then every real address of constant memory.
+pub const REGISTERS: usize = 2_048;
+pub const CONSTANTS: usize = 8_192;
+const CELLS: usize = REGISTERS + CONSTANTS;
+
+pub const PROCESSES: usize = 64;
+
+/// How a step ended.
+#[derive(Clone, Copy, PartialEq, Eq, Debug)]
+pub enum Ending {
+    Executed,
+    Waved,
+    Trapped { kind: u8, psw: u64 },
+    Idle,
+}
+
+/// How many steps of a run ended each way.
+#[derive(Clone, Copy, PartialEq, Eq, Debug, Default)]
+pub struct Counts {
+    pub executed: u64,
+    pub waved: u64,
+    pub trapped: u64,
+    pub idle: u64,
+}
+
+/// Base and limit as real addresses.
+#[derive(Clone, Copy, Default)]
+pub(crate) struct Window {
+    pub base: u64,
+    pub limit: u64,
+}
+
+impl Window {
+    /// Appends zeros to the base field and ones to the limit field.
+    pub fn new(base: u64, limit: u64, appended: u32) -> Self {
+        let ones = (1 << appended) - 1;
+        Window { base: base << appended, limit: limit << appended | ones }
+    }
+
+    /// The real address, if the window has it.
+    #[inline(always)]
+    pub fn real(&self, effective: u64) -> Option<u64> {
+        let real = self.base + effective;
+        (real <= self.limit).then_some(real)
+    }
+
+    /// Whether the window is empty or ends within a memory of `size` addresses.
+    pub fn fits(&self, size: u64) -> bool {
+        self.base > self.limit || self.limit < size
+    }
+}
+
+/// A task: windows, trap record, and the ring of its process numbers. 128 bytes, so
+/// that a row is found by a shift.
+#[derive(Clone, Copy)]
+pub(crate) struct Row {
+    pub listed: bool,
+    pub kind: u8,
+    pub head: u8,
+    pub length: u8,
+    pub trapped: u64,
+    pub constant_base: u32,
+    pub registers: Window,
+    pub program: Window,
+    pub data: Window,
+    pub queue: [u8; PROCESSES],
+}
+
+impl Row {
+    const UNLISTED: Row = Row {
+        listed: false,
+        kind: NO_TRAP,
+        head: 0,
+        length: 0,
+        trapped: 0,
+        constant_base: 0,
+        registers: Window { base: 0, limit: 0 },
+        program: Window { base: 0, limit: 0 },
+        data: Window { base: 0, limit: 0 },
+        queue: [0; PROCESSES],
+    };
+
+    #[inline(always)]
+    pub fn head(&self) -> usize {
+        usize::from(self.queue[usize::from(self.head & 63)])
+    }
+
+    #[inline(always)]
+    pub fn push(&mut self, pt: usize) {
+        let tail = self.head.wrapping_add(self.length) & 63;
+        self.queue[usize::from(tail)] = pt as u8;
+        self.length += 1;
+    }
+
+    #[inline(always)]
+    pub fn pop(&mut self) {
+        self.head = self.head.wrapping_add(1) & 63;
+        self.length -= 1;
+    }
+
+    /// Head to tail.
+    #[inline(always)]
+    pub fn rotate(&mut self) {
+        let tail = self.head.wrapping_add(self.length) & 63;
+        self.queue[usize::from(tail)] = self.head() as u8;
+        self.head = self.head.wrapping_add(1) & 63;
+    }
+}
+
+/// The whole state. Rows stand at their task numbers; row 0 is never listed.
+#[derive(Clone)]
+pub struct Machine {
+    pub(crate) rows: [Row; 8],
+    pub(crate) psws: [u64; PROCESSES],
+    /// Bit n is up while process number n is in use.
+    pub(crate) used: u64,
+    pub(crate) flag: bool,
+    pub(crate) words: Box<[u64; CELLS]>,
+    pub(crate) tags: Box<[u8; CELLS]>,
+    pub(crate) register_count: usize,
+    pub(crate) constant_count: usize,
+    pub(crate) program: Vec<u64>,
+    pub(crate) data: Vec<u64>,
+    pub(crate) full: Vec<u8>,
+}
+
+impl Machine {
+    pub(crate) fn blank() -> Self {
+        Machine {
+            rows: [Row::UNLISTED; 8],
+            psws: [0; PROCESSES],
+            used: 0,
+            flag: false,
+            words: Box::new([0; CELLS]),
+            tags: Box::new([0; CELLS]),
+            register_count: 0,
+            constant_count: 0,
+            program: Vec::new(),
+            data: Vec::new(),
+            full: Vec::new(),
+        }
+    }
+
+    /// Takes the items in turn and counts the endings.
+    pub fn run(&mut self, schedule: &[u8]) -> Counts {
+        let mut counts = Counts::default();
+        for &task in schedule {
+            match self.step(task) {
+                Ending::Executed => counts.executed += 1,
+                Ending::Waved => counts.waved += 1,
+                Ending::Trapped { .. } => counts.trapped += 1,
+                Ending::Idle => counts.idle += 1,
+            }
+        }
+        counts
+    }
+
+    /// The listed task numbers, ascending.
+    pub fn tasks(&self) -> impl Iterator<Item = u8> + '_ {
+        (1..8).filter(|&task| self.rows[usize::from(task)].listed)
+    }
+
+    /// Process numbers and status words of a task, from head to tail.
+    pub fn processes(&self, task: u8) -> Vec<(u8, u64)> {
+        let row = &self.rows[usize::from(task)];
+        let place = |i| usize::from(row.head.wrapping_add(i) & 63);
+        let pts = (0..row.length).map(|i| row.queue[place(i)]);
+        pts.map(|pt| (pt, self.psws[usize::from(pt)])).collect()
+    }
+
+    /// A task's trap record: kind and status word.
+    pub fn trap_record(&self, task: u8) -> Option<(u8, u64)> {
+        let row = &self.rows[usize::from(task)];
+        (row.kind != NO_TRAP).then_some((row.kind, row.trapped))
+    }
+
+    /// Tag and word of a real register.
+    pub fn register(&self, real: usize) -> (u8, u64) {
+        (self.tags[..self.register_count][real], self.words[real])
+    }
+
+    /// State (1 full) and word of a real data word.
+    pub fn data_word(&self, real: usize) -> (u8, u64) {
+        (self.full[real], self.data[real])
+    }
+
+    pub fn create_fault(&self) -> bool {
+        self.flag
+    }
+}
