@@ -1,13 +1,14 @@
 -- A state as the library's callers hold it: lent buffers, and the counts of the fields that lie in them.
 use Prim.Native.Nat.{ℕ}
 use mathlib.Core.Bool.{Bool, _&&_}
-use mathlib.Core.List.{List, _++_}
+use mathlib.Core.List.{List}
 use lib.Dec.{leb}
 use lib.ListN.{length, take, drop}
 use Rattle.window.specs.declared.Row.{Row}
 use Rattle.window.specs.Memories.{memory}
 use Rattle.step.specs.declared.ProcessTable.{ProcessTable}
 use Rattle.step.specs.State.{State}
+use Rattle.image.specs.Fields.{over}
 use Rattle.hep.specs.declared.Sizes.{Sizes}
 
 -- the buffers; registers and data words have one for tags and one for words. The process table has a fixed size
@@ -93,10 +94,6 @@ spareIn n b = record {
   dataTags = drop (n .data_words) (b .dataTags);
   dataWords = drop (n .data_words) (b .dataWords);
 }
-
--- a buffer with other elements in its first places; beyond them it isn't touched
-abbrev pub over : {A : Type 0} → (elements buffer : List A) → List A
-over elements buffer = elements ++ drop (length elements) buffer
 
 -- the buffers with a state's fields in their first places
 unfoldable pub holding : State → Buffers → Buffers

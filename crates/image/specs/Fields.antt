@@ -1,9 +1,9 @@
--- When two states are the same, and when some image reads as a state.
+-- When two states are the same, when some image reads as a state, and what a lent buffer holds.
 use Prim.Native.Nat.{ℕ}
 use mathlib.Core.Path.{_≡_}
 use mathlib.Core.Bool.{Bool, _&&_}
-use mathlib.Core.List.{List, map}
-use lib.ListN.{length}
+use mathlib.Core.List.{List, map, _++_}
+use lib.ListN.{length, drop}
 use lib.Dec.{eqb}
 use Rattle.window.specs.Memories.{Memory}
 use Rattle.step.specs.declared.Queue.{Queue}
@@ -35,3 +35,7 @@ shaped s =
     (eqb (length (s .table .psw)) capacity
     && (eqb (length (s .table .queues)) 7 && every (λ n. eqb n capacity) (map (λ (q : Queue). length (q .pts)) (s .table .queues))))
     && (paired (s .registers) && paired (s .dataWords))
+
+-- a lent buffer with elements in its first places; beyond them it isn't touched
+abbrev pub over : {A : Type 0} → (elements buffer : List A) → List A
+over elements buffer = elements ++ drop (length elements) buffer

@@ -8,7 +8,7 @@ ghost use Rattle.image.specs.Image.{ptsOf, queueOf, queuesOf, pswTable, decode}
 ghost use Rattle.image_words.specs.Reading.{fieldAt, wordsAt, cellsAt};
 ghost use Rattle.image_check.specs.Checked.{rowsAt, processesAt, imageAt, checkedOf};
 ghost use Rattle.image_check.specs.declared.Checked.the-variants.{Sound};
-ghost use Rattle.image_read.specs.Read.{sevenRows, tableOf, buffers, hasRoom, holding, leaving, refusal, readOf};
+ghost use Rattle.image_read.specs.Read.{sevenRows, tableRead, buffers, roomFor, filledBuffers, readLeaving, refusal, readOf};
 ghost use Rattle.image_read.specs.Laws.Room.{Room};
 use image_check::Checked;
 use image_check::Counted;
@@ -125,7 +125,7 @@ fn queues_at(s: &[u8], at: usize, m: usize) -> [Queue; 7]
 // The table of the section at `at`: the flag stands behind the count, and the processes behind the flag.
 fn table_at(s: &[u8], at: usize, m: usize) -> ProcessTable
     requires { ⌜ (at ≤ 1024) × (m ≤ 64) ⌝ }
-    ensures { λ r. ⌜ r ≡ tableOf (fieldAt 1 (at + 1) (now (s .entry))) (processesAt m (at + 2) (now (s .entry))) ⌝ }
+    ensures { λ r. ⌜ r ≡ tableRead (fieldAt 1 (at + 1) (now (s .entry))) (processesAt m (at + 2) (now (s .entry))) ⌝ }
 {
     let flag = image_words::number_at(s, at + 1, 1) as u8;
     let psw = psws_at(s, at + 2, m);
@@ -145,7 +145,7 @@ fn has_room(
     data_tags: usize,
     data_words: usize,
 ) -> bool
-    ensures { λ r. ⌜ r ≡ hasRoom z constants tags words program data_tags data_words ⌝ }
+    ensures { λ r. ⌜ r ≡ roomFor z constants tags words program data_tags data_words ⌝ }
 {
     if constants < z.constants {
         return false;
@@ -194,7 +194,7 @@ fn fill(
     data_words: &mut [u64],
 )
     requires { ⌜ Room z (length (now s)) (length (now constants)) (length (now tags)) (length (now words)) (length (now program)) (length (now data_tags)) (length (now data_words)) ⌝ }
-    ensures { λ _. ⌜ buffers (now (constants .exit)) (now (tags .exit)) (now (words .exit)) (now (program .exit)) (now (data_tags .exit)) (now (data_words .exit)) ≡ holding (imageAt z (now (s .entry))) (buffers (now (constants .entry)) (now (tags .entry)) (now (words .entry)) (now (program .entry)) (now (data_tags .entry)) (now (data_words .entry))) ⌝ }
+    ensures { λ _. ⌜ buffers (now (constants .exit)) (now (tags .exit)) (now (words .exit)) (now (program .exit)) (now (data_tags .exit)) (now (data_words .exit)) ≡ filledBuffers (imageAt z (now (s .entry))) (buffers (now (constants .entry)) (now (tags .entry)) (now (words .entry)) (now (program .entry)) (now (data_tags .entry)) (now (data_words .entry))) ⌝ }
 {
     let constants_at = 1 + 28 * z.rows + (2 + 10 * z.processes);
     let registers_at = constants_at + (2 + 8 * z.constants);
@@ -240,7 +240,7 @@ fn read_sound(
     data_words: &mut [u64],
 ) -> Reading
     requires { ⌜ checkedOf (decode (now s)) ≡ Sound z ⌝ }
-    ensures { λ r. ⌜ leaving r (buffers (now (constants .exit)) (now (tags .exit)) (now (words .exit)) (now (program .exit)) (now (data_tags .exit)) (now (data_words .exit))) ≡ readOf (now (s .entry)) (buffers (now (constants .entry)) (now (tags .entry)) (now (words .entry)) (now (program .entry)) (now (data_tags .entry)) (now (data_words .entry))) ⌝ }
+    ensures { λ r. ⌜ readLeaving r (buffers (now (constants .exit)) (now (tags .exit)) (now (words .exit)) (now (program .exit)) (now (data_tags .exit)) (now (data_words .exit))) ≡ readOf (now (s .entry)) (buffers (now (constants .entry)) (now (tags .entry)) (now (words .entry)) (now (program .entry)) (now (data_tags .entry)) (now (data_words .entry))) ⌝ }
 {
     if !has_room(
         z,
@@ -273,7 +273,7 @@ pub fn read(
     data_tags: &mut [u8],
     data_words: &mut [u64],
 ) -> Reading
-    ensures { λ r. ⌜ leaving r (buffers (now (constants .exit)) (now (tags .exit)) (now (words .exit)) (now (program .exit)) (now (data_tags .exit)) (now (data_words .exit))) ≡ readOf (now (s .entry)) (buffers (now (constants .entry)) (now (tags .entry)) (now (words .entry)) (now (program .entry)) (now (data_tags .entry)) (now (data_words .entry))) ⌝ }
+    ensures { λ r. ⌜ readLeaving r (buffers (now (constants .exit)) (now (tags .exit)) (now (words .exit)) (now (program .exit)) (now (data_tags .exit)) (now (data_words .exit))) ≡ readOf (now (s .entry)) (buffers (now (constants .entry)) (now (tags .entry)) (now (words .entry)) (now (program .entry)) (now (data_tags .entry)) (now (data_words .entry))) ⌝ }
 {
     let found = image_check::check(s);
     match found {

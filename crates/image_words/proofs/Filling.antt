@@ -11,7 +11,7 @@ use borrow.Author.Tests.{le-leb, lt-leb, eq-eqb, ne-eqb}
 use Rattle.window.specs.Memories.{memory, tagOf, wordOf}
 use Rattle.image.specs.Image.{memoryOf}
 use Rattle.image.specs.Fields.{paired}
-use Rattle.image_words.specs.Reading.{fieldAt, listed, wordsAt, cellAt, cellsAt, filledWords, filledCells}
+use Rattle.image_words.specs.Reading.{fieldAt, listed, wordsAt, cellFrom, cellsAt, filledWords, filledCells}
 use Rattle.image_words.specs.Laws.Listed.{map-listed}
 
 -- i of n values are in l; the next stands at p of `long` bytes; what is still to come completes what is wanted
@@ -77,4 +77,4 @@ module _ (at : ℕ) (s tags₀ words₀ : List ℕ) where
     unfolding filledCells paired memoryOf cellsAt
     cells-filled h e f =
         rw (eq-eqb (length tags₀) (length words₀) same, le-leb (9 * length words₀) (length (drop at s)) (rw length-drop h))
-        (ap₂ memory (e ∙ sym (map-listed 9 tagOf (λ p. cellAt p s) (length words₀) at)) (f ∙ sym (map-listed 9 wordOf (λ p. cellAt p s) (length words₀) at)))
+        (ap₂ memory (e ∙ sym (map-listed 9 tagOf (λ p. cellFrom p s) (length words₀) at)) (f ∙ sym (map-listed 9 wordOf (λ p. cellFrom p s) (length words₀) at)))

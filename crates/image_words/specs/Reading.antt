@@ -28,11 +28,11 @@ unfoldable pub wordsAt : (n at : ℕ) → List ℕ → List ℕ
 wordsAt n at s = listed 8 (λ p. fieldAt 8 p s) n at
 
 -- n cells, each a tag and a word; and their tags
-abbrev pub cellAt : (at : ℕ) → List ℕ → Cell
-cellAt at s = cell (fieldAt 1 at s) (fieldAt 8 (at + 1) s)
+abbrev pub cellFrom : (at : ℕ) → List ℕ → Cell
+cellFrom at s = cell (fieldAt 1 at s) (fieldAt 8 (at + 1) s)
 
 unfoldable pub cellsAt : (n at : ℕ) → List ℕ → List Cell
-cellsAt n at s = listed 9 (λ p. cellAt p s) n at
+cellsAt n at s = listed 9 (λ p. cellFrom p s) n at
 
 unfoldable pub tagsAt : (n at : ℕ) → List ℕ → List ℕ
 tagsAt n at s = listed 9 (λ p. fieldAt 1 p s) n at

@@ -1,4 +1,5 @@
 -- The bytes of an image part by part: what a field must be plays no part in how it is written.
+-- They are steps of the writer, none of document 01's terms; their whole is `encode` (law image-bytes).
 use Prim.Native.Nat.{ℕ}
 use mathlib.Core.List.{List, [], _++_}
 use lib.ListN.{length}

@@ -2,12 +2,13 @@
 use Prim.Native.Nat.{ℕ}
 use mathlib.Core.Path.{_≡_}
 use mathlib.Core.Bool.{Bool, cond, not}
-use mathlib.Core.List.{List, _++_}
+use mathlib.Core.List.{List}
 use lib.Dec.{ltb}
-use lib.ListN.{length, drop}
+use lib.ListN.{length}
 use Rattle.refusal.specs.declared.Refusal.the-variants.{ShortBuffer, UnsoundState}
 use Rattle.step.specs.State.{State}
 use Rattle.image.specs.Image.{encode}
+use Rattle.image.specs.Fields.{over}
 use Rattle.soundness.specs.Held.{soundIn}
 use Rattle.image_write.specs.declared.Writing.{Writing}
 use Rattle.image_write.specs.declared.Writing.the-variants.{Refused, Wrote}
@@ -22,7 +23,7 @@ answer n s room =
 -- the image in the first bytes; on a refusal every byte stays
 unfoldable pub leaves : Writing → (image output : List ℕ) → List ℕ
 leaves (Refused e) image output = output
-leaves (Wrote k) image output = image ++ drop (length image) output
+leaves (Wrote k) image output = over image output
 
 -- a call's promise: its answer, and every byte of the output
 pub record Written (n : ℕ) (s : State) (r : Writing) (before after : List ℕ) : Type 0 where

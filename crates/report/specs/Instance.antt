@@ -22,8 +22,8 @@ use Rattle.report.specs.Laws.Agreeing.{compared-at, program-at, bytes-of
 -- ---- the two images by their fields
 
 -- a task with two registers and sixteen program words, those from 2 * place and 16 * place on, and no data
-unfoldable pub rowAt : (task place : ℕ) → Row
-rowAt task place = record { task = task; cb = 0; rb = place; rl = place; pb = place; pl = place; db = 1; dl = 0; kind = 255; psw = 0 }
+unfoldable pub instanceRow : (task place : ℕ) → Row
+instanceRow task place = record { task = task; cb = 0; rb = place; rl = place; pb = place; pl = place; db = 1; dl = 0; kind = 255; psw = 0 }
 
 -- a process at PC 0
 unfoldable pub processOf : (pt task : ℕ) → Process
@@ -62,7 +62,7 @@ creating =
 
 unfoldable pub imageA : Image
 imageA = record {
-  rows = rowAt 1 0 ∷ rowAt 2 1 ∷ [];
+  rows = instanceRow 1 0 ∷ instanceRow 2 1 ∷ [];
   flag = 0;
   processes = processOf 5 1 ∷ processOf 0 2 ∷ processOf 1 2 ∷ [];
   constants = [];
@@ -73,7 +73,7 @@ imageA = record {
 
 unfoldable pub imageB : Image
 imageB = record {
-  rows = rowAt 1 0 ∷ rowAt 3 1 ∷ [];
+  rows = instanceRow 1 0 ∷ instanceRow 3 1 ∷ [];
   flag = 0;
   processes = processOf 9 1 ∷ processOf 3 3 ∷ [];
   constants = [];
@@ -97,7 +97,7 @@ scheduleB = 1 ∷ 3 ∷ 3 ∷ 1 ∷ 1 ∷ 3 ∷ 1 ∷ 3 ∷ 1 ∷ 3 ∷ []
 
 -- naming this opens the two images
 unfoldable pub images : ℕ
-unfolding opened rowAt processOf doubling filling creating imageA imageB bytesA bytesB scheduleA scheduleB instructionWord
+unfolding opened instanceRow processOf doubling filling creating imageA imageB bytesA bytesB scheduleA scheduleB instructionWord
 images = 0
 
 -- ---- the two runs
@@ -113,8 +113,8 @@ runB = record { string = bytes-of bytesB refl; accepted = refl; scheduled = refl
 agreed : Agreed 1 scheduleA scheduleB imageA imageB
 unfolding images
 agreed = record {
-  task = compared-at 1 (stateOf imageA) (stateOf imageB) (rowAt 1 0) refl refl refl refl;
-  program = program-at 1 (stateOf imageA) (stateOf imageB) (rowAt 1 0) refl refl;
+  task = compared-at 1 (stateOf imageA) (stateOf imageB) (instanceRow 1 0) refl refl refl refl;
+  program = program-at 1 (stateOf imageA) (stateOf imageB) (instanceRow 1 0) refl refl;
   constants = λ a. refl;
   items = refl;
   alone = alone-of 1 (stateOf imageA) refl;
@@ -132,7 +132,7 @@ pub record Instance : Type 0 where
   -- by demand 3
   pub equal : Compared 1 afterA afterB
   -- task 1 did something: its registers were 41 and 7
-  pub counted : cut (registerWindow (rowAt 1 0)) (afterA .registers .words) ≡ 44 ∷ 84 ∷ []
+  pub counted : cut (registerWindow (instanceRow 1 0)) (afterA .registers .words) ≡ 44 ∷ 84 ∷ []
   -- and so did its neighbours, whose registers now differ
   pub neighbourA : getD (afterA .registers .words) 2 0 ≡ 2 ^ 64 - 1
   pub neighbourB : getD (afterB .registers .words) 2 0 ≡ 100

@@ -3,7 +3,8 @@ use Prim.Native.Nat.{ℕ, _+_, _*_}
 use mathlib.Core.Bool.{cond}
 use mathlib.Core.List.{List, _++_}
 use lib.Dec.{ltb}
-use lib.ListN.{length, take, drop}
+use lib.ListN.{length, take}
+use Rattle.image.specs.Fields.{over}
 use Rattle.reporting.specs.declared.Text.{Text}
 
 -- how many bytes a text has room for
@@ -31,5 +32,5 @@ abbrev pub longestReport : ℕ
 longestReport = 7 * longestRow + longestCounts
 
 -- a buffer after a copy: the text and then what was there; unchanged where it is shorter than the text
-unfoldable pub leftIn : (text buffer : List ℕ) → List ℕ
-leftIn text buffer = cond (ltb (length buffer) (length text)) buffer (text ++ drop (length text) buffer)
+unfoldable pub copiedInto : (text buffer : List ℕ) → List ℕ
+copiedInto text buffer = cond (ltb (length buffer) (length text)) buffer (over text buffer)

@@ -10,7 +10,7 @@ ghost use lib.ListN.{length, take};
 ghost use Rattle.refusal.specs.Numbers.{numberOf};
 ghost use Rattle.step.specs.State.{processesOf};
 ghost use Rattle.report.specs.Report.{decimalBy, decimal, hexDigit, hex, kindText, pcText, rowLine, rowLines, countsLine, refusalLine};
-ghost use Rattle.reporting.specs.Texts.{room, shown, appended, longestRow, longestReport, leftIn};
+ghost use Rattle.reporting.specs.Texts.{room, shown, appended, longestRow, longestReport, copiedInto};
 
 // A text under way: its first len bytes.
 pub struct Text {
@@ -202,7 +202,7 @@ fn text_len(t: Text) -> usize
 // The text goes to the front of a buffer that is long enough. The answer is its length.
 pub fn copy_text(t: Text, out: &mut [u8]) -> usize
     ensures answer { λ r. ⌜ r ≡ length (shown t) ⌝ }
-    ensures left { λ _. ⌜ now (out .exit) ≡ leftIn (shown t) (now (out .entry)) ⌝ }
+    ensures left { λ _. ⌜ now (out .exit) ≡ copiedInto (shown t) (now (out .entry)) ⌝ }
     ensures bound { λ r. ⌜ r ≤ room ⌝ }
 {
     let n = text_len(t);

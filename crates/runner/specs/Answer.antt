@@ -28,5 +28,5 @@ leftBy (some e) s r = s
 unfoldable pub answerIn : (n : ℕ) → State → (schedule : List ℕ) → RunAnswer
 answerIn n s schedule = answerOf (runRefusalIn n s schedule) (run schedule s)
 
-unfoldable pub leftIn : (n : ℕ) → State → (schedule : List ℕ) → State
-leftIn n s schedule = leftBy (runRefusalIn n s schedule) s (run schedule s)
+unfoldable pub stateLeft : (n : ℕ) → State → (schedule : List ℕ) → State
+stateLeft n s schedule = leftBy (runRefusalIn n s schedule) s (run schedule s)

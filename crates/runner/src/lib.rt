@@ -10,7 +10,7 @@ ghost use Rattle.run.specs.Schedule.{itemSound};
 ghost use Rattle.soundness.specs.Held.{stateIn};
 ghost use Rattle.runner.specs.declared.RunAnswer.the-variants.{Refused};
 ghost use Rattle.runner.specs.Place.{placeFrom};
-ghost use Rattle.runner.specs.Answer.{answerIn, leftIn};
+ghost use Rattle.runner.specs.Answer.{answerIn, stateLeft};
 use refusal::Refusal;
 use run::Counts;
 use step::Ending;
@@ -217,7 +217,7 @@ pub fn run(
     data_tags: &mut [u8],
     data_words: &mut [u64],
 ) -> Ran
-    ensures { λ r. ⌜ (r .answer ≡ answerIn n (stateIn rows n table (now (constants .entry)) (now (tags .entry)) (now (words .entry)) (now (program .entry)) (now (data_tags .entry)) (now (data_words .entry))) (now (schedule .entry))) × (stateIn (r .rows) n (r .table) (now (constants .entry)) (now (tags .exit)) (now (words .exit)) (now (program .entry)) (now (data_tags .exit)) (now (data_words .exit)) ≡ leftIn n (stateIn rows n table (now (constants .entry)) (now (tags .entry)) (now (words .entry)) (now (program .entry)) (now (data_tags .entry)) (now (data_words .entry))) (now (schedule .entry))) × (drop n (r .rows) ≡ drop n rows) ⌝ }
+    ensures { λ r. ⌜ (r .answer ≡ answerIn n (stateIn rows n table (now (constants .entry)) (now (tags .entry)) (now (words .entry)) (now (program .entry)) (now (data_tags .entry)) (now (data_words .entry))) (now (schedule .entry))) × (stateIn (r .rows) n (r .table) (now (constants .entry)) (now (tags .exit)) (now (words .exit)) (now (program .entry)) (now (data_tags .exit)) (now (data_words .exit)) ≡ stateLeft n (stateIn rows n table (now (constants .entry)) (now (tags .entry)) (now (words .entry)) (now (program .entry)) (now (data_tags .entry)) (now (data_words .entry))) (now (schedule .entry))) × (drop n (r .rows) ≡ drop n rows) ⌝ }
 {
     if !soundness::sound(
         rows,

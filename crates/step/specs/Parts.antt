@@ -1,5 +1,6 @@
 -- A step in the parts that code makes one after another: what is decided, how the step ends, and what becomes of the queue, the PSWs, the row
 -- and the flag. `free` is the lowest free PT, and `room` says that one process more is fewer than 64; only a create looks at them.
+-- Document 01 has none of these parts: it names `step` alone, and law step-made (Laws/Parts) says that together they are `step`.
 use Prim.Native.Nat.{ℕ, suc}
 use mathlib.Core.Path.{_≡_}
 use mathlib.Core.Bool.{Bool, true, false, cond}

@@ -17,8 +17,9 @@ use Rattle.step.specs.Laws.Rows.{none-some}
 use Rattle.step.specs.Laws.Lengths.{SameLengths}
 use Rattle.run.specs.Schedule.{scheduleRefusal}
 use Rattle.image.specs.Image.{Image, memoryOf, stateOf, good, decode}
+use Rattle.image.specs.Fields.{over}
 use Rattle.hep.specs.declared.Sizes.{Sizes}
-use Rattle.hep.specs.Buffers.{Buffers, roomOf, fits, sizesOf, fieldsIn, spareIn, over, holding}
+use Rattle.hep.specs.Buffers.{Buffers, roomOf, fits, sizesOf, fieldsIn, spareIn, holding}
 use Rattle.hep.specs.Calls.{unless, leaving, decodedRefusal, readRefusal, decodedAnswer, decodedLeaves, readLeaves, stateRefusal, orElse, runRefusal}
 
 module _ {A : Type 0} where

@@ -15,7 +15,7 @@ use Rattle.refusal.specs.declared.Refusal.the-variants.{TaskField, ProcessField
 use Rattle.image.specs.Codec.{field, uniformSection, noState}
 use Rattle.image.specs.Image.{rowCodec, toRow, fromRow, rowTask, tasksCodec, processCodec, toProcess, fromProcess, processTask, processesCodec}
 use Rattle.image.specs.Image.{wordsCodec, cellsCodec, imageCodec, toImage, fromImage}
-use Rattle.image_words.specs.Reading.{fieldAt, listed, wordsAt, cellAt, cellsAt}
+use Rattle.image_words.specs.Reading.{fieldAt, listed, wordsAt, cellFrom, cellsAt}
 use Rattle.image_words.specs.Laws.Listed.{length-listed, listed-at}
 use Rattle.image_words.specs.Laws.Spans.{Spans, spans-as, num-spans, seq-spans, via-spans, section-spans, listSection-spans}
 use Rattle.image_words.specs.Laws.Cells.{word-spans, cell-spans}
@@ -74,7 +74,7 @@ pub words-spans : (w most : ℕ) → Spans (wordsCodec w most) (λ b. listed 8 (
 unfolding wordsCodec uniformSection
 words-spans w most = listSection-spans noState (λ _. word-spans) w most tt
 
-pub cells-spans : (f : ℕ → Bool) (w most : ℕ) → Spans (cellsCodec f w most) (λ b. listed 9 (λ p. cellAt 0 (drop p b)) (field w b) w) (λ b. w + 9 * field w b)
+pub cells-spans : (f : ℕ → Bool) (w most : ℕ) → Spans (cellsCodec f w most) (λ b. listed 9 (λ p. cellFrom 0 (drop p b)) (field w b) w) (λ b. w + 9 * field w b)
 unfolding cellsCodec uniformSection
 cells-spans f w most = listSection-spans noState (λ _. cell-spans f) w most tt
 
@@ -104,7 +104,7 @@ module _ (s : List ℕ) where
     cells-placed : (f : ℕ → Bool) (w most : ℕ) → Placed s (cellsCodec f w most) p (cellsAt (fieldAt w p s) (p + w) s) (p + (w + 9 * fieldAt w p s))
     unfolding cellsAt
     cells-placed f w most =
-        placed (cells-spans f w most) s p (listed-at 9 (cellAt 0) (λ q. cellAt q s) s (λ q. simp (drop-drop, add-zero)) p (fieldAt w p s) w) refl
+        placed (cells-spans f w most) s p (listed-at 9 (cellFrom 0) (λ q. cellFrom q s) s (λ q. simp (drop-drop, add-zero)) p (fieldAt w p s) w) refl
 
   -- the whole
   pub image-placed : Placed s imageCodec 0 (imageAt (countsIn s) s) (endPlace (countsIn s))

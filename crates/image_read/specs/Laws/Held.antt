@@ -11,10 +11,11 @@ use Rattle.refusal.specs.declared.Refusal.the-variants.{ShortBuffer}
 use Rattle.step.specs.State.{State}
 use Rattle.image.specs.Image.{Image, Decoded, bad, good, memoryOf, stateOf, decode}
 use Rattle.soundness.specs.Held.{stateIn}
+use Rattle.image.specs.Fields.{over}
 use Rattle.image_check.specs.declared.Counted.{Counted}
 use Rattle.image_check.specs.Checked.{countsOf}
 use Rattle.image_read.specs.declared.ReadAnswer.the-variants.{Counts}
-use Rattle.image_read.specs.Read.{Buffers, Read, leaving, over, holding, sevenRows, roomIn, refusal, imageReading, decodedRead, readOf}
+use Rattle.image_read.specs.Read.{ReadBuffers, Read, readLeaving, filledBuffers, sevenRows, roomIn, refusal, imageReading, decodedRead, readOf}
 
 -- the state that a reading and the buffers hold, where it answers these counts
 abbrev pub stateRead : Counted → Read → State
@@ -30,8 +31,8 @@ pub record Held (bytes : List ℕ) (z : Counted) (r : Read) : Type 0 where
   pub counts : z ≡ countsOf image
   pub state : stateRead z r ≡ stateOf image
 
-image-held : (i : Image) (b : Buffers) → stateRead (countsOf i) (leaving (imageReading i) (holding i b)) ≡ stateOf i
-unfolding stateIn countsOf imageReading holding stateOf sevenRows memoryOf
+image-held : (i : Image) (b : ReadBuffers) → stateRead (countsOf i) (readLeaving (imageReading i) (filledBuffers i b)) ≡ stateOf i
+unfolding stateIn countsOf imageReading filledBuffers stateOf sevenRows memoryOf
 image-held i b =
     let t : (l m : List ℕ) (n : ℕ) → length l ≡ n → take n (over l m) ≡ l = λ l m n e. take-at l (drop (length l) m) n e in
     rw (
@@ -45,13 +46,13 @@ image-held i b =
     )
 
 -- where a reading answers counts
-pub held : (bytes : List ℕ) (b : Buffers) (z : Counted) (r : Read) → r ≡ readOf bytes b → r .reading .answer ≡ Counts z → Held bytes z r
+pub held : (bytes : List ℕ) (b : ReadBuffers) (z : Counted) (r : Read) → r ≡ readOf bytes b → r .reading .answer ≡ Counts z → Held bytes z r
 unfolding readOf decodedRead refusal imageReading
 held bytes b z r e h = subst (Held bytes z) (sym e) (go (decode bytes) refl (ap (λ (x : Read). x .reading .answer) (sym e) ∙ h))
   where
     answered : (i : Image) → decode bytes ≡ good i → (room : Bool)
-        → cond (not room) (leaving (refusal ShortBuffer) b) (leaving (imageReading i) (holding i b)) .reading .answer ≡ Counts z
-        → Held bytes z (cond (not room) (leaving (refusal ShortBuffer) b) (leaving (imageReading i) (holding i b)))
+        → cond (not room) (readLeaving (refusal ShortBuffer) b) (readLeaving (imageReading i) (filledBuffers i b)) .reading .answer ≡ Counts z
+        → Held bytes z (cond (not room) (readLeaving (refusal ShortBuffer) b) (readLeaving (imageReading i) (filledBuffers i b)))
     answered i q false h = let n : _≡_ {A = ℕ} 0 1 = cc in absurd (omega arith)
     answered i q true h =
         let c : countsOf i ≡ z = cc in
@@ -59,7 +60,7 @@ held bytes b z r e h = subst (Held bytes z) (sym e) (go (decode bytes) refl (ap 
           image = i;
           accepted = q;
           counts = sym c;
-          state = ap (λ (y : Counted). stateRead y (leaving (imageReading i) (holding i b))) (sym c) ∙ image-held i b;
+          state = ap (λ (y : Counted). stateRead y (readLeaving (imageReading i) (filledBuffers i b))) (sym c) ∙ image-held i b;
         }
 
     go : (d : Decoded) → decode bytes ≡ d → decodedRead d b .reading .answer ≡ Counts z → Held bytes z (decodedRead d b)

@@ -6,7 +6,7 @@ use borrow.Author.Tests.{leb-true}
 use Rattle.word.specs.Laws.Conjunctions.{both}
 use Rattle.image_check.specs.declared.Counted.{Counted}
 use Rattle.image_check.specs.Checked.{processesPlace, constantsPlace, registersPlace, programPlace, dataPlace, endPlace}
-use Rattle.image_read.specs.Read.{hasRoom}
+use Rattle.image_read.specs.Read.{roomFor}
 
 -- of so many bytes, and of buffers of these lengths
 pub record Room (z : Counted) (bytes a b c d e f : ℕ) : Type 0 where
@@ -18,8 +18,8 @@ pub record Room (z : Counted) (bytes a b c d e f : ℕ) : Type 0 where
   pub dataTags : z .data_words ≤ e
   pub dataWords : z .data_words ≤ f
 
-pub room-of : (z : Counted) (bytes a b c d e f : ℕ) → endPlace z ≡ bytes → hasRoom z a b c d e f ≡ true → Room z bytes a b c d e f
-unfolding endPlace dataPlace programPlace registersPlace constantsPlace processesPlace hasRoom
+pub room-of : (z : Counted) (bytes a b c d e f : ℕ) → endPlace z ≡ bytes → roomFor z a b c d e f ≡ true → Room z bytes a b c d e f
+unfolding endPlace dataPlace programPlace registersPlace constantsPlace processesPlace roomFor
 room-of z bytes a b c d e f ends h =
     let u =
     both (leb-true (z .constants) a)

@@ -15,7 +15,7 @@ use Rattle.image.specs.Codec.{bind, field, num, seq, via, decMany, noState}
 use Rattle.image.specs.Image.{wordCodec, cellCodec, toCell, fromCell}
 use Rattle.image_words.specs.declared.Scan.{Scan}
 use Rattle.image_words.specs.declared.Scan.the-variants.{Refused, At}
-use Rattle.image_words.specs.Reading.{fieldAt, cellAt, listed, tagsAt}
+use Rattle.image_words.specs.Reading.{fieldAt, cellFrom, listed, tagsAt}
 use Rattle.image_words.specs.Scanning.{scanned}
 use Rattle.image_words.specs.Laws.Spans.{Spans, num-spans, seq-spans, via-spans}
 use Rattle.image_words.specs.Laws.Scans.{scanned-map}
@@ -24,7 +24,7 @@ pub word-spans : Spans wordCodec (field 8) (λ _. 8)
 unfolding wordCodec
 word-spans = num-spans 8 CellField _
 
-pub cell-spans : (f : ℕ → Bool) → Spans (cellCodec f) (cellAt 0) (λ _. 9)
+pub cell-spans : (f : ℕ → Bool) → Spans (cellCodec f) (cellFrom 0) (λ _. 9)
 unfolding cellCodec
 cell-spans f = via-spans toCell fromCell (seq-spans (num-spans 1 CellField f) (λ _. word-spans))
 
@@ -91,7 +91,7 @@ module _ (f : ℕ → Bool) (s : List ℕ) where
         drop-drop 8 (p + 1) s,
         e,
       )
-      (scanned-map (length s) (decMany (λ _. cellCodec f) noState tt n (drop (p + 9) s)) (λ xs. cellAt p s ∷ xs))
+      (scanned-map (length s) (decMany (λ _. cellCodec f) noState tt n (drop (p + 9) s)) (λ xs. cellFrom p s ∷ xs))
 
   -- all n are there
   whole : (n p : ℕ) → 9 * n ≤ length s - p → cells n p ≡ cond (tags n p) (At (length s - ((length s - p) - 9 * n))) (Refused CellField)

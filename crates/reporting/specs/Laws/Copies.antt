@@ -8,7 +8,7 @@ use borrow.Author.Tests.{lt-ltb, le-ltb}
 use lib.ListN.{length, getD, take, drop, set, length-append, length-take, length-drop}
 use lib.Seq.{length-take-le, take-suc, drop-cons, set-at, append-snoc}
 use Rattle.reporting.specs.declared.Text.{Text}
-use Rattle.reporting.specs.Texts.{shown, leftIn}
+use Rattle.reporting.specs.Texts.{shown, copiedInto}
 use Rattle.reporting.specs.Laws.Texts.{shown-fits}
 
 -- i of n bytes are copied: from the buffer at the start to the buffer now
@@ -44,14 +44,14 @@ module _ (t : Text) (start : List ℕ) where
   pub starts : length (t .bytes) ≡ 512 → (n : ℕ) → n ≡ length (shown t) → n ≤ length start → Copying (t .bytes) start n start 0
   starts h n e k = record { copied = omega arith; within = omega (arith, shown-fits t h); room = k; is = refl }
 
-  pub ends : (n : ℕ) → n ≡ length (shown t) → (now : List ℕ) (i : ℕ) → Copying (t .bytes) start n now i → n ≤ i → now ≡ leftIn (shown t) start
-  unfolding leftIn shown
+  pub ends : (n : ℕ) → n ≡ length (shown t) → (now : List ℕ) (i : ℕ) → Copying (t .bytes) start n now i → n ≤ i → now ≡ copiedInto (shown t) start
+  unfolding copiedInto shown
   ends n e now i g h =
       let at : i ≡ length (take (t .len) (t .bytes)) = omega (arith, g .copied) in
       rw (le-ltb (length start) (length (take (t .len) (t .bytes))) (omega (arith, g .room)))
       (g .is ∙ (ap (λ m. take m (t .bytes) ++ drop m start) at ∙ ap (λ l. l ++ drop (length (take (t .len) (t .bytes))) start) (take-length-take (t .len) (t .bytes))))
 
   -- a buffer that is shorter stays as it is
-  pub short : (n : ℕ) → n ≡ length (shown t) → length start < n → start ≡ leftIn (shown t) start
-  unfolding leftIn
+  pub short : (n : ℕ) → n ≡ length (shown t) → length start < n → start ≡ copiedInto (shown t) start
+  unfolding copiedInto
   short n e h = rw (lt-ltb (length start) (length (shown t)) (omega arith))

@@ -18,7 +18,7 @@ use Rattle.run.specs.Schedule.{itemSound, scheduleRefusal}
 use Rattle.soundness.specs.Held.{stateIn, soundIn}
 use Rattle.runner.specs.declared.Ran.{Ran}
 use Rattle.runner.specs.declared.RunAnswer.the-variants.{Refused, Counted}
-use Rattle.runner.specs.Answer.{runRefusalIn, answerOf, leftBy, answerIn, leftIn}
+use Rattle.runner.specs.Answer.{runRefusalIn, answerOf, leftBy, answerIn, stateLeft}
 
 module _ (n : ℕ) (s : State) (l : List ℕ) where
   pub unsound : soundIn n s ≡ false → runRefusalIn n s l ≡ some UnsoundState
@@ -38,8 +38,8 @@ module _ (n : ℕ) (s : State) (l : List ℕ) where
   accepted e h i = rw (e, le-ltb 65535 (length l) h, i)
 
   -- a run that none stops answers its counts
-  pub counts : (s′ : State) (c : Counts) → runRefusalIn n s l ≡ none → record { state = s′; counts = c } ≡ run.run l s → (Counted c ≡ answerIn n s l) × (s′ ≡ leftIn n s l)
-  unfolding answerIn leftIn answerOf leftBy
+  pub counts : (s′ : State) (c : Counts) → runRefusalIn n s l ≡ none → record { state = s′; counts = c } ≡ run.run l s → (Counted c ≡ answerIn n s l) × (s′ ≡ stateLeft n s l)
+  unfolding answerIn stateLeft answerOf leftBy
   counts s′ c e r = rw (e, ← r) (refl, refl)
 
 -- a refused run leaves all as it was
@@ -47,7 +47,7 @@ pub refuses : (n : ℕ) (rows : List Row) (table : ProcessTable) (constants tags
     → r ≡ record { answer = Refused e; rows = rows; table = table }
     → runRefusalIn n (stateIn rows n table constants tags words program dataTags dataWords) l ≡ some e
     → (r .answer ≡ answerIn n (stateIn rows n table constants tags words program dataTags dataWords) l)
-    × (stateIn (r .rows) n (r .table) constants tags words program dataTags dataWords ≡ leftIn n (stateIn rows n table constants tags words program dataTags dataWords) l)
+    × (stateIn (r .rows) n (r .table) constants tags words program dataTags dataWords ≡ stateLeft n (stateIn rows n table constants tags words program dataTags dataWords) l)
     × (drop n (r .rows) ≡ drop n rows)
-unfolding answerIn leftIn answerOf leftBy
+unfolding answerIn stateLeft answerOf leftBy
 refuses n rows table constants tags words program dataTags dataWords l e r q p = rw (q, p) (refl, refl, refl)
