@@ -1,29 +1,39 @@
 //! Instruction words, operand fields and status words from their parts.
 
-pub const NOP: u16 = 0x0000;
-pub const SVC: u16 = 0x0900;
-pub const MOV: u16 = 0x611F;
-pub const CLR: u16 = 0x411C;
-pub const ONE: u16 = 0x4113;
-pub const NOT: u16 = 0x6110;
-pub const EOR: u16 = 0x7119;
-pub const EQV: u16 = 0x7116;
-pub const NAND: u16 = 0x7111;
-pub const NOR: u16 = 0x7114;
-pub const OR: u16 = 0x711B;
-pub const BITCLR: u16 = 0x7728;
-pub const BITSET: u16 = 0x7720;
-pub const ENCODE0: u16 = 0x6718;
-pub const ENCODE1: u16 = 0x6710;
-pub const DEC: u16 = 0x612F;
-pub const INC: u16 = 0x6130;
-pub const ADD: u16 = 0x7126;
-pub const SUB: u16 = 0x7139;
-pub const MUL: u16 = 0x7320;
-pub const LODI: u16 = 0x6C00;
-pub const LODX: u16 = 0x7C00;
-pub const STOI: u16 = 0xBC00;
-pub const STOX: u16 = 0xFC00;
+use crate::codes::{operation, Op};
+
+/// The code of an operation, its low bits zero.
+const fn code(op: Op) -> u16 {
+    match operation(op) {
+        Some(operation) => operation.code,
+        None => panic!("an operation without a row"),
+    }
+}
+
+pub const NOP: u16 = code(Op::Nop);
+pub const SVC: u16 = code(Op::Svc);
+pub const MOV: u16 = code(Op::Mov);
+pub const CLR: u16 = code(Op::Clr);
+pub const ONE: u16 = code(Op::One);
+pub const NOT: u16 = code(Op::Not);
+pub const EOR: u16 = code(Op::Eor);
+pub const EQV: u16 = code(Op::Eqv);
+pub const NAND: u16 = code(Op::Nand);
+pub const NOR: u16 = code(Op::Nor);
+pub const OR: u16 = code(Op::Or);
+pub const BITCLR: u16 = code(Op::Bitclr);
+pub const BITSET: u16 = code(Op::Bitset);
+pub const ENCODE0: u16 = code(Op::Encode0);
+pub const ENCODE1: u16 = code(Op::Encode1);
+pub const DEC: u16 = code(Op::Dec);
+pub const INC: u16 = code(Op::Inc);
+pub const ADD: u16 = code(Op::Add);
+pub const SUB: u16 = code(Op::Sub);
+pub const MUL: u16 = code(Op::Mul);
+pub const LODI: u16 = code(Op::Lodi);
+pub const LODX: u16 = code(Op::Lodx);
+pub const STOI: u16 = code(Op::Stoi);
+pub const STOX: u16 = code(Op::Stox);
 
 /// Low code bits of the data operations.
 pub const BYTE: u16 = 0x10;
@@ -57,20 +67,20 @@ pub fn word(code: u16, d: u16, s1: u16, s2: u16) -> u64 {
 
 pub fn branch(test: u16, target: u32, s1: u16, s2: u16) -> u64 {
     let target = target & 0xF_FFFF;
-    let code = 0x3800 | test << 4 | (target >> 16) as u16;
+    let code = code(Op::Branch) | test << 4 | (target >> 16) as u16;
     word(code, target as u16, s1, s2)
 }
 
 pub fn call(test: u16, d: u16, s1: u16, s2: u16) -> u64 {
-    word(0x7901 | test << 4, d, s1, s2)
+    word(code(Op::Call) | test << 4, d, s1, s2)
 }
 
 pub fn create(test: u16, act: u16, s1: u16, s2: u16) -> u64 {
-    word(0x3900 | test << 4 | act, 0, s1, s2)
+    word(code(Op::Create) | test << 4 | act, 0, s1, s2)
 }
 
 pub fn quit(test: u16, s2: u16) -> u64 {
-    word(0x1900 | test << 4, 0, 0, s2)
+    word(code(Op::Quit) | test << 4, 0, 0, s2)
 }
 
 pub fn psw(ci: u64, ri: u64, utm: u64, pc: u64) -> u64 {

@@ -23,7 +23,7 @@ fn run(input: &[u8]) -> Result<(Machine, Counts), u8> {
     if input.len() > MOST_BYTES {
         return Err(TOO_LONG);
     }
-    let (schedule, image) = schedule(input).ok_or(SHORT)?;
+    let (schedule, image) = split(input).ok_or(SHORT)?;
     let mut machine = image::read(image)?;
     if !schedule.iter().all(|item| (1..=7).contains(item)) {
         return Err(BAD_ITEM);
@@ -33,7 +33,7 @@ fn run(input: &[u8]) -> Result<(Machine, Counts), u8> {
 }
 
 /// Splits the input into schedule and image.
-fn schedule(input: &[u8]) -> Option<(&[u8], &[u8])> {
+pub fn split(input: &[u8]) -> Option<(&[u8], &[u8])> {
     let (count, rest) = input.split_first_chunk()?;
     rest.split_at_checked(usize::from(u16::from_be_bytes(*count)))
 }

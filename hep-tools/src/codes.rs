@@ -1,5 +1,5 @@
-//! Operation codes: a table from the 16 code bits to a small code, and for each
-//! small code the instruction bits that must be zero.
+//! Operation codes: one table of the operations, which decoding, the generator and
+//! the image tool share.
 
 /// What an instruction's code stands for.
 #[derive(Clone, Copy, PartialEq, Eq, Debug)]
@@ -48,79 +48,154 @@ pub const PRIVILEGED: [u16; 27] = [
 /// Codes carried out by software.
 pub const SIMULATED: [u16; 4] = [0x7200, 0x7F00, 0x610A, 0x6108];
 
-/// Operations with one whole code each.
-const SINGLE: [(u16, Op); 20] = [
-    (0x0900, Op::Svc),
-    (0x0000, Op::Nop),
-    (0x611F, Op::Mov),
-    (0x411C, Op::Clr),
-    (0x4113, Op::One),
-    (0x6110, Op::Not),
-    (0x7119, Op::Eor),
-    (0x7116, Op::Eqv),
-    (0x7111, Op::Nand),
-    (0x7114, Op::Nor),
-    (0x711B, Op::Or),
-    (0x7728, Op::Bitclr),
-    (0x7720, Op::Bitset),
-    (0x6718, Op::Encode0),
-    (0x6710, Op::Encode1),
-    (0x612F, Op::Dec),
-    (0x6130, Op::Inc),
-    (0x7126, Op::Add),
-    (0x7139, Op::Sub),
-    (0x7320, Op::Mul),
-];
+/// What the low bits of a code hold.
+#[derive(Clone, Copy, PartialEq, Eq, Debug)]
+pub enum Low {
+    /// Nothing: the code is whole.
+    Whole,
+    /// A test in the low digit but one.
+    Test,
+    /// A test, then the high digit of P.
+    TestTarget,
+    /// A test, then ACT.
+    TestAct,
+    /// B and SAC.
+    Load,
+    /// B and DAC.
+    Store,
+}
 
-/// Legal SAC (loads) and DAC (stores) codes, in their places in the code.
-const LOAD_ACCESS: [u16; 3] = [0x0, 0x4, 0x8];
-const STORE_ACCESS: [u16; 2] = [0x0, 0x2];
+/// The role of an instruction's second, third or fourth field.
+#[derive(Clone, Copy, PartialEq, Eq, Debug)]
+pub enum Role {
+    Unused,
+    /// Any value; of B it is the low part of P.
+    Free,
+    Destination,
+    Source,
+}
+
+/// An operation: its name in chapter 5, its code with the low bits zero, the roles of
+/// its fields, and the order in which the assembler names those in use.
+#[derive(Clone, Copy, Debug)]
+pub struct Operation {
+    pub op: Op,
+    pub name: &'static str,
+    pub code: u16,
+    pub low: Low,
+    pub fields: [Role; 3],
+    pub order: &'static [usize],
+}
+
+/// An operation that names its fields in their order.
+const fn row(op: Op, name: &'static str, code: u16, low: Low, fields: [Role; 3]) -> Operation {
+    let order: &[usize] = match fields {
+        [Role::Unused, Role::Unused, Role::Unused] => &[],
+        [Role::Unused, Role::Unused, _] => &[2],
+        [Role::Unused, _, _] => &[1, 2],
+        [_, Role::Unused, _] => &[0],
+        [_, _, Role::Unused] => &[0, 1],
+        _ => &[0, 1, 2],
+    };
+    Operation { op, name, code, low, fields, order }
+}
+
+/// The same with the assembler's own order.
+const fn turned(operation: Operation, order: &'static [usize]) -> Operation {
+    Operation { order, ..operation }
+}
+
+/// Every operation that document 01 lists.
+pub const OPERATIONS: [Operation; 28] = {
+    use Low::*;
+    use Role::{Destination as D, Free, Source as S, Unused as U};
+    [
+        row(Op::Svc, "SVC", 0x0900, Whole, [Free, U, U]),
+        row(Op::Nop, "NOP", 0x0000, Whole, [U, U, U]),
+        row(Op::Mov, "MOV", 0x611F, Whole, [D, S, U]),
+        row(Op::Clr, "CLR", 0x411C, Whole, [D, U, U]),
+        row(Op::One, "ONE", 0x4113, Whole, [D, U, U]),
+        row(Op::Not, "NOT", 0x6110, Whole, [D, S, U]),
+        row(Op::Eor, "EOR", 0x7119, Whole, [D, S, S]),
+        row(Op::Eqv, "EQV", 0x7116, Whole, [D, S, S]),
+        row(Op::Nand, "NAND", 0x7111, Whole, [D, S, S]),
+        row(Op::Nor, "NOR", 0x7114, Whole, [D, S, S]),
+        row(Op::Or, "OR", 0x711B, Whole, [D, S, S]),
+        row(Op::Bitclr, "BITCLR", 0x7728, Whole, [D, S, S]),
+        row(Op::Bitset, "BITSET", 0x7720, Whole, [D, S, S]),
+        row(Op::Encode0, "ENCODE0", 0x6718, Whole, [D, S, U]),
+        row(Op::Encode1, "ENCODE1", 0x6710, Whole, [D, S, U]),
+        row(Op::Dec, "DEC", 0x612F, Whole, [D, S, U]),
+        row(Op::Inc, "INC", 0x6130, Whole, [D, S, U]),
+        row(Op::Add, "ADD", 0x7126, Whole, [D, S, S]),
+        row(Op::Sub, "SUB", 0x7139, Whole, [D, S, S]),
+        row(Op::Mul, "MUL", 0x7320, Whole, [D, S, S]),
+        turned(row(Op::Branch, "B", 0x3800, TestTarget, [Free, S, S]), &[0, 2, 1]),
+        row(Op::Call, "CALL", 0x7901, Test, [D, S, S]),
+        row(Op::Create, "CREATE", 0x3900, TestAct, [U, S, S]),
+        row(Op::Quit, "QT", 0x1900, Test, [U, U, S]),
+        row(Op::Lodi, "LODI", 0x6C00, Load, [D, S, U]),
+        row(Op::Lodx, "LODX", 0x7C00, Load, [D, S, S]),
+        turned(row(Op::Stoi, "STOI", 0xBC00, Store, [U, S, S]), &[2, 1]),
+        row(Op::Stox, "STOX", 0xFC00, Store, [S, S, S]),
+    ]
+};
+
+/// The operation's row in the table, if it has one.
+pub const fn operation(op: Op) -> Option<&'static Operation> {
+    let mut i = 0;
+    while i < OPERATIONS.len() {
+        if OPERATIONS[i].op as u8 == op as u8 {
+            return Some(&OPERATIONS[i]);
+        }
+        i += 1;
+    }
+    None
+}
 
 static CODES: [Op; 65_536] = codes();
 
 const fn codes() -> [Op; 65_536] {
     let mut table = [Op::Unlisted; 65_536];
     let mut i = 0;
-    while i < SINGLE.len() {
-        table[SINGLE[i].0 as usize] = SINGLE[i].1;
+    while i < OPERATIONS.len() {
+        table = fill(table, &OPERATIONS[i]);
         i += 1;
     }
-    table = fill(table, 0, &PRIVILEGED, Op::Privileged);
-    table = fill(table, 0, &SIMULATED, Op::Simulated);
-    let mut b = 0;
-    while b <= 0x10 {
-        table = fill(table, 0x6C00 + b, &LOAD_ACCESS, Op::Lodi);
-        table = fill(table, 0x7C00 + b, &LOAD_ACCESS, Op::Lodx);
-        table = fill(table, 0xBC00 + b, &STORE_ACCESS, Op::Stoi);
-        table = fill(table, 0xFC00 + b, &STORE_ACCESS, Op::Stox);
-        b += 0x10;
-    }
-    tested(table)
+    table = set(table, &PRIVILEGED, Op::Privileged);
+    set(table, &SIMULATED, Op::Simulated)
 }
 
-/// Sets each of the codes `base + rest`.
-const fn fill(mut table: [Op; 65_536], base: u16, rest: &[u16], op: Op) -> [Op; 65_536] {
+const fn set(mut table: [Op; 65_536], codes: &[u16], op: Op) -> [Op; 65_536] {
     let mut i = 0;
-    while i < rest.len() {
-        table[(base + rest[i]) as usize] = op;
+    while i < codes.len() {
+        table[codes[i] as usize] = op;
         i += 1;
     }
     table
 }
 
-/// Sets the operations that carry a test in their code.
-const fn tested(mut table: [Op; 65_536]) -> [Op; 65_536] {
+/// Sets the codes of an operation: those whose low bits are legal.
+const fn fill(mut table: [Op; 65_536], operation: &Operation) -> [Op; 65_536] {
     let mut low = 0;
     while low < 0x100 {
-        table[0x3800 + low] = Op::Branch;
-        table[0x3900 + low] = Op::Create;
-        if low % 16 == 0 {
-            table[0x1900 + low] = Op::Quit;
-            table[0x7901 + low] = Op::Call;
+        if legal(operation.low, low) {
+            table[(operation.code | low) as usize] = operation.op;
         }
         low += 1;
     }
     table
+}
+
+/// Whether the low bits may be these: SAC is 0, 1 or 2, and DAC 0 or 2.
+const fn legal(low: Low, bits: u16) -> bool {
+    match low {
+        Low::Whole => bits == 0,
+        Low::Test => bits.is_multiple_of(16),
+        Low::TestTarget | Low::TestAct => true,
+        Low::Load => matches!(bits & !0x10, 0x0 | 0x4 | 0x8),
+        Low::Store => matches!(bits & !0x10, 0x0 | 0x2),
+    }
 }
 
 /// The operation of an instruction word.
@@ -129,48 +204,29 @@ pub fn decode(word: u64) -> Op {
     CODES[(word >> 48) as usize]
 }
 
+const OPS: usize = Op::Stox as usize + 1;
+
 /// For each operation the instruction bits that make it illegal: the whole of an
 /// unused field; bit 2 of an operand (AC 4 to 7, or a constant's unused bit).
-static FORBIDDEN: [u64; Op::Stox as usize + 1] = forbidden_table();
+static FORBIDDEN: [u64; OPS] = forbidden_table();
 
-const ALL: [Op; Op::Stox as usize + 1] = {
-    use Op::*;
-    [
-        Unlisted, Privileged, Simulated, Svc, Nop, Mov, Clr, One, Not, Eor, Eqv, Nand, Nor, Or,
-        Bitclr, Bitset, Encode0, Encode1, Dec, Inc, Add, Sub, Mul, Branch, Call, Create, Quit,
-        Lodi, Lodx, Stoi, Stox,
-    ]
-};
-
-const fn forbidden_table() -> [u64; ALL.len()] {
-    let mut table = [0; ALL.len()];
+const fn forbidden_table() -> [u64; OPS] {
+    let mut table = [0; OPS];
     let mut i = 0;
-    while i < ALL.len() {
-        table[ALL[i] as usize] = mask(ALL[i]);
+    while i < OPERATIONS.len() {
+        let [first, second, third] = OPERATIONS[i].fields;
+        let bits = forbidden_bits(first) << 32 | forbidden_bits(second) << 16;
+        table[OPERATIONS[i].op as usize] = bits | forbidden_bits(third);
         i += 1;
     }
     table
 }
 
-const fn mask(op: Op) -> u64 {
-    const D: u64 = 0x2000 << 32;
-    const S1: u64 = 0x2000 << 16;
-    const S2: u64 = 0x2000;
-    const NO_D: u64 = 0xFFFF << 32;
-    const NO_S1: u64 = 0xFFFF << 16;
-    const NO_S2: u64 = 0xFFFF;
-    use Op::*;
-    match op {
-        Unlisted | Privileged | Simulated => 0,
-        Svc => NO_S1 | NO_S2,
-        Nop => NO_D | NO_S1 | NO_S2,
-        Clr | One => D | NO_S1 | NO_S2,
-        Mov | Not | Encode0 | Encode1 | Dec | Inc | Lodi => D | S1 | NO_S2,
-        Eor | Eqv | Nand | Nor | Or | Bitclr | Bitset | Add | Sub | Mul => D | S1 | S2,
-        Call | Lodx | Stox => D | S1 | S2,
-        Branch => S1 | S2,
-        Create | Stoi => NO_D | S1 | S2,
-        Quit => NO_D | NO_S1 | S2,
+const fn forbidden_bits(role: Role) -> u64 {
+    match role {
+        Role::Unused => 0xFFFF,
+        Role::Free => 0,
+        Role::Destination | Role::Source => 0x2000,
     }
 }
 
@@ -178,4 +234,13 @@ const fn mask(op: Op) -> u64 {
 #[inline(always)]
 pub fn forbidden(op: Op, word: u64) -> bool {
     word & FORBIDDEN[op as usize] != 0
+}
+
+/// The operation of a word that check 2 passes.
+pub fn listed(word: u64) -> Option<&'static Operation> {
+    let op = decode(word);
+    if forbidden(op, word) {
+        return None;
+    }
+    operation(op)
 }

@@ -1,8 +1,6 @@
 //! A draft of an image: the fields as they stand, valid or not.
 
-use crate::image::put;
-
-#[derive(Clone, Copy, Debug)]
+#[derive(Clone, Copy, PartialEq, Eq, Debug)]
 pub struct Task {
     pub number: u8,
     pub cb: u16,
@@ -23,7 +21,7 @@ impl Task {
     }
 }
 
-#[derive(Clone, Copy, Debug)]
+#[derive(Clone, Copy, PartialEq, Eq, Debug)]
 pub struct Process {
     pub pt: u8,
     pub task: u8,
@@ -31,7 +29,7 @@ pub struct Process {
 }
 
 /// Registers and data are pairs of tag or state, and word.
-#[derive(Clone, Debug, Default)]
+#[derive(Clone, PartialEq, Eq, Debug, Default)]
 pub struct Draft {
     pub tasks: Vec<Task>,
     pub processes: Vec<Process>,
@@ -58,6 +56,11 @@ impl Draft {
         put_tagged(&mut out, 4, &self.data);
         out
     }
+}
+
+/// Appends the low `width` bytes of a value, big-endian.
+fn put(out: &mut Vec<u8>, width: usize, value: u64) {
+    out.extend_from_slice(&value.to_be_bytes()[8 - width..]);
 }
 
 fn put_task(out: &mut Vec<u8>, task: &Task) {

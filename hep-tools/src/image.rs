@@ -1,5 +1,6 @@
 //! Images: reading with refusals 1 to 6, and writing.
 
+use crate::draft::{Draft, Process, Task};
 use crate::machine::*;
 use crate::psw;
 
@@ -10,7 +11,8 @@ const LEFT_OVER: u8 = 4;
 const WINDOW: u8 = 5;
 const PROCESS: u8 = 6;
 
-const KINDS: [u8; 8] = [
+/// The trap kinds of an image, `NO_TRAP` among them.
+pub const KINDS: [u8; 8] = [
     CREATE_FAULT,
     ILLEGAL,
     PROTECTION,
@@ -184,64 +186,59 @@ fn windows_fit(machine: &Machine) -> bool {
     })
 }
 
+/// The name of a task's first window that ends past its memory, if there is one.
+pub fn past_its_memory(task: &Task, draft: &Draft) -> Option<&'static str> {
+    let fits = |base: u32, limit: u32, appended, size: usize| {
+        Window::new(u64::from(base), u64::from(limit), appended).fits(size as u64)
+    };
+    let Task { rb, rl, pb, pl, db, dl, .. } = *task;
+    if !fits(rb.into(), rl.into(), REGISTER_BITS, draft.registers.len()) {
+        return Some("register");
+    }
+    if !fits(pb.into(), pl.into(), PROGRAM_BITS, draft.program.len()) {
+        return Some("program");
+    }
+    (!fits(db, dl, DATA_BITS, draft.data.len() * 8)).then_some("data")
+}
+
 /// The image of a machine.
 pub fn write(machine: &Machine) -> Vec<u8> {
-    let mut out = Vec::new();
-    write_tasks(machine, &mut out);
-    write_processes(machine, &mut out);
-    put(&mut out, 2, machine.constant_count as u64);
-    for &word in &machine.words[REGISTERS..][..machine.constant_count] {
-        put(&mut out, 8, word);
-    }
-    put(&mut out, 2, machine.register_count as u64);
-    for i in 0..machine.register_count {
-        put(&mut out, 1, u64::from(machine.tags[i]));
-        put(&mut out, 8, machine.words[i]);
-    }
-    put(&mut out, 4, machine.program.len() as u64);
-    for &word in &machine.program {
-        put(&mut out, 8, word);
-    }
-    put(&mut out, 4, machine.data.len() as u64);
-    for (&full, &word) in machine.full.iter().zip(&machine.data) {
-        put(&mut out, 1, u64::from(full));
-        put(&mut out, 8, word);
-    }
-    out
+    draft(machine).bytes()
 }
 
-/// Appends the low `width` bytes of a value, big-endian.
-pub(crate) fn put(out: &mut Vec<u8>, width: usize, value: u64) {
-    out.extend_from_slice(&value.to_be_bytes()[8 - width..]);
-}
-
-fn write_tasks(machine: &Machine, out: &mut Vec<u8>) {
-    put(out, 1, machine.tasks().count() as u64);
-    for task in machine.tasks() {
-        let row = &machine.rows[usize::from(task)];
-        put(out, 1, u64::from(task));
-        put(out, 2, u64::from(row.constant_base >> 1));
-        write_window(out, 2, &row.registers, REGISTER_BITS);
-        write_window(out, 2, &row.program, PROGRAM_BITS);
-        write_window(out, 4, &row.data, DATA_BITS);
-        put(out, 1, u64::from(row.kind));
-        put(out, 8, row.trapped);
+/// The fields of a machine's image.
+pub fn draft(machine: &Machine) -> Draft {
+    let constants = &machine.words[REGISTERS..][..machine.constant_count];
+    let registers = machine.tags.iter().copied().zip(machine.words.iter().copied());
+    let data = machine.full.iter().copied().zip(machine.data.iter().copied());
+    Draft {
+        tasks: machine.tasks().map(|task| drafted_task(machine, task)).collect(),
+        processes: machine.tasks().flat_map(|task| drafted_processes(machine, task)).collect(),
+        flag: u8::from(machine.flag),
+        constants: constants.to_vec(),
+        registers: registers.take(machine.register_count).collect(),
+        program: machine.program.clone(),
+        data: data.collect(),
     }
 }
 
-fn write_window(out: &mut Vec<u8>, width: usize, window: &Window, appended: u32) {
-    put(out, width, window.base >> appended);
-    put(out, width, window.limit >> appended);
+fn drafted_task(machine: &Machine, number: u8) -> Task {
+    let row = &machine.rows[usize::from(number)];
+    Task {
+        number,
+        cb: (row.constant_base >> 1) as u16,
+        rb: (row.registers.base >> REGISTER_BITS) as u16,
+        rl: (row.registers.limit >> REGISTER_BITS) as u16,
+        pb: (row.program.base >> PROGRAM_BITS) as u16,
+        pl: (row.program.limit >> PROGRAM_BITS) as u16,
+        db: (row.data.base >> DATA_BITS) as u32,
+        dl: (row.data.limit >> DATA_BITS) as u32,
+        kind: row.kind,
+        trapped: row.trapped,
+    }
 }
 
-fn write_processes(machine: &Machine, out: &mut Vec<u8>) {
-    put(out, 1, u64::from(machine.used.count_ones()));
-    put(out, 1, u64::from(machine.flag));
-    for task in machine.tasks() {
-        for (pt, psw) in machine.processes(task) {
-            put(out, 1, u64::from(pt));
-            put(out, 1, u64::from(task));
-            put(out, 8, psw);
-        }
-    }
+fn drafted_processes(machine: &Machine, task: u8) -> Vec<Process> {
+    let queue = machine.processes(task).into_iter();
+    queue.map(|(pt, psw)| Process { pt, task, psw }).collect()
 }

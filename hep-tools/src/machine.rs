@@ -199,6 +199,18 @@ impl Machine {
         (self.full[real], self.data[real])
     }
 
+    /// The instruction at a task's PC, if its program window has that.
+    pub fn instruction(&self, task: u8, pc: u64) -> Option<u64> {
+        let real = self.rows[usize::from(task)].program.real(pc)?;
+        Some(self.program[real as usize])
+    }
+
+    /// The place of a task's data word from its byte address.
+    pub fn data_place(&self, task: u8, address: u64) -> Option<usize> {
+        let real = self.rows[usize::from(task)].data.real(address)?;
+        Some(real as usize / 8)
+    }
+
     pub fn create_fault(&self) -> bool {
         self.flag
     }

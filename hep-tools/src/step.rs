@@ -184,6 +184,12 @@ impl Machine {
         }
     }
 
+    /// The cell that the ith of an instruction's three fields names as an operand.
+    pub(crate) fn operand_cell(&self, task: u8, psw: u64, word: u64, i: usize) -> Option<usize> {
+        let at = At { task: usize::from(task), pt: 0, psw, word };
+        self.place(&at, 32 - 16 * i as u32).ok().map(|place| place.cell)
+    }
+
     /// Check 4 for the destination, which can't be a constant.
     #[inline(always)]
     fn destination(&self, at: &At) -> Result<Place, Stop> {
@@ -354,7 +360,7 @@ impl Machine {
 
     /// Check 7: the place of a data word.
     #[inline(always)]
-    fn data_place(&self, at: &At, address: u64) -> Result<usize, Stop> {
+    fn checked_data_place(&self, at: &At, address: u64) -> Result<usize, Stop> {
         let real = self.rows[at.task].data.real(address);
         let (Some(real), true) = (real, address < 1 << 31) else {
             return Err(Stop::Protection);
@@ -369,7 +375,7 @@ impl Machine {
     #[inline(always)]
     fn load<const N: usize>(&mut self, at: At, fields: [u32; N]) -> Outcome {
         let (d, sources) = self.operands(&at, fields)?;
-        let place = self.data_place(&at, address(&sources))?;
+        let place = self.checked_data_place(&at, address(&sources))?;
         let sac = at.word >> 50 & 3;
         if sac != 0 && self.full[place] == 0 {
             return Err(Stop::Wave);
@@ -386,7 +392,7 @@ impl Machine {
     #[inline(always)]
     fn store<const N: usize>(&mut self, at: At, fields: [u32; N]) -> Outcome {
         let sources = self.sources(&at, fields, false)?;
-        let place = self.data_place(&at, address(&sources[1..]))?;
+        let place = self.checked_data_place(&at, address(&sources[1..]))?;
         let dac = at.word >> 48 & 3;
         if dac == 2 && self.full[place] == 1 {
             return Err(Stop::Wave);

@@ -1,0 +1,81 @@
+//! A task's share of a machine: what isolation compares.
+
+use crate::draft::{Draft, Task};
+use crate::text;
+
+/// Trap record, status words from head to tail, and the cells of the windows.
+#[derive(Clone, PartialEq, Eq, Debug)]
+pub struct Share {
+    pub kind: u8,
+    pub trapped: u64,
+    pub processes: Vec<u64>,
+    pub registers: Vec<(u8, u64)>,
+    pub data: Vec<(u8, u64)>,
+}
+
+/// The real addresses of a window of this many addresses a unit.
+fn addresses(base: u32, limit: u32, unit: usize) -> std::ops::Range<usize> {
+    let base = base as usize * unit;
+    base..((limit as usize + 1) * unit).max(base)
+}
+
+/// Real addresses of a task's registers.
+pub fn registers(task: &Task) -> std::ops::Range<usize> {
+    addresses(task.rb.into(), task.rl.into(), 2)
+}
+
+/// Real addresses of a task's program words.
+pub fn program(task: &Task) -> std::ops::Range<usize> {
+    addresses(task.pb.into(), task.pl.into(), 16)
+}
+
+/// Real addresses of a task's data words.
+pub fn data(task: &Task) -> std::ops::Range<usize> {
+    addresses(task.db, task.dl, 32)
+}
+
+/// The cells of an accepted image at these real addresses.
+fn cells<T: Clone>(memory: &[T], addresses: std::ops::Range<usize>) -> Vec<T> {
+    if addresses.is_empty() {
+        return Vec::new();
+    }
+    memory[addresses].to_vec()
+}
+
+/// The share of a listed task in an accepted image.
+pub fn share(draft: &Draft, number: u8) -> Option<Share> {
+    let task = draft.tasks.iter().find(|task| task.number == number)?;
+    let own = draft.processes.iter().filter(|process| process.task == number);
+    Some(Share {
+        kind: task.kind,
+        trapped: task.trapped,
+        processes: own.map(|process| process.psw).collect(),
+        registers: cells(&draft.registers, registers(task)),
+        data: cells(&draft.data, data(task)),
+    })
+}
+
+/// The instructions in a listed task's program window.
+pub fn instructions(draft: &Draft, task: &Task) -> Vec<u64> {
+    cells(&draft.program, program(task))
+}
+
+impl Share {
+    /// The share as text, each cell at its place in the window.
+    pub fn show(&self) -> String {
+        let mut out = match self.kind {
+            crate::machine::NO_TRAP => "trap none\n".to_string(),
+            kind => format!("trap {kind:02X} {}\n", text::psw_fields(self.trapped)),
+        };
+        for &psw in &self.processes {
+            out += &format!("process {}\n", text::psw_fields(psw));
+        }
+        for (place, register) in self.registers.iter().enumerate() {
+            out += &format!("r{place} {}\n", text::register(register));
+        }
+        for (place, cell) in self.data.iter().enumerate() {
+            out += &format!("data {place} {}\n", text::data(cell));
+        }
+        out
+    }
+}

@@ -1,0 +1,520 @@
+//! Text to an image's fields. The text is read twice: first for the names, then for
+//! the fields.
+
+use super::instruction;
+use super::line::{Error, Line};
+use super::Source;
+use crate::assemble::{constant, psw, register};
+use crate::draft::{Draft, Process, Task};
+use crate::image::{self, KINDS};
+use crate::machine::{EMPTY, NO_TRAP, PROCESSES};
+use std::collections::HashMap;
+
+const MOST_CONSTANTS: usize = 4_096;
+const MOST_REGISTERS: usize = 2_048;
+const MOST_WORDS: usize = 1 << 20;
+const MOST_ITEMS: usize = 65_535;
+const MOST_BYTES: usize = 65_536;
+
+/// What a name stands for; in the first reading it may be unknown yet.
+#[derive(Clone, Copy)]
+enum Meaning {
+    Number(i128),
+    Operand(u16),
+    Unknown,
+}
+
+/// The names of a text, each with the line that gives it.
+#[derive(Default)]
+pub struct Names {
+    known: HashMap<String, (usize, Meaning)>,
+    complete: bool,
+}
+
+impl Names {
+    fn give(&mut self, line: &Line, name: &str, at: usize, meaning: Meaning) -> Result<(), Error> {
+        let letter = name.starts_with(|c: char| c.is_ascii_alphabetic() || c == '_');
+        if !letter || plain_operand(name).is_some() {
+            return Err(line.error_at(at, format!("`{name}` can't be a name")));
+        }
+        let first = self.known.entry(name.to_string()).or_insert((line.number(), meaning));
+        if first.0 != line.number() {
+            let reason = format!("`{name}` has its meaning from line {}", first.0);
+            return Err(line.error_at(at, reason));
+        }
+        Ok(())
+    }
+
+    fn meaning(&self, line: &Line, name: &str, at: usize) -> Result<Meaning, Error> {
+        match self.known.get(name) {
+            Some((_, meaning)) => Ok(*meaning),
+            None if self.complete => Err(line.error_at(at, format!("`{name}` is unknown"))),
+            None => Ok(Meaning::Unknown),
+        }
+    }
+
+    /// A whole number in decimal or hex, or the name of one.
+    fn whole(&self, line: &mut Line) -> Result<i128, Error> {
+        let place = line.mark();
+        let minus = line.take('-');
+        let word = line.word();
+        if word.starts_with(|c: char| c.is_ascii_alphabetic() || c == '_') {
+            return match self.meaning(line, word, place)? {
+                Meaning::Number(value) if minus => Ok(-value),
+                Meaning::Number(value) => Ok(value),
+                Meaning::Unknown => Ok(0),
+                Meaning::Operand(_) => Err(line.error_at(place, format!("`{word}` is an operand"))),
+            };
+        }
+        let value = match word.strip_prefix("0x").or(word.strip_prefix("0X")) {
+            Some(digits) => i128::from_str_radix(digits, 16),
+            None => word.parse(),
+        };
+        match value {
+            Ok(value) => Ok(if minus { -value } else { value }),
+            Err(_) => Err(line.error_at(place, "a number should stand here")),
+        }
+    }
+
+    /// A number from 0 to `most`.
+    pub fn number(&self, line: &mut Line, what: &str, most: u64) -> Result<u64, Error> {
+        self.between(line, what, 0, most)
+    }
+
+    fn between(&self, line: &mut Line, what: &str, least: u64, most: u64) -> Result<u64, Error> {
+        let place = line.mark();
+        let value = self.whole(line)?;
+        match u64::try_from(value) {
+            Ok(value) if (least..=most).contains(&value) => Ok(value),
+            _ => Err(line.error_at(place, format!("{what} must be from {least} to {most}"))),
+        }
+    }
+
+    /// A word: a number, or `psw` and its fields.
+    pub fn word(&self, line: &mut Line) -> Result<u64, Error> {
+        if line.keyword("psw") {
+            return self.psw(line);
+        }
+        let place = line.mark();
+        let value = self.whole(line)?;
+        if !(-(1 << 63)..1 << 64).contains(&value) {
+            return Err(line.error_at(place, "a word must be from -2^63 to 2^64 - 1"));
+        }
+        Ok(value as u64)
+    }
+
+    /// The fields of a status word up to the end of the line or a `*`.
+    fn psw(&self, line: &mut Line) -> Result<u64, Error> {
+        let mut fields = [0; 4];
+        self.fields(
+            line,
+            &[("ci", 0x1FFF), ("ri", 0x7FF), ("utm", 0xFF), ("pc", 0xF_FFFF)],
+            &mut fields,
+        )?;
+        let [ci, ri, utm, pc] = fields;
+        Ok(psw(ci, ri, utm, pc))
+    }
+
+    /// Fields `name=number`, each at most once, in any order.
+    fn fields(&self, line: &mut Line, known: &[(&str, u64)], to: &mut [u64]) -> Result<u64, Error> {
+        let mut given = 0;
+        loop {
+            let (place, word) = (line.mark(), line.peek());
+            let Some(i) = known.iter().position(|(name, _)| *name == word) else {
+                return Ok(given);
+            };
+            line.word();
+            if given >> i & 1 != 0 {
+                return Err(line.error_at(place, format!("{word} is given twice")));
+            }
+            given |= 1 << i;
+            line.expect('=')?;
+            to[i] = self.number(line, word, known[i].1)?;
+        }
+    }
+
+    /// A register, a constant, or the name of one.
+    pub fn operand(&self, line: &mut Line) -> Result<u16, Error> {
+        let place = line.mark();
+        let word = line.word();
+        if let Some((constant_memory, displacement)) = plain_operand(word) {
+            let most = if constant_memory { 0x1FFF } else { 0x7FF };
+            return match displacement {
+                Some(number) if number <= most && constant_memory => Ok(constant(number)),
+                Some(number) if number <= most => Ok(register(number)),
+                _ => {
+                    Err(line.error_at(place, format!("the displacement must be from 0 to {most}")))
+                }
+            };
+        }
+        if word.is_empty() || word.starts_with(|c: char| c.is_ascii_digit()) {
+            return Err(line.error_at(place, "an operand should stand here"));
+        }
+        match self.meaning(line, word, place)? {
+            Meaning::Operand(field) => Ok(field),
+            Meaning::Unknown => Ok(0),
+            Meaning::Number(_) => Err(line.error_at(place, format!("`{word}` is a number"))),
+        }
+    }
+}
+
+/// `r` or `c` and digits: whether it is a constant, and the displacement unless it is
+/// too long.
+fn plain_operand(word: &str) -> Option<(bool, Option<u16>)> {
+    let digits = word.strip_prefix(['r', 'R', 'c', 'C'])?;
+    if digits.is_empty() || !digits.bytes().all(|byte| byte.is_ascii_digit()) {
+        return None;
+    }
+    Some((word.starts_with(['c', 'C']), digits.parse().ok()))
+}
+
+#[derive(Clone, Copy, PartialEq, Eq)]
+enum Section {
+    Start,
+    Rows,
+    Constants,
+    Registers,
+    Program,
+    Data,
+    Schedule,
+}
+
+/// A reading of the text.
+struct Reading<'a> {
+    names: &'a mut Names,
+    section: Section,
+    /// Where the program's labels count from.
+    origin: usize,
+    draft: Draft,
+    schedule: Option<Vec<u8>>,
+    task_lines: Vec<usize>,
+    process_lines: Vec<usize>,
+}
+
+impl<'a> Reading<'a> {
+    fn new(names: &'a mut Names) -> Self {
+        Reading {
+            names,
+            section: Section::Start,
+            origin: 0,
+            draft: Draft::default(),
+            schedule: None,
+            task_lines: Vec::new(),
+            process_lines: Vec::new(),
+        }
+    }
+}
+
+/// The image or input that the text describes; it is accepted by a reader.
+pub fn assemble(text: &str) -> Result<Source, Error> {
+    let mut names = Names::default();
+    let mut first = Reading::new(&mut names);
+    for (i, line) in text.lines().enumerate() {
+        // What is wrong shows again in the second reading.
+        let _ = first.line(&mut Line::new(i + 1, line));
+    }
+    names.complete = true;
+    let mut second = Reading::new(&mut names);
+    for (i, line) in text.lines().enumerate() {
+        second.line(&mut Line::new(i + 1, line))?;
+    }
+    second.finish(text.lines().count().max(1))
+}
+
+impl Reading<'_> {
+    fn line(&mut self, line: &mut Line) -> Result<(), Error> {
+        if line.is_done() {
+            return Ok(());
+        }
+        if self.section == Section::Start {
+            return self.header(line);
+        }
+        match line.peek() {
+            "task" => self.task(line)?,
+            "flag" => self.flag(line)?,
+            "process" => self.process(line)?,
+            "name" => self.name(line)?,
+            "constants" => self.open(line, Section::Constants)?,
+            "registers" => self.open(line, Section::Registers)?,
+            "program" => self.open(line, Section::Program)?,
+            "data" => self.open(line, Section::Data)?,
+            "schedule" => self.open_schedule(line)?,
+            _ => self.cell(line)?,
+        }
+        line.end()
+    }
+
+    fn header(&mut self, line: &mut Line) -> Result<(), Error> {
+        let place = line.mark();
+        if !line.keyword("hep") {
+            return Err(line.error_at(place, "the text must begin with `hep image` or `hep input`"));
+        }
+        if line.keyword("input") {
+            self.schedule = Some(Vec::new());
+        } else if !line.keyword("image") {
+            return Err(line.error("`image` or `input` should stand here"));
+        }
+        self.section = Section::Rows;
+        line.end()
+    }
+
+    fn task(&mut self, line: &mut Line) -> Result<(), Error> {
+        line.word();
+        let place = line.mark();
+        let number = self.names.between(line, "the task", 1, 7)? as u8;
+        let last = self.draft.tasks.last().map_or(0, |task| task.number);
+        if number <= last {
+            return Err(line.error_at(place, "tasks stand in ascending order"));
+        }
+        let known = [
+            ("cb", 0xFFF),
+            ("rb", 0x3FF),
+            ("rl", 0x3FF),
+            ("pb", 0xFFFF),
+            ("pl", 0xFFFF),
+            ("db", 0xFF_FFFF),
+            ("dl", 0xFF_FFFF),
+        ];
+        let mut fields = [0; 7];
+        let given = self.names.fields(line, &known, &mut fields)?;
+        if let Some(i) = (0..known.len()).find(|i| given >> i & 1 == 0) {
+            return Err(line.error(format!("{} is missing", known[i].0)));
+        }
+        let (kind, trapped) = self.trap_record(line)?;
+        let [cb, rb, rl, pb, pl] = [0, 1, 2, 3, 4].map(|i: usize| fields[i] as u16);
+        let (db, dl) = (fields[5] as u32, fields[6] as u32);
+        self.draft.tasks.push(Task { number, cb, rb, rl, pb, pl, db, dl, kind, trapped });
+        self.task_lines.push(line.number());
+        Ok(())
+    }
+
+    /// Kind and status word of a trapped task.
+    fn trap_record(&self, line: &mut Line) -> Result<(u8, u64), Error> {
+        if !line.keyword("trap") {
+            return Ok((NO_TRAP, 0));
+        }
+        line.expect('=')?;
+        let place = line.mark();
+        let kind = self.names.number(line, "trap", 0xFF)? as u8;
+        if kind == NO_TRAP || !KINDS.contains(&kind) {
+            return Err(line.error_at(place, "the kinds are 0x00 0x12 0x14 0x16 0x1A 0x1C 0x1E"));
+        }
+        Ok((kind, self.names.psw(line)?))
+    }
+
+    fn flag(&mut self, line: &mut Line) -> Result<(), Error> {
+        line.word();
+        self.draft.flag = self.names.number(line, "the flag", 1)? as u8;
+        Ok(())
+    }
+
+    fn process(&mut self, line: &mut Line) -> Result<(), Error> {
+        let start = line.mark();
+        line.word();
+        if self.draft.processes.len() == PROCESSES {
+            return Err(line.error_at(start, "there are 64 processes already"));
+        }
+        let place = line.mark();
+        let pt = self.names.number(line, "the process number", 63)? as u8;
+        if self.draft.processes.iter().any(|process| process.pt == pt) {
+            return Err(line.error_at(place, format!("process number {pt} stands twice")));
+        }
+        if !line.keyword("task") {
+            return Err(line.error("`task=` should stand here"));
+        }
+        line.expect('=')?;
+        let place = line.mark();
+        let task = self.names.between(line, "the task", 1, 7)? as u8;
+        if !self.draft.tasks.iter().any(|row| row.number == task) {
+            return Err(line.error_at(place, format!("task {task} isn't listed above")));
+        }
+        if self.draft.processes.last().is_some_and(|process| process.task > task) {
+            return Err(line.error_at(place, "processes stand by ascending task"));
+        }
+        let psw = self.names.psw(line)?;
+        self.draft.processes.push(Process { pt, task, psw });
+        self.process_lines.push(line.number());
+        Ok(())
+    }
+
+    /// `name NAME = OPERAND` or `name NAME = NUMBER`.
+    fn name(&mut self, line: &mut Line) -> Result<(), Error> {
+        line.word();
+        let place = line.mark();
+        let name = line.word();
+        line.expect('=')?;
+        let meaning = if plain_operand(line.peek()).is_some() {
+            Meaning::Operand(self.names.operand(line)?)
+        } else {
+            Meaning::Number(self.names.whole(line)?)
+        };
+        self.names.give(line, name, place, meaning)
+    }
+
+    /// Opens a memory, with `at N` at that real address; the cells between are zero.
+    fn open(&mut self, line: &mut Line, section: Section) -> Result<(), Error> {
+        line.word();
+        self.section = section;
+        if !line.keyword("at") {
+            return Ok(());
+        }
+        let place = line.mark();
+        let most = self.most() as u64;
+        let at = self.names.number(line, "the address", most)? as usize;
+        let Some(between) = at.checked_sub(self.length()) else {
+            let reason = format!("there are {} cells already", self.length());
+            return Err(line.error_at(place, reason));
+        };
+        if section == Section::Program {
+            self.origin = at;
+        }
+        self.push(0, u8::from(section == Section::Data), between);
+        Ok(())
+    }
+
+    fn open_schedule(&mut self, line: &mut Line) -> Result<(), Error> {
+        if self.schedule.is_none() {
+            return Err(line.error("only `hep input` has a schedule"));
+        }
+        line.word();
+        self.section = Section::Schedule;
+        Ok(())
+    }
+
+    /// The most cells of the open section.
+    fn most(&self) -> usize {
+        match self.section {
+            Section::Start | Section::Rows => 0,
+            Section::Constants => MOST_CONSTANTS,
+            Section::Registers => MOST_REGISTERS,
+            Section::Program | Section::Data => MOST_WORDS,
+            Section::Schedule => MOST_ITEMS,
+        }
+    }
+
+    /// The cells of the open section so far.
+    fn length(&self) -> usize {
+        match self.section {
+            Section::Start | Section::Rows => 0,
+            Section::Constants => self.draft.constants.len(),
+            Section::Registers => self.draft.registers.len(),
+            Section::Program => self.draft.program.len(),
+            Section::Data => self.draft.data.len(),
+            Section::Schedule => self.schedule.as_ref().map_or(0, Vec::len),
+        }
+    }
+
+    /// Adds a cell to the open memory so many times.
+    fn push(&mut self, word: u64, tag: u8, times: usize) {
+        let draft = &mut self.draft;
+        match self.section {
+            Section::Constants => draft.constants.extend(vec![word; times]),
+            Section::Registers => draft.registers.extend(vec![(tag, word); times]),
+            Section::Program => draft.program.extend(vec![word; times]),
+            Section::Data => draft.data.extend(vec![(tag, word); times]),
+            Section::Start | Section::Rows | Section::Schedule => {}
+        }
+    }
+
+    /// A line of the open section: one cell or a list of items, `* N` for N times.
+    fn cell(&mut self, line: &mut Line) -> Result<(), Error> {
+        let start = line.mark();
+        let (mut word, mut tag, mut items) = (0, 0, Vec::new());
+        match self.section {
+            Section::Start | Section::Rows => {
+                return Err(line.error("`task`, `process` or a section should stand here"));
+            }
+            Section::Constants => word = self.names.word(line)?,
+            Section::Registers => (tag, word) = self.register(line)?,
+            Section::Program => match self.labelled(line)? {
+                Some(instruction) => word = instruction,
+                None => return Ok(()),
+            },
+            Section::Data => {
+                tag = u8::from(!self.empty(line)?);
+                word = self.names.word(line)?;
+            }
+            Section::Schedule => items = self.items(line)?,
+        }
+        let times = self.times(line)?;
+        if times.saturating_mul(items.len().max(1)) > self.most() - self.length() {
+            return Err(line.error_at(start, format!("the section has at most {}", self.most())));
+        }
+        self.push(word, tag, times);
+        if let Some(schedule) = &mut self.schedule {
+            schedule.extend(items.repeat(times));
+        }
+        Ok(())
+    }
+
+    fn times(&self, line: &mut Line) -> Result<usize, Error> {
+        if !line.take('*') {
+            return Ok(1);
+        }
+        Ok(self.names.between(line, "the repetition", 1, 1 << 20)? as usize)
+    }
+
+    /// Whether the state that is next is `empty`.
+    fn empty(&self, line: &mut Line) -> Result<bool, Error> {
+        if line.keyword("empty") {
+            return Ok(true);
+        }
+        if line.keyword("full") {
+            return Ok(false);
+        }
+        Err(line.error("`full` or `empty` should stand here"))
+    }
+
+    /// Tag and word of a register.
+    fn register(&self, line: &mut Line) -> Result<(u8, u64), Error> {
+        let state = if self.empty(line)? { EMPTY } else { 0 };
+        let word = self.names.word(line)?;
+        let mut quality = [0];
+        self.names.fields(line, &[("quality", 6)], &mut quality)?;
+        Ok((state | quality[0] as u8, word))
+    }
+
+    /// The instruction behind the line's labels, if there is one.
+    fn labelled(&mut self, line: &mut Line) -> Result<Option<u64>, Error> {
+        loop {
+            let place = line.mark();
+            let Some(label) = line.label() else { break };
+            let distance = self.draft.program.len() - self.origin;
+            self.names.give(line, label, place, Meaning::Number(distance as i128))?;
+        }
+        if line.is_done() {
+            return Ok(None);
+        }
+        instruction::parse(line, self.names).map(Some)
+    }
+
+    fn items(&self, line: &mut Line) -> Result<Vec<u8>, Error> {
+        let mut items = Vec::new();
+        while items.is_empty() || !line.peek().is_empty() {
+            items.push(self.names.between(line, "an item", 1, 7)? as u8);
+        }
+        Ok(items)
+    }
+
+    /// What can be told only at the end.
+    fn finish(self, last: usize) -> Result<Source, Error> {
+        let at = |line: usize, reason: &str| Error { line, column: 1, reason: reason.to_string() };
+        if self.section == Section::Start {
+            return Err(at(last, "the text must begin with `hep image` or `hep input`"));
+        }
+        for (task, &line) in self.draft.tasks.iter().zip(&self.task_lines) {
+            if let Some(name) = image::past_its_memory(task, &self.draft) {
+                return Err(at(line, &format!("the {name} window ends past its memory")));
+            }
+        }
+        if self.draft.processes.len() == PROCESSES && self.draft.flag == 0 {
+            let line = self.process_lines[PROCESSES - 1];
+            return Err(at(line, "64 processes need `flag 1`"));
+        }
+        let source = Source { schedule: self.schedule, draft: self.draft };
+        if source.schedule.is_some() && source.bytes().len() > MOST_BYTES {
+            return Err(at(last, "the input is over 65536 bytes"));
+        }
+        Ok(source)
+    }
+}

@@ -1,0 +1,122 @@
+//! The image tool's subcommands: bytes of a file to bytes of the answer.
+
+use crate::batch::split;
+use crate::image;
+use crate::machine::Machine;
+use crate::share;
+use crate::text::{assemble, dump, Source};
+use crate::trace;
+use std::ops::RangeInclusive;
+
+const BAD_ITEM: u8 = 10;
+
+/// A failure's message.
+pub type Failure = String;
+
+/// An image or input from text, hex digits or bytes.
+///
+/// The first three bytes of an accepted image or input are never all above 8: an image
+/// starts with at most 7, and an input with its items or an image within three bytes.
+pub fn load(bytes: &[u8]) -> Result<Source, Failure> {
+    if bytes.is_empty() || bytes.iter().take(3).any(|byte| *byte < 9) {
+        return from_bytes(bytes);
+    }
+    let text = std::str::from_utf8(bytes).map_err(|_| refused(bytes))?;
+    match from_hex(text) {
+        Some(bytes) => from_bytes(&bytes),
+        None => assemble(text).map_err(|error| error.to_string()),
+    }
+}
+
+/// The bytes of hex digits, where spaces, line ends and bars don't count.
+pub fn from_hex(text: &str) -> Option<Vec<u8>> {
+    let digits = text.chars().filter(|c| !c.is_whitespace() && *c != '|');
+    let digits: Vec<u32> = digits.map(|c| c.to_digit(16)).collect::<Option<_>>()?;
+    if !digits.len().is_multiple_of(2) {
+        return None;
+    }
+    Some(digits.chunks(2).map(|pair| (pair[0] << 4 | pair[1]) as u8).collect())
+}
+
+/// Lines of 32 bytes in hex.
+pub fn to_hex(bytes: &[u8]) -> String {
+    let line = |bytes: &[u8]| bytes.iter().map(|byte| format!("{byte:02X}")).collect::<String>();
+    bytes.chunks(32).map(|chunk| line(chunk) + "\n").collect()
+}
+
+fn accepted_input(bytes: &[u8]) -> Result<Source, u8> {
+    let (schedule, image) = split(bytes).ok_or(1)?;
+    let machine = image::read(image)?;
+    if !schedule.iter().all(|item| (1..=7).contains(item)) {
+        return Err(BAD_ITEM);
+    }
+    Ok(Source { schedule: Some(schedule.to_vec()), draft: image::draft(&machine) })
+}
+
+/// An input if the bytes are one, else an image.
+fn from_bytes(bytes: &[u8]) -> Result<Source, Failure> {
+    if let Ok(source) = accepted_input(bytes) {
+        return Ok(source);
+    }
+    match image::read(bytes) {
+        Ok(machine) => Ok(Source { schedule: None, draft: image::draft(&machine) }),
+        Err(_) => Err(refused(bytes)),
+    }
+}
+
+fn refused(bytes: &[u8]) -> Failure {
+    let as_input = accepted_input(bytes).err().unwrap_or(0);
+    let as_image = image::read(bytes).err().unwrap_or(0);
+    format!("refused: R{as_input} as a batch input, R{as_image} as an image")
+}
+
+fn machine(source: &Source) -> Result<Machine, Failure> {
+    image::read(&source.draft.bytes()).map_err(|number| format!("refused: R{number}"))
+}
+
+/// The machine before the run and the schedule.
+fn scheduled(source: &Source) -> Result<(Machine, &[u8]), Failure> {
+    match &source.schedule {
+        Some(schedule) => Ok((machine(source)?, schedule)),
+        None => Err("an image alone has no schedule to run".to_string()),
+    }
+}
+
+/// The fields after the schedule is run.
+fn after(source: &Source) -> Result<Source, Failure> {
+    let (mut machine, schedule) = scheduled(source)?;
+    machine.run(schedule);
+    Ok(Source { schedule: None, draft: image::draft(&machine) })
+}
+
+/// The text; of the state after the run if that is asked for.
+pub fn dumped(bytes: &[u8], after_run: bool) -> Result<String, Failure> {
+    let source = load(bytes)?;
+    Ok(dump(&if after_run { after(&source)? } else { source }))
+}
+
+/// A line for each step.
+pub fn traced(bytes: &[u8]) -> Result<String, Failure> {
+    let source = load(bytes)?;
+    let (mut machine, schedule) = scheduled(&source)?;
+    Ok(trace::lines(&mut machine, schedule).map(|line| line + "\n").collect())
+}
+
+/// A task's share after the run, or only these of its data words, in decimal.
+pub fn shared(
+    bytes: &[u8],
+    task: u8,
+    words: Option<RangeInclusive<usize>>,
+) -> Result<String, Failure> {
+    let state = after(&load(bytes)?)?;
+    let share = share::share(&state.draft, task).ok_or(format!("task {task} isn't listed"))?;
+    let Some(words) = words else { return Ok(share.show()) };
+    let Some(cells) = share.data.get(words.clone()) else {
+        return Err(format!("the window has {} data words", share.data.len()));
+    };
+    Ok(words.zip(cells).map(|(place, cell)| data_line(place, *cell)).collect())
+}
+
+fn data_line(place: usize, (full, word): (u8, u64)) -> String {
+    format!("{place} {} {}\n", word as i64, if full == 0 { "empty" } else { "full" })
+}

@@ -1,0 +1,288 @@
+//! The image tool's text, both ways, and what it says of bad text.
+
+use hep_tools::assemble::*;
+use hep_tools::draft::batch_input;
+use hep_tools::random::Random;
+use hep_tools::text::{assemble, dump, show};
+use hep_tools::{batch, codes, generate, image, tool};
+
+/// That the bytes come back from their text, and the text from the bytes.
+fn both_ways(bytes: &[u8]) {
+    let text = tool::dumped(bytes, false).expect("accepted");
+    let source = assemble(&text).unwrap_or_else(|error| panic!("{error}\n{text}"));
+    assert_eq!(source.bytes(), bytes, "{text}");
+    assert_eq!(dump(&source), text);
+}
+
+#[test]
+fn generated_inputs() {
+    let accepted = |input: &Vec<u8>| !batch::output(input).starts_with(b"R");
+    let inputs = (0..4_000).map(|n| generate::input(21, n)).filter(accepted);
+    assert!(inputs.map(|input| both_ways(&input)).count() > 2_000);
+}
+
+#[test]
+fn generated_images() {
+    (0..1_000).for_each(|n| both_ways(&generate::image(22, n)));
+}
+
+/// The instruction's text gives the word again.
+fn word_both_ways(word: u64) {
+    let text = format!("hep image\nprogram\n{}\n", show(word));
+    let source = assemble(&text).unwrap_or_else(|error| panic!("{error}\n{text}"));
+    assert_eq!(source.draft.program, [word], "{text}");
+}
+
+#[test]
+fn every_code_and_any_word() {
+    let mut random = Random::new(23);
+    for code in 0..=0xFFFF {
+        word_both_ways(word(code, 0, 0, 0));
+        word_both_ways(u64::from(code) << 48 | random.draw() >> 16);
+        let plain = |random: &mut Random| random.draw() as u16 & !0x2000;
+        let (d, s1, s2) = (plain(&mut random), plain(&mut random), plain(&mut random));
+        word_both_ways(word(code, d, s1, s2));
+    }
+    let named = |code: &u16| !show(word(*code, 0, 0, 0)).starts_with("word");
+    // 20 whole codes, 16 tests of CALL and QT, 256 codes of B and CREATE, 6 loads, 4 stores.
+    assert_eq!((0..=0xFFFF).filter(named).count(), 20 + 2 * 16 + 2 * 256 + 2 * 6 + 2 * 4);
+}
+
+#[test]
+fn instructions_read_as_the_source_writes_them() {
+    let cases = [
+        (word(NOP, 0, 0, 0), "NOP"),
+        (word(SVC, 5, 0, 0), "SVC 5"),
+        (word(ADD, register(0), accessed(2, 1), constant(7)), "ADD r0, r1:W:U, c7"),
+        (word(MOV, accessed(3, 9), INDEXED | accessed(1, 2), 0), "MOV r9:E:U, r2+RI:W"),
+        (word(NOT, accessed(1, 9), INDEXED | constant(2), 0), "NOT r9:F, c2+CI"),
+        (word(CLR, accessed(2, 9), 0, 0), "CLR r9:E"),
+        (branch(7, 0x1_0002, constant(0), register(3)), "B 65538, r3, c0"),
+        (branch(2, 4, constant(0), accessed(3, 3)), "BEQ 4, r3:E, c0"),
+        (call(14, register(1), register(2), register(3)), "CALLPE r1, r2, r3"),
+        (create(7, 0, constant(1), constant(0)), "CREATE c1, c0"),
+        (create(9, 9, accessed(2, 1), constant(0)), "CREATEF r1:W:U(RCI,RPC), c0"),
+        (quit(0, constant(0)), "QTNV c0"),
+        (word(LODI | SAC_TAKE, 0, register(1), 0), "LODI:W:U r0, r1"),
+        (word(LODX | BYTE | SAC_FULL, 0, register(1), register(2)), "LODX:B:W r0, r1, r2"),
+        (word(STOI | DAC_EMPTY, 0, register(1), register(2)), "STOI:E r2, r1"),
+        (word(STOX, register(0), register(1), register(2)), "STOX r0, r1, r2"),
+        (word(0x711E, 0, 0, 0), "word 0x711E000000000000"),
+        (word(codes::PRIVILEGED[0], 0, 0, 0), "word 0x0700000000000000"),
+        (word(ADD, accessed(4, 0), 0, 0), "word 0x7126200000000000"),
+    ];
+    for (word, text) in cases {
+        assert_eq!(show(word), text);
+    }
+}
+
+#[test]
+fn names_labels_and_repetitions() {
+    let text = "
+        ; comments and empty lines count for nothing
+        hep input
+        task 1 cb=0 rb=0 rl=0 pb=1 pl=1 db=1 dl=0
+        process 3 task=1 pc=again
+        name sum = r1
+        name step = c1
+        name LIMIT = 0x10
+        constants
+          psw ri=2 utm=0x40 pc=done
+          -1
+          LIMIT * 2
+        registers
+          empty 5 quality=4
+          full step_word
+        name step_word = -7
+        program at 16
+        again:
+          add sum, sum, step   ; lower case is as good
+          BNE again, sum, c9
+        done: QT c9
+          NOP * 13
+        schedule
+          1 2 * 3
+          7
+    ";
+    let source = assemble(text).unwrap();
+    let draft = &source.draft;
+    assert_eq!(draft.constants, [psw(0, 2, 0x40, 2), u64::MAX, 16, 16]);
+    assert_eq!(draft.registers, [(12, 5), (0, -7_i64 as u64)]);
+    assert_eq!(draft.program[..16], [0; 16]);
+    assert_eq!(draft.program[16], word(ADD, register(1), register(1), constant(1)));
+    assert_eq!(draft.program[17], branch(5, 0, constant(9), register(1)));
+    assert_eq!((draft.program.len(), draft.processes[0].psw), (32, 0));
+    assert_eq!(source.schedule, Some(vec![1, 2, 1, 2, 1, 2, 7]));
+    both_ways(&source.bytes());
+}
+
+/// Bad text as lines behind `hep input`, with the line, column and reason.
+const BAD: [(&str, usize, usize, &str); 52] = [
+    ("task", 2, 5, "a number should stand here"),
+    ("task 0 cb=0", 2, 6, "the task must be from 1 to 7"),
+    ("task 8 cb=0", 2, 6, "the task must be from 1 to 7"),
+    ("task 1 cb=4096", 2, 11, "cb must be from 0 to 4095"),
+    ("task 1 cb=0 rb=1024", 2, 16, "rb must be from 0 to 1023"),
+    ("task 1 cb=0 pl=65536", 2, 16, "pl must be from 0 to 65535"),
+    ("task 1 dl=0x1000000", 2, 11, "dl must be from 0 to 16777215"),
+    ("task 1 cb=0 cb=0", 2, 13, "cb is given twice"),
+    ("task 1 cb 0", 2, 11, "`=` is missing"),
+    ("task 1 cb=0 rb=1 rl=0 pb=1 pl=0 db=1", 2, 37, "dl is missing"),
+    ("task 1 cb=0 rb=1 rl=0 pb=1 pl=0 db=1 dl=0 x", 2, 43, "the line should end here"),
+    (
+        "task 1 cb=0 rb=1 rl=0 pb=1 pl=0 db=1 dl=0 trap=0x10",
+        2,
+        48,
+        "the kinds are 0x00 0x12 0x14 0x16 0x1A 0x1C 0x1E",
+    ),
+    ("task 1 cb=0 rb=0 rl=0 pb=1 pl=0 db=1 dl=0", 2, 1, "the register window ends past its memory"),
+    ("task 1 cb=0 rb=1 rl=0 pb=0 pl=0 db=1 dl=0", 2, 1, "the program window ends past its memory"),
+    ("task 1 cb=0 rb=1 rl=0 pb=1 pl=0 db=0 dl=0", 2, 1, "the data window ends past its memory"),
+    ("flag 2", 2, 6, "the flag must be from 0 to 1"),
+    ("process 0 task=1", 2, 16, "task 1 isn't listed above"),
+    ("process 64", 2, 9, "the process number must be from 0 to 63"),
+    ("process 0 pc=1", 2, 11, "`task=` should stand here"),
+    ("1 2 3", 2, 1, "`task`, `process` or a section should stand here"),
+    ("name r3 = 5", 2, 6, "`r3` can't be a name"),
+    ("name 3 = 5", 2, 6, "`3` can't be a name"),
+    ("name x = y", 2, 10, "`y` is unknown"),
+    ("name x = 1\nname x = 2", 3, 6, "`x` has its meaning from line 2"),
+    ("constants at 4097", 2, 14, "the address must be from 0 to 4096"),
+    ("constants\n1\nconstants at 0", 4, 14, "there are 1 cells already"),
+    ("constants\n12x", 3, 1, "a number should stand here"),
+    ("constants\n0x10000000000000000", 3, 1, "a word must be from -2^63 to 2^64 - 1"),
+    ("constants\npsw pc=0x100000", 3, 8, "pc must be from 0 to 1048575"),
+    ("constants\n1 * 0", 3, 5, "the repetition must be from 1 to 1048576"),
+    ("constants\n1 * 4097", 3, 1, "the section has at most 4096"),
+    ("constants\n1 2", 3, 3, "the line should end here"),
+    ("registers\n5", 3, 1, "`full` or `empty` should stand here"),
+    ("registers\nfull 5 quality=7", 3, 16, "quality must be from 0 to 6"),
+    ("program\nAND r0, r1, r2", 3, 1, "an instruction should stand here"),
+    ("program\nADD r0, r1", 3, 11, "`,` is missing"),
+    ("program\nADD r0, r1,", 3, 12, "an operand should stand here"),
+    ("program\nADD r0, r1, 2", 3, 13, "an operand should stand here"),
+    ("program\nADD r2048, r1, r2", 3, 5, "the displacement must be from 0 to 2047"),
+    ("program\nMOV r1, c8192", 3, 9, "the displacement must be from 0 to 8191"),
+    ("program\nMOV r1:W, c0", 3, 7, "the access may be :F :E :E:U"),
+    ("program\nMOV r1, r2:U", 3, 11, "the access may be :W :W:U :E"),
+    ("program\nMOV r1, r2+CI", 3, 12, "the index RI should stand here"),
+    ("program\nLODI:E r1, r2", 3, 5, "the access may be :W :W:U :B :B:W :B:W:U"),
+    ("program\nCREATE c1(RPC,RPC), c0", 3, 15, "each of RCI, RRI, RUTM, RPC may stand here once"),
+    ("program\nCREATE c1(RPC, c0", 3, 16, "each of RCI, RRI, RUTM, RPC may stand here once"),
+    ("program\nB nowhere, c0, c0", 3, 3, "`nowhere` is unknown"),
+    ("program\nB 0x100000, c0, c0", 3, 3, "the branch address must be from 0 to 1048575"),
+    ("program\nx: NOP\nx: NOP", 4, 1, "`x` has its meaning from line 3"),
+    ("program\nx: MOV r0, x", 3, 12, "`x` is a number"),
+    ("schedule\n1 8", 3, 3, "an item must be from 1 to 7"),
+    ("schedule\n0", 3, 1, "an item must be from 1 to 7"),
+];
+
+#[test]
+fn bad_text() {
+    for (text, line, column, reason) in BAD {
+        let error = assemble(&format!("hep input\n{text}\n")).expect_err(text);
+        assert_eq!(
+            (error.line, error.column, error.reason.as_str()),
+            (line, column, reason),
+            "{text}"
+        );
+    }
+    let whole = [
+        ("", 1, "the text must begin with `hep image` or `hep input`"),
+        ("task 1", 1, "the text must begin with `hep image` or `hep input`"),
+        ("hep tape", 5, "`image` or `input` should stand here"),
+    ];
+    for (text, column, reason) in whole {
+        let error = assemble(text).expect_err(text);
+        assert_eq!((error.line, error.column, error.reason.as_str()), (1, column, reason));
+    }
+    let error = assemble("hep image\nschedule\n").expect_err("an image has none");
+    assert_eq!(error.to_string(), "line 2, column 1: only `hep input` has a schedule");
+}
+
+#[test]
+fn bad_crowds() {
+    let row = "hep input\ntask 1 cb=0 rb=1 rl=0 pb=1 pl=0 db=1 dl=0\n";
+    let crowd =
+        |count| (0..count).map(|pt| format!("process {pt} task=1 pc=0\n")).collect::<String>();
+    let error = |text: String| assemble(&text).expect_err("a crowd").to_string();
+    assert!(assemble(&format!("{row}{}", crowd(63))).is_ok());
+    assert_eq!(
+        error(format!("{row}{}", crowd(64))),
+        "line 66, column 1: 64 processes need `flag 1`"
+    );
+    let more = format!("{row}flag 1\n{}process 0 task=1 pc=0\n", crowd(64));
+    assert_eq!(error(more), "line 68, column 1: there are 64 processes already");
+    let order = format!("{row}task 1 cb=0 rb=1 rl=0 pb=1 pl=0 db=1 dl=0\n");
+    assert_eq!(error(order), "line 3, column 6: tasks stand in ascending order");
+    let twice = format!("{row}{}process 1 task=1 pc=0\n", crowd(2));
+    assert_eq!(error(twice), "line 5, column 9: process number 1 stands twice");
+    let long = "hep input\nconstants\n0 * 4096\nschedule\n1 * 40000\n".to_string();
+    assert_eq!(error(long), "line 5, column 1: the input is over 65536 bytes");
+}
+
+#[test]
+fn files_are_text_hex_or_bytes() {
+    let text = "hep input\nconstants\n7\nschedule\n1 * 5\n";
+    let bytes = assemble(text).unwrap().bytes();
+    let hex = tool::to_hex(&bytes);
+    for file in [text.as_bytes(), hex.as_bytes(), &bytes] {
+        assert_eq!(tool::load(file).unwrap().bytes(), bytes);
+    }
+    let image = batch::split(&bytes).unwrap().1;
+    assert_eq!(tool::load(image).unwrap().schedule, None);
+    let refused = tool::load(&batch_input(&[1, 0], image)).unwrap_err();
+    assert_eq!(refused, "refused: R10 as a batch input, R3 as an image");
+}
+
+#[test]
+fn a_trace_shows_what_is_written() {
+    let text = "hep input
+        task 1 cb=0 rb=0 rl=1 pb=0 pl=0 db=0 dl=0
+        process 5 task=1 pc=0
+        constants
+          8
+          psw pc=4
+        registers
+          full 3 * 4
+        program
+          ADD r0:F, r1:W:U, c0
+          STOI r0, c0
+          LODI:W:U r2, c0
+          CREATE c1(RPC), c9
+          QT c9
+          word 5
+          NOP * 10
+        data
+          full 0 * 32
+        schedule
+          1 * 6
+          2";
+    let lines: Vec<String> =
+        tool::traced(text.as_bytes()).unwrap().lines().map(str::to_string).collect();
+    let expected = [
+        "item task PT PC    instruction                      ending     what it wrote",
+        "   0    1  5 00000 ADD r0:F, r1:W:U, c0             executed   r1 set empty, r0 = full 11",
+        "   1    1  5 00001 STOI r0, c0                      executed   data 1 = full 11",
+        "   2    1  5 00002 LODI:W:U r2, c0                  executed   r2 = full 11, data 1 = empty 11",
+        "   3    1  5 00003 CREATE c1(RPC), c9               executed   PT 0 joins at pc=4",
+        "   4    1  5 00004 QT c9                            executed   PT 5 leaves",
+        "   5    1  0 00004 QT c9                            executed   PT 0 leaves",
+        "   6    2 -- ----- -                                idle",
+    ];
+    assert_eq!(lines, expected);
+    let after = tool::dumped(text.as_bytes(), true).unwrap();
+    let registers = "registers\n  full 11                                  ; 0\n  empty 3";
+    assert!(after.contains(registers), "{after}");
+    assert_eq!(tool::shared(text.as_bytes(), 1, Some(0..=1)).unwrap(), "0 0 full\n1 11 empty\n");
+    assert!(tool::shared(text.as_bytes(), 2, None).is_err());
+}
+
+#[test]
+fn states_after_runs_come_back() {
+    for n in 0..300 {
+        let mut machine = image::read(&generate::image(24, n)).expect("accepted");
+        machine.run(&[1, 2, 3, 4, 5, 6, 7].repeat(50));
+        both_ways(&image::write(&machine));
+    }
+}
