@@ -1,0 +1,76 @@
+//! The image tool as a program: help, exit codes, files and standard input.
+
+use std::io::Write;
+use std::process::{Command, Output, Stdio};
+use std::{env, fs, process};
+
+fn image_tool(arguments: &[&str], input: &[u8]) -> Output {
+    let mut child = Command::new(env!("CARGO_BIN_EXE_hep-image"))
+        .args(arguments)
+        .stdin(Stdio::piped())
+        .stdout(Stdio::piped())
+        .stderr(Stdio::piped())
+        .spawn()
+        .expect("it starts");
+    // It may stop before it reads everything.
+    let _ = child.stdin.take().unwrap().write_all(input);
+    child.wait_with_output().expect("it ends")
+}
+
+fn code(arguments: &[&str], input: &[u8]) -> i32 {
+    image_tool(arguments, input).status.code().expect("it isn't killed")
+}
+
+const TEXT: &str = "hep input\nconstants\n  7\nschedule\n  1 2 3\n";
+
+#[test]
+fn help() {
+    for arguments in [
+        &["--help"][..],
+        &["-h"],
+        &["asm", "--help"],
+        &["dump", "-h"],
+        &["trace", "-h"],
+        &["share", "-h"],
+    ] {
+        let output = image_tool(arguments, b"");
+        assert!(output.status.success());
+        assert!(String::from_utf8(output.stdout).unwrap().contains("usage: hep-image"));
+    }
+}
+
+#[test]
+fn exit_codes() {
+    assert_eq!(code(&["asm"], TEXT.as_bytes()), 0);
+    assert_eq!(code(&["asm"], b"hep tape"), 1);
+    assert_eq!(code(&["dump"], &[9, 9]), 1);
+    assert_eq!(code(&["dump", "--after"], b"hep image\n"), 1);
+    assert_eq!(code(&["share", "1"], TEXT.as_bytes()), 1);
+    for wrong in [&[][..], &["run"], &["asm", "--after"], &["asm", "-o"], &["asm", "a", "b"]] {
+        assert_eq!(code(wrong, TEXT.as_bytes()), 2, "{wrong:?}");
+    }
+    assert_eq!(code(&["share", "--data", "5..4", "1"], TEXT.as_bytes()), 2);
+    assert_eq!(code(&["share"], TEXT.as_bytes()), 2);
+    assert_eq!(code(&["asm", "/no/such/file"], b""), 2);
+    assert_eq!(code(&["asm", "-o", "/no/such/file"], TEXT.as_bytes()), 2);
+    let error = image_tool(&["asm", "-"], b"hep input\nflag 3\n").stderr;
+    let reason = "hep-image: line 2, column 6: the flag must be from 0 to 1\n";
+    assert_eq!(String::from_utf8(error).unwrap(), reason);
+}
+
+#[test]
+fn files_and_pipes() {
+    let folder = env::temp_dir().join(format!("hep-image-{}", process::id()));
+    fs::create_dir_all(&folder).unwrap();
+    let path = |name: &str| folder.join(name).to_str().unwrap().to_string();
+    fs::write(path("a.hep"), TEXT).unwrap();
+    assert_eq!(code(&["asm", "-o", &path("a.bin"), &path("a.hep")], b""), 0);
+    let bytes = fs::read(path("a.bin")).unwrap();
+    assert_eq!(image_tool(&["asm", "-o", "-", "-"], TEXT.as_bytes()).stdout, bytes);
+    let text = image_tool(&["dump", &path("a.bin")], b"").stdout;
+    assert_eq!(image_tool(&["dump"], &bytes).stdout, text);
+    assert_eq!(image_tool(&["asm"], &text).stdout, bytes);
+    let hex = image_tool(&["asm", "--hex"], TEXT.as_bytes()).stdout;
+    assert_eq!(image_tool(&["asm"], &hex).stdout, bytes);
+    fs::remove_dir_all(folder).unwrap();
+}
