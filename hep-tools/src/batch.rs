@@ -10,13 +10,33 @@ const SHORT: u8 = 1;
 const BAD_ITEM: u8 = 10;
 const TOO_LONG: u8 = 11;
 
+/// What the batch program prints, and the image after the run unless it is refused.
+#[derive(Clone, PartialEq, Eq, Debug)]
+pub struct Answer {
+    pub output: Vec<u8>,
+    pub image: Option<Vec<u8>>,
+}
+
+pub fn answer(input: &[u8]) -> Answer {
+    match run(input) {
+        Ok((machine, counts)) => Answer {
+            output: report(&machine, &counts).into_bytes(),
+            image: Some(image::write(&machine)),
+        },
+        Err(number) => Answer { output: refusal(number), image: None },
+    }
+}
+
 /// What the batch program prints for this input.
 pub fn output(input: &[u8]) -> Vec<u8> {
     match run(input) {
-        Ok((machine, counts)) => report(&machine, &counts),
-        Err(number) => format!("R{number}\n"),
+        Ok((machine, counts)) => report(&machine, &counts).into_bytes(),
+        Err(number) => refusal(number),
     }
-    .into_bytes()
+}
+
+fn refusal(number: u8) -> Vec<u8> {
+    format!("R{number}\n").into_bytes()
 }
 
 fn run(input: &[u8]) -> Result<(Machine, Counts), u8> {

@@ -38,10 +38,14 @@ pub fn from_hex(text: &str) -> Option<Vec<u8>> {
     Some(digits.chunks(2).map(|pair| (pair[0] << 4 | pair[1]) as u8).collect())
 }
 
+/// One line of hex digits.
+pub fn hex_line(bytes: &[u8]) -> String {
+    bytes.iter().map(|byte| format!("{byte:02X}")).collect()
+}
+
 /// Lines of 32 bytes in hex.
 pub fn to_hex(bytes: &[u8]) -> String {
-    let line = |bytes: &[u8]| bytes.iter().map(|byte| format!("{byte:02X}")).collect::<String>();
-    bytes.chunks(32).map(|chunk| line(chunk) + "\n").collect()
+    bytes.chunks(32).map(|chunk| hex_line(chunk) + "\n").collect()
 }
 
 fn accepted_input(bytes: &[u8]) -> Result<Source, u8> {

@@ -161,7 +161,7 @@ fn owner(draft: &Draft, i: u64, random: &mut Random) -> Task {
 }
 
 /// The process numbers in some order, half of the time the natural one.
-fn process_numbers(random: &mut Random) -> Vec<u8> {
+pub fn process_numbers(random: &mut Random) -> Vec<u8> {
     let mut numbers: Vec<u8> = (0..64).collect();
     if random.chance(50) {
         for i in (1..numbers.len()).rev() {

@@ -2,8 +2,11 @@
 
 mod damage;
 mod layout;
+mod neighbours;
 mod program;
 mod values;
+
+pub use neighbours::Pair;
 
 use crate::draft::{batch_input, Draft};
 use crate::random::Random;
@@ -22,6 +25,11 @@ pub fn input(seed: u64, n: u64) -> Vec<u8> {
 /// The nth valid image of a seed.
 pub fn image(seed: u64, n: u64) -> Vec<u8> {
     layout::draft(&mut random(seed, n)).bytes()
+}
+
+/// The nth pair of a seed, for isolation.
+pub fn pair(seed: u64, n: u64) -> Pair {
+    neighbours::pair(&mut random(seed, n))
 }
 
 fn random(seed: u64, n: u64) -> Random {

@@ -32,6 +32,11 @@ pub struct Names {
 }
 
 impl Names {
+    /// No names, and none to come.
+    pub fn none() -> Self {
+        Names { known: HashMap::new(), complete: true }
+    }
+
     fn give(&mut self, line: &Line, name: &str, at: usize, meaning: Meaning) -> Result<(), Error> {
         let letter = name.starts_with(|c: char| c.is_ascii_alphabetic() || c == '_');
         if !letter || plain_operand(name).is_some() {
@@ -104,7 +109,7 @@ impl Names {
     }
 
     /// The fields of a status word up to the end of the line or a `*`.
-    fn psw(&self, line: &mut Line) -> Result<u64, Error> {
+    pub fn psw(&self, line: &mut Line) -> Result<u64, Error> {
         let mut fields = [0; 4];
         self.fields(
             line,
@@ -116,7 +121,12 @@ impl Names {
     }
 
     /// Fields `name=number`, each at most once, in any order.
-    fn fields(&self, line: &mut Line, known: &[(&str, u64)], to: &mut [u64]) -> Result<u64, Error> {
+    pub fn fields(
+        &self,
+        line: &mut Line,
+        known: &[(&str, u64)],
+        to: &mut [u64],
+    ) -> Result<u64, Error> {
         let mut given = 0;
         loop {
             let (place, word) = (line.mark(), line.peek());

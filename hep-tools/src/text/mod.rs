@@ -2,13 +2,15 @@
 
 mod assemble;
 mod dump;
-mod instruction;
+pub(crate) mod instruction;
 mod line;
 
 pub use assemble::assemble;
+pub(crate) use assemble::Names;
 pub use dump::{data, dump, psw_fields, register};
 pub use instruction::show;
 pub use line::Error;
+pub(crate) use line::Line;
 
 use crate::draft::{batch_input, Draft};
 

@@ -1,0 +1,72 @@
+//! Comparison: an implementation of the batch program held to the trials and, on
+//! random inputs, to the emulator; a case that differs is shrunk.
+
+mod implementation;
+mod shrink;
+
+pub use implementation::{Emulator, Implementation, Lines, Program};
+pub use shrink::shrink;
+
+use crate::batch::Answer;
+use crate::generate;
+use crate::trials::Trial;
+
+/// Inputs for which a shrinking case may be tried.
+const TRIES: usize = 3_000;
+
+/// An input on which an implementation differs.
+#[derive(Debug)]
+pub struct Difference {
+    pub name: String,
+    pub input: Vec<u8>,
+    pub expected: Answer,
+    /// The answer, or why there is none.
+    pub found: Result<Answer, String>,
+}
+
+/// Whether an answer is the expected one; images count where both have one.
+pub fn agrees(expected: &Answer, found: &Result<Answer, String>) -> bool {
+    let Ok(found) = found else { return false };
+    let images = expected.image.as_ref().zip(found.image.as_ref());
+    found.output == expected.output && images.is_none_or(|(expected, found)| expected == found)
+}
+
+/// The first trial that the implementation doesn't meet.
+pub fn trials(tried: &mut dyn Implementation, trials: &[Trial]) -> Option<Difference> {
+    trials.iter().find_map(|trial| {
+        let found = tried.answer(&trial.input);
+        let name = trial.name.clone();
+        let (input, expected) = (trial.input.clone(), trial.expected.clone());
+        (!agrees(&expected, &found)).then_some(Difference { name, input, expected, found })
+    })
+}
+
+/// The first random input of a seed on which the two differ, shrunk.
+pub fn random(
+    tried: &mut dyn Implementation,
+    model: &mut dyn Implementation,
+    seed: u64,
+    count: u64,
+) -> Option<Difference> {
+    (0..count).find_map(|n| {
+        let input = generate::input(seed, n);
+        let mut differs = |input: &[u8]| difference(tried, model, input).is_some();
+        if !differs(&input) {
+            return None;
+        }
+        let input = shrink(input, TRIES, &mut differs);
+        let (expected, found) = difference(tried, model, &input)?;
+        Some(Difference { name: format!("input {n} of seed {seed}"), input, expected, found })
+    })
+}
+
+/// Both answers, if they differ.
+fn difference(
+    tried: &mut dyn Implementation,
+    model: &mut dyn Implementation,
+    input: &[u8],
+) -> Option<(Answer, Result<Answer, String>)> {
+    let expected = model.answer(input).ok()?;
+    let found = tried.answer(input);
+    (!agrees(&expected, &found)).then_some((expected, found))
+}

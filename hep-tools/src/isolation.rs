@@ -1,0 +1,113 @@
+//! Isolation tried: pairs of inputs that agree on one task, with other neighbours and
+//! another order; what the task has afterwards must be equal.
+
+use crate::batch::Answer;
+use crate::compare::Implementation;
+use crate::draft::{Draft, Task};
+use crate::generate::{self, Pair};
+use crate::image;
+use crate::share::{data, instructions, registers, share, Share};
+use crate::text::Source;
+
+/// A premise that a pair breaks.
+#[derive(Clone, Copy, PartialEq, Eq, Debug)]
+pub enum Broken {
+    Disagree,
+    WindowsMeet,
+    ItemsDiffer,
+    FlagUp,
+}
+
+pub const PREMISES: [(Broken, &str); 4] = [
+    (Broken::Disagree, "disagree on the task"),
+    (Broken::WindowsMeet, "windows meet"),
+    (Broken::ItemsDiffer, "items differ"),
+    (Broken::FlagUp, "flag up"),
+];
+
+/// How many pairs met the premises or broke one, and how many of them differed.
+#[derive(Default, Debug)]
+pub struct Tally {
+    pub met: u64,
+    pub met_changed: u64,
+    pub broken: [u64; PREMISES.len()],
+    pub broken_differed: u64,
+    /// The first pair that met the premises and differed.
+    pub failure: Option<(Vec<u8>, Vec<u8>, u8)>,
+}
+
+/// Tries pairs of a seed; fails if the implementation gives no images.
+pub fn tried(tried: &mut dyn Implementation, seed: u64, count: u64) -> Result<Tally, String> {
+    let mut tally = Tally::default();
+    for n in 0..count {
+        let pair = generate::pair(seed, n);
+        let after = [answered(tried, &pair.first)?, answered(tried, &pair.second)?];
+        let shares = after.each_ref().map(|draft| share(draft, pair.task));
+        let equal = shares[0] == shares[1];
+        match broken(&pair, &after) {
+            Some(premise) => {
+                let place = PREMISES.iter().position(|(broken, _)| *broken == premise);
+                tally.broken[place.unwrap_or(0)] += 1;
+                tally.broken_differed += u64::from(!equal);
+            }
+            None => {
+                tally.met += 1;
+                tally.met_changed += u64::from(shares[0] != share(&pair.first.draft, pair.task));
+                if !equal && tally.failure.is_none() {
+                    tally.failure = Some((pair.first.bytes(), pair.second.bytes(), pair.task));
+                }
+            }
+        }
+    }
+    Ok(tally)
+}
+
+/// The state after an accepted input.
+fn answered(tried: &mut dyn Implementation, source: &Source) -> Result<Draft, String> {
+    let Answer { output, image } = tried.answer(&source.bytes())?;
+    match image {
+        Some(image) => {
+            Ok(image::draft(&image::read(&image).map_err(|number| format!("R{number}"))?))
+        }
+        None if output.starts_with(b"R") => Err("a generated pair is refused".to_string()),
+        None => Err("it gives no images".to_string()),
+    }
+}
+
+/// The first premise that a pair breaks, from the states before and after.
+pub fn broken(pair: &Pair, after: &[Draft; 2]) -> Option<Broken> {
+    let drafts = [&pair.first.draft, &pair.second.draft];
+    let [first, second] = drafts.map(|draft| compared(draft, pair.task));
+    if first != second || drafts[0].constants != drafts[1].constants {
+        return Some(Broken::Disagree);
+    }
+    if drafts.iter().any(|draft| meets_another(draft, pair.task)) {
+        return Some(Broken::WindowsMeet);
+    }
+    let items = |source: &Source| {
+        let items = source.schedule.iter().flatten();
+        items.filter(|item| **item == pair.task).count()
+    };
+    if items(&pair.first) != items(&pair.second) {
+        return Some(Broken::ItemsDiffer);
+    }
+    after.iter().any(|draft| draft.flag != 0).then_some(Broken::FlagUp)
+}
+
+/// Windows, instructions and share of a task: what two images must agree on.
+fn compared(draft: &Draft, number: u8) -> Option<(Task, Vec<u64>, Share)> {
+    let task = draft.tasks.iter().find(|task| task.number == number)?;
+    Some((*task, instructions(draft, task), share(draft, number)?))
+}
+
+/// Whether the task's register or data window meets another task's.
+fn meets_another(draft: &Draft, number: u8) -> bool {
+    let meet = |a: std::ops::Range<usize>, b: std::ops::Range<usize>| {
+        a.start.max(b.start) < a.end.min(b.end)
+    };
+    let own = draft.tasks.iter().filter(|task| task.number == number);
+    own.flat_map(|task| draft.tasks.iter().map(move |other| (task, other))).any(|(task, other)| {
+        other.number != number
+            && (meet(registers(task), registers(other)) || meet(data(task), data(other)))
+    })
+}

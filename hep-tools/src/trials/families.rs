@@ -1,0 +1,333 @@
+//! Families of trials as lines: each operation under each access code, illegal field,
+//! window, quality and data state, and the sixteen tests.
+
+/// An operation with D, S1, S2 and S0 in registers 0 to 3, which hold 8 in 1, 16 in 2, 33
+/// in 3, and what it changes then. Data words 1 and 3 hold 77 and 99. A name in braces is an
+/// operand, with the register's access behind it.
+const OPERATIONS: [(&str, &str); 26] = [
+    ("MOV r0{D}, r1{S1}", "r0=8"),
+    ("CLR r0{D}", "r0=0"),
+    ("ONE r0{D}", "r0=-1"),
+    ("NOT r0{D}, r1{S1}", "r0=-9"),
+    ("EOR r0{D}, r1{S1}, r2{S2}", "r0=24"),
+    ("EQV r0{D}, r1{S1}, r2{S2}", "r0=-25"),
+    ("NAND r0{D}, r1{S1}, r2{S2}", "r0=-1"),
+    ("NOR r0{D}, r1{S1}, r2{S2}", "r0=-25"),
+    ("OR r0{D}, r1{S1}, r2{S2}", "r0=24"),
+    ("BITCLR r0{D}, r1{S1}, r2{S2}", "r0=8"),
+    ("BITSET r0{D}, r1{S1}, r2{S2}", "r0=0x800000000008"),
+    ("ENCODE0 r0{D}, r1{S1}", "r0=0"),
+    ("ENCODE1 r0{D}, r1{S1}", "r0=60"),
+    ("DEC r0{D}, r1{S1}", "r0=7 quality=1"),
+    ("INC r0{D}, r1{S1}", "r0=9"),
+    ("ADD r0{D}, r1{S1}, r2{S2}", "r0=24"),
+    ("SUB r0{D}, r1{S1}, r2{S2}", "r0=-8"),
+    ("MUL r0{D}, r1{S1}, r2{S2}", "r0=128"),
+    ("B 5, r2{S2}, r1{S1}", "pc=13"),
+    ("CALL r0{D}, r1{S1}, r2{S2}", "r0=1, pc=8"),
+    ("CREATE r1{S1}(RPC), r2{S2}", "joins=1 pc=8"),
+    ("QT r2{S2}", "leaves"),
+    ("LODI r0{D}, r1{S1}", "r0=77"),
+    ("LODX r0{D}, r1{S1}, r2{S2}", "r0=99"),
+    ("STOI r2{S2}, r1{S1}", "d1=16"),
+    ("STOX r3{S0}, r1{S1}, r2{S2}", "d3=33"),
+];
+
+/// What the bench holds before.
+const BEFORE: &str = "r1=8, r2=16, r3=33, d1=77, d3=99";
+
+/// The operands: name, register, word.
+const OPERANDS: [(&str, usize, i64); 4] = [("D", 0, 0), ("S1", 1, 8), ("S2", 2, 16), ("S0", 3, 33)];
+
+/// What an access code does to an operand that is full, and to one that is empty: nothing
+/// if it waits, else whether it is left full.
+const SOURCES: [(&str, [Option<bool>; 2]); 4] = [
+    ("", [Some(true), Some(false)]),
+    (":W", [Some(true), None]),
+    (":W:U", [Some(false), None]),
+    (":E", [None, Some(false)]),
+];
+const DESTINATIONS: [(&str, [Option<bool>; 2]); 4] = [
+    ("", [Some(true), Some(true)]),
+    (":F", [Some(true), None]),
+    (":E", [None, Some(true)]),
+    (":E:U", [None, Some(false)]),
+];
+
+/// The operation with this behind one operand and nothing behind the others.
+fn with(operation: &str, operand: &str, access: &str) -> String {
+    let mut text = operation.replace(&format!("{{{operand}}}"), access);
+    for (other, _, _) in OPERANDS {
+        text = text.replace(&format!("{{{other}}}"), "");
+    }
+    text
+}
+
+/// Operations with their changes and those operands that they have.
+fn operands() -> impl Iterator<Item = (&'static str, &'static str, (&'static str, usize, i64))> {
+    OPERATIONS.into_iter().flat_map(|(operation, changes)| {
+        let has = move |operand: &str| operation.contains(&format!("{{{operand}}}"));
+        let own = OPERANDS.into_iter().filter(move |(operand, _, _)| has(operand));
+        own.map(move |operand| (operation, changes, operand))
+    })
+}
+
+pub fn lines() -> Vec<String> {
+    let mut lines = Vec::new();
+    access(&mut lines);
+    illegal_operands(&mut lines);
+    outside(&mut lines);
+    qualities(&mut lines);
+    data_states(&mut lines);
+    bad_addresses(&mut lines);
+    tests(&mut lines);
+    codes(&mut lines);
+    lines
+}
+
+/// Each operation with each access code as source and destination, on both states.
+fn access(lines: &mut Vec<String>) {
+    for (operation, changes, (operand, register, word)) in operands() {
+        let codes = if operand == "D" { DESTINATIONS } else { SOURCES };
+        for (letters, left) in codes {
+            for (state, left) in ["", "empty "].into_iter().zip(left) {
+                let text = with(operation, operand, letters);
+                let before = format!("{BEFORE}, r{register}={state}{word}");
+                let after = match left {
+                    None => "W |".to_string(),
+                    Some(full) => format!("E | {}", left_so(changes, register, word, full)),
+                };
+                lines.push(format!("{text} with {operand} {state}| {before} | {text} | {after}"));
+            }
+        }
+    }
+}
+
+/// The changes with the operand's register left full or empty.
+fn left_so(changes: &str, register: usize, word: i64, full: bool) -> String {
+    let state = if full { "" } else { "empty " };
+    match changes.strip_prefix("r0=") {
+        Some(result) if register == 0 => format!("r0={state}{result}"),
+        _ => format!("{changes}, r{register}={state}{word}"),
+    }
+}
+
+/// The instruction's bits with these set.
+fn bits(operation: &str, text: &str, set: u64) -> String {
+    let line = &mut crate::text::Line::new(1, text);
+    let word = crate::text::instruction::parse(line, &crate::text::Names::none());
+    let word = word.unwrap_or_else(|error| panic!("{operation}: {error}"));
+    format!("word 0x{:016X}", word | set)
+}
+
+/// The place of an operand's field in the instruction.
+fn shift(operand: &str) -> u32 {
+    match operand {
+        "D" | "S0" => 32,
+        "S1" => 16,
+        _ => 0,
+    }
+}
+
+/// Access codes 4 to 7, a constant's unused bit, a constant as destination.
+fn illegal_operands(lines: &mut Vec<String>) {
+    for (operation, _, (operand, _, _)) in operands() {
+        let text = with(operation, "", "");
+        for (field, kind) in [(0x2000, "12"), (0x2800, "12"), (0x3800, "12"), (0x6000, "12")] {
+            let word = bits(operation, &text, field << shift(operand));
+            lines.push(format!(
+                "{text} with {field:X} in {operand} | {BEFORE} | {word} | T{kind} |"
+            ));
+        }
+        if operand == "D" {
+            let word = bits(operation, &text, 0x4000 << 32);
+            lines.push(format!("{text} into a constant | {BEFORE} | {word} | T14 |"));
+        }
+    }
+}
+
+/// Each operand at the window's last register and past it, also by its index.
+fn outside(lines: &mut Vec<String>) {
+    for (operation, _, (operand, register, word)) in operands() {
+        let text = with(operation, "", "");
+        let past = bits(operation, &text, 8 << shift(operand));
+        lines.push(format!("{text} with {operand} outside | {BEFORE} | {past} | T14 |"));
+        let indexed = bits(operation, &text, 0x8000 << shift(operand));
+        let ri = 8 - register;
+        lines.push(format!(
+            "{text} with {operand} + RI outside | {BEFORE}, ri={ri} | {indexed} | T14 |"
+        ));
+        if operand != "D" {
+            let ri = 7 - register;
+            let before = format!("{BEFORE}, r7=empty {word}, ri={ri}");
+            let waits = bits(operation, &text, 0x8800 << shift(operand));
+            lines.push(format!("{text} with {operand} + RI the last | {before} | {waits} | W |"));
+        }
+    }
+}
+
+/// Each operand's quality under its bit of UTM, and under all others but bit 0. A
+/// destination's quality doesn't count.
+fn qualities(lines: &mut Vec<String>) {
+    for (operation, changes, (operand, register, word)) in operands() {
+        let text = with(operation, "", "");
+        // These hand UTM on.
+        let plain = !operation.starts_with('C') || operation.starts_with("CLR");
+        for quality in 1..=6 {
+            let bit = 0x80 >> quality;
+            let before = format!("{BEFORE}, r{register}={word} quality={quality}");
+            let name = format!("{text} with {operand} of quality {quality}");
+            if operand != "D" {
+                lines.push(format!("{name}, masked | {before}, utm={bit} | {text} | T1E |"));
+            }
+            if plain {
+                let others = if operand == "D" { bit } else { 0x7F & !bit };
+                lines.push(format!(
+                    "{name}, let be | {before}, utm={others} | {text} | E | {changes}"
+                ));
+            }
+        }
+        if operand != "D" {
+            lines.push(format!("{text} under UTM bit 0 | {BEFORE}, utm=0x80 | {text} | T1E |"));
+        }
+    }
+}
+
+/// The four data operations with their word's place and what they do when it is as they want.
+const DATA: [(&str, &str, usize, i64, &str); 4] = [
+    ("LODI", " r0, r1", 1, 77, "r0=77"),
+    ("LODX", " r0, r1, r2", 3, 99, "r0=99"),
+    ("STOI", " r2, r1", 1, 16, "d1=16"),
+    ("STOX", " r3, r1, r2", 3, 33, "d3=33"),
+];
+
+/// SAC and DAC on both states.
+fn data_states(lines: &mut Vec<String>) {
+    for (name, operands, place, word, changes) in DATA {
+        let load = name.starts_with('L');
+        let codes: &[(&str, [Option<bool>; 2])] = if load { &SOURCES[..3] } else { &DESTINATIONS };
+        for &(letters, left) in codes {
+            // A store has codes 0 and 2 only.
+            if !load && !["", ":E"].contains(&letters) {
+                continue;
+            }
+            for (state, left) in ["", "empty "].into_iter().zip(left) {
+                let text = format!("{name}{letters}{operands}");
+                let before = format!("{BEFORE}, d{place}={state}{word}");
+                let after = match left {
+                    None => "W |".to_string(),
+                    Some(true) => format!("E | {changes}, d{place}={word}"),
+                    Some(false) => format!("E | {changes}, d{place}=empty {word}"),
+                };
+                lines.push(format!("{text} on {state}data | {before} | {text} | {after}"));
+            }
+        }
+    }
+}
+
+/// Byte addresses: the last word, past the window, from 2^31 up, parts of words.
+fn bad_addresses(lines: &mut Vec<String>) {
+    for (name, operands, _, _, _) in DATA {
+        let indexed = name.ends_with('X');
+        let at = |address: u64| match indexed {
+            true => format!("r1={}, r2=16, r3=33", address.wrapping_sub(16) & 0xFFFF_FFFF),
+            false => format!("r1={}, r2=33", 0xABCD << 32 | address),
+        };
+        let letters = if name.starts_with('L') { ":W" } else { ":E" };
+        for (address, kind) in [(0x100, "14"), (1 << 31, "14"), (0xFFFF_FFF8, "14"), (0x101, "14")]
+        {
+            let before = at(address);
+            lines.push(format!("{name} at {address:X} | {before} | {name}{operands} | T{kind} |"));
+            lines.push(format!(
+                "{name}:B at {address:X} | {before} | {name}:B{operands} | T{kind} |"
+            ));
+        }
+        for part in 1..8 {
+            let before = at(0xF8 + part);
+            let text = format!("{name}{letters}{operands}");
+            let state = if letters == ":W" { "d31=empty 0" } else { "d31=0" };
+            lines.push(format!("{name} of a part {part} | {before}, {state} | {text} | T1C |"));
+        }
+        lines.push(format!("{name} of a byte | {} | {name}:B{operands} | T1C |", at(0xF8)));
+        let last = at(0xF8);
+        let changes = if name.starts_with('L') { "r0=55" } else { "d31=33" };
+        lines.push(format!("{name} at F8 | {last}, d31=55 | {name}{operands} | E | {changes}"));
+    }
+}
+
+/// For each value of S2, full, with RI and CI zero: which of the sixteen tests hold.
+const TESTS: [(i64, &str); 6] = [
+    (0, "0011001101101010"),
+    (1, "0000111101101001"),
+    (3, "0000111101101010"),
+    (-1, "0101010101101010"),
+    (i64::MIN, "0101010101101001"),
+    (i64::MAX, "0000111101101001"),
+];
+
+/// The sixteen tests in B, CALL, CREATE and QT, each code by its hex digit; r1 is S2.
+fn tests(lines: &mut Vec<String>) {
+    for (value, holding) in TESTS {
+        for (test, holds) in holding.bytes().enumerate() {
+            test_lines(lines, test, &format!("r1={value}"), holds == b'1');
+        }
+    }
+    let cases = [(8, 9, "r1=empty 0"), (11, 10, "ri=1"), (13, 12, "ci=1")];
+    for (holds, fails, before) in cases {
+        test_lines(lines, holds, before, true);
+        test_lines(lines, fails, before, false);
+    }
+}
+
+/// The four operations with a test that holds or doesn't; c9 is zero, c1 has PC 5.
+fn test_lines(lines: &mut Vec<String>, test: usize, before: &str, holds: bool) {
+    let before = format!("c1=5, {before}");
+    let cases = [
+        ("B", format!("38{test:X}0000940090001"), "pc=9", ""),
+        ("CALL", format!("79{test:X}1000040010001"), "pc=5", "r0="),
+        ("CREATE", format!("39{test:X}1000040010001"), "joins=1", ""),
+        ("QT", format!("19{test:X}0000000000001"), "leaves", ""),
+    ];
+    for (name, word, change, link) in cases {
+        let psw = [("ri=1", "psw ri=1 pc=1"), ("ci=1", "psw ci=1 pc=1")];
+        let psw = psw.iter().find(|(field, _)| before.ends_with(field)).map_or("1", |(_, psw)| psw);
+        let fields =
+            psw.strip_prefix("psw ").and_then(|psw| psw.strip_suffix(" pc=1")).unwrap_or("");
+        let mut after = match change {
+            "joins=1" => format!("joins=1 {fields} pc=5"),
+            change => change.to_string(),
+        };
+        if !holds {
+            after.clear();
+        }
+        if !link.is_empty() {
+            after = format!("{link}{psw}, {after}");
+        }
+        lines.push(format!(
+            "{name} test {test:X} with {before} | {before} | word 0x{word} | E | {after}"
+        ));
+    }
+}
+
+/// The codes of check 2 by document 01 and the pages, under any fields.
+fn codes(lines: &mut Vec<String>) {
+    let privileged =
+        "0700 3601 3700 3B7F 3C00 4A00 5700 5800 7600 8700 8701 9900 9901 9902 9903 B700 C900 \
+                      D700 E10E E11F E705 E706 E707 E97F EC00 F101 F10D";
+    let unlisted = "0001 0901 1901 197F 4112 4C00 5C00 610F 6111 6C01 6C02 6C03 6C0C 6C20 6C40 6C80 711E 7900 7902 \
+                    797F 7C02 7C0C 7CE0 9C00 BC01 BC03 BC04 BC08 BC20 FC03 FC0C FC80 FFFF 0800 3A00 7201 7321";
+    let kinds = [(privileged, "16"), ("7200 7F00 610A 6108", "1C"), (unlisted, "12")];
+    for (codes, kind) in kinds {
+        for code in codes.split_whitespace() {
+            lines.push(format!("code {code} | | word 0x{code}000000000000 | T{kind} |"));
+            lines.push(format!("code {code} and ones | | word 0x{code}FFFFFFFFFFFF | T{kind} |"));
+        }
+    }
+    let unused = "0000000000000001 0000000000010000 0000000100000000 0900000000000001 0900000000010000 \
+                  411C000000000001 411C000000010000 4113000000000001 4113000000010000 611F000000000001 \
+                  6110000000000001 6718000000000001 6710000000000001 612F000000000001 6130000000000001 \
+                  6C00000000000001 BC00000100000000 3970000100000000 1970000100000000 1970000000010000";
+    for word in unused.split_whitespace() {
+        lines.push(format!("unused field in {word} | | word 0x{word} | T12 |"));
+    }
+}

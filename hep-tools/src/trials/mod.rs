@@ -1,0 +1,52 @@
+//! Trials: inputs with the answers that document 01 gives them, worked out by hand.
+
+mod bench;
+mod families;
+mod refusals;
+
+use crate::batch::Answer;
+use crate::tool::from_hex;
+
+/// An input and what the batch program must answer.
+#[derive(Clone, Debug)]
+pub struct Trial {
+    pub name: String,
+    pub input: Vec<u8>,
+    pub expected: Answer,
+}
+
+/// The trials that are written line by line.
+const WRITTEN: [(&str, &str); 4] = [
+    ("operations", include_str!("../../trials/operations.trials")),
+    ("operands", include_str!("../../trials/operands.trials")),
+    ("checks", include_str!("../../trials/checks.trials")),
+    ("processes", include_str!("../../trials/processes.trials")),
+];
+
+/// Every trial. A line that can't be read is an error with its file's name.
+pub fn all() -> Result<Vec<Trial>, String> {
+    let mut trials = Vec::new();
+    for (file, text) in WRITTEN {
+        for (i, line) in text.lines().enumerate() {
+            if !line.trim().is_empty() && !line.starts_with('#') {
+                let trial = bench::trial(line);
+                trials.push(trial.map_err(|reason| format!("{file} line {}: {reason}", i + 1))?);
+            }
+        }
+    }
+    for line in families::lines() {
+        trials.push(bench::trial(&line).map_err(|reason| format!("{line}: {reason}"))?);
+    }
+    trials.extend(refusals::all());
+    trials.push(printed());
+    Ok(trials)
+}
+
+/// Document 01's printed case.
+fn printed() -> Trial {
+    let hex = "0001 01 | 01 01 0000 0001 0000 0001 0000 00000001 00000000 FF 0000000000000000 | \
+               01 00 00 01 0000000000000000 | 0000 | 0000 | 00000000 | 00000000";
+    let output = b"1 1 14 00000\nE0 W0 T1 I0 CF0\n".to_vec();
+    let expected = Answer { output, image: None };
+    Trial { name: "printed".to_string(), input: from_hex(hex).unwrap_or_default(), expected }
+}

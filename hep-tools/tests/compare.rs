@@ -1,0 +1,97 @@
+//! The trials, the comparison and isolation, on the emulator and on faulty ones.
+
+use hep_tools::batch::{self, Answer};
+use hep_tools::compare::{self, Emulator, Implementation, Lines, Program};
+use hep_tools::{isolation, tool, trials};
+
+#[test]
+fn the_emulator_meets_every_trial() {
+    let all = trials::all().unwrap_or_else(|reason| panic!("{reason}"));
+    assert!(all.len() > 3_000);
+    if let Some(difference) = compare::trials(&mut Emulator, &all) {
+        panic!("{difference:?}");
+    }
+}
+
+/// The emulator with its answers changed.
+struct Faulty {
+    change: fn(&[u8], Answer) -> Answer,
+}
+
+impl Implementation for Faulty {
+    fn answer(&mut self, input: &[u8]) -> Result<Answer, String> {
+        Ok((self.change)(input, batch::answer(input)))
+    }
+}
+
+/// The smallest input that tells the faulty emulator apart.
+fn told_apart(change: fn(&[u8], Answer) -> Answer) -> Vec<u8> {
+    let difference = compare::random(&mut Faulty { change }, &mut Emulator, 31, 2_000);
+    difference.expect("it differs").input
+}
+
+#[test]
+fn cases_are_shrunk() {
+    // Trap kinds printed as 00: one row, one process, one item are left.
+    let trap = told_apart(|_, answer| {
+        let output = String::from_utf8_lossy(&answer.output).replace(" 14 ", " 00 ").into_bytes();
+        Answer { output, ..answer }
+    });
+    let source = tool::load(&trap).expect("accepted");
+    assert_eq!(source.schedule.as_ref().map(Vec::len), Some(1));
+    assert_eq!((source.draft.tasks.len(), source.draft.processes.len()), (1, 1));
+    // An image in which a register's quality is lost.
+    let quality = told_apart(|_, answer| {
+        let Some(image) = &answer.image else { return answer };
+        let mut state = tool::load(image).expect("accepted").draft;
+        state.registers.iter_mut().for_each(|register| register.0 &= 8);
+        Answer { image: Some(state.bytes()), ..answer }
+    });
+    let source = tool::load(&quality).expect("accepted");
+    assert!(source.draft.registers.len() <= 2, "{}", tool::to_hex(&quality));
+    // A refusal that isn't given.
+    let refused = told_apart(|_, mut answer| {
+        if answer.output == b"R3\n" {
+            answer.output = b"R2\n".to_vec();
+        }
+        answer
+    });
+    assert!(refused.len() < 20, "{}", tool::to_hex(&refused));
+}
+
+#[test]
+fn isolation_is_kept() {
+    let tally = isolation::tried(&mut Emulator, 41, 1_000).expect("images");
+    assert!(tally.failure.is_none());
+    assert!(tally.met > 500 && tally.met_changed > 400, "{tally:?}");
+    // Where a premise is broken the shares often differ, so the pairs do put it to the test.
+    assert!(tally.broken.iter().sum::<u64>() > 100 && tally.broken_differed > 50, "{tally:?}");
+}
+
+#[test]
+fn isolation_that_is_broken_shows() {
+    // A neighbour's count of processes leaks into every status word.
+    let change = |_: &[u8], answer: Answer| {
+        let Some(image) = &answer.image else { return answer };
+        let mut state = tool::load(image).expect("accepted").draft;
+        let live = state.processes.len() as u64;
+        state.processes.iter_mut().for_each(|process| process.psw ^= live);
+        Answer { image: Some(state.bytes()), ..answer }
+    };
+    let tally = isolation::tried(&mut Faulty { change }, 42, 300).expect("images");
+    assert!(tally.failure.is_some());
+}
+
+#[test]
+fn programs_are_compared_too() {
+    let emulator = env!("CARGO_BIN_EXE_hep-emulator").to_string();
+    let mut program = Program { command: vec![emulator.clone()] };
+    assert!(compare::random(&mut program, &mut Emulator, 51, 60).is_none());
+    let mut lines = Lines::new(&[emulator, "--lines".to_string()]).expect("it starts");
+    assert!(compare::random(&mut lines, &mut Emulator, 52, 300).is_none());
+    assert!(isolation::tried(&mut lines, 53, 20).expect("images").failure.is_none());
+    let mut broken = Program { command: vec!["false".to_string()] };
+    let difference = compare::random(&mut broken, &mut Emulator, 54, 1).expect("it fails");
+    assert!(difference.found.is_err());
+    assert!(isolation::tried(&mut program, 55, 1).is_err());
+}
