@@ -1,19 +1,17 @@
 #!/usr/bin/env python3
-"""Holds the definitions to the reference emulator: for random inputs, the output bytes and the image after the run that the
+"""Holds the definitions to the emulator of hep-tools: for random inputs, the output bytes and the image after the run that the
 definitions compute must be those of the emulator. The prover does the computing, in a repository of its own below target/ that
 has the crates' types and specs and no code.
 
     python3 tests/definitions.py [SEED [COUNT]]
 """
 import pathlib
-import random
 import re
 import shutil
 import subprocess
 import sys
 
-import emulator
-import inputs
+import hep_tools
 
 ROOT = pathlib.Path(__file__).resolve().parent.parent
 COPY = ROOT / "target" / "definitions"
@@ -58,8 +56,7 @@ def byte_list(data):
     return " ∷ ".join([str(b) for b in data] + ["[]"])
 
 
-def statements(number, data):
-    output, image = emulator.batch_with_image(data)
+def statements(number, data, output, image):
     text = f"\ninput-{number} : List ℕ\ninput-{number} = {byte_list(data)}\n"
     text += f"\noutput-{number} : outputOf input-{number} ≡ {byte_list(output)}\n"
     text += f"unfolding opened input-{number}\noutput-{number} = refl\n"
@@ -94,15 +91,15 @@ def copy_definitions():
 def main():
     seed = int(sys.argv[1]) if len(sys.argv) > 1 else 1
     count = int(sys.argv[2]) if len(sys.argv) > 2 else 60
-    emulator.self_test()
     copy_definitions()
     vectors = COPY / "crates" / "vectors"
     (vectors / "src").mkdir(parents=True)
     (vectors / "specs").mkdir()
     (vectors / "src" / "lib.rt").write_text("// No code.\n")
     (vectors / "specs" / "Lib.antt").write_text("pub mod Vectors\n")
-    rng = random.Random(seed)
-    body = "".join(statements(number, inputs.random_input(rng)) for number in range(count))
+    inputs = hep_tools.generated("--small", seed, count)
+    answered = zip(inputs, hep_tools.answers(inputs), strict=True)
+    body = "".join(statements(number, data, *answer) for number, (data, answer) in enumerate(answered))
     (vectors / "specs" / "Vectors.antt").write_text(HEADER + body)
     done = subprocess.run(["rt", "check"], cwd=COPY, capture_output=True, text=True)
     failed = sorted(set(re.findall(r"error: `((?:output|image)-\d+)`", done.stdout + done.stderr)))

@@ -1,17 +1,15 @@
 #!/usr/bin/env python3
 """Runs the program image_trials on many images: it reads each one, and writes it back or the line of its refusal. The
-answers for the edges of every field stand here; random and damaged images are held to the reference emulator's reading.
+answers for the edges of every field stand here; random and damaged images are held to the reading of hep-tools' emulator.
 `rt check image_trials` builds the program.
 
     python3 tests/images.py [SEED [COUNT]]
 """
 import pathlib
-import random
 import subprocess
 import sys
 
-import emulator
-import inputs
+import hep_tools
 
 PROGRAM = pathlib.Path(__file__).resolve().parent.parent / "target" / "bin" / "image_trials"
 ACCEPTED = 0                    # the answer that is not a refusal
@@ -237,12 +235,7 @@ def stated_cases():
         yield from group()
 
 
-# Cases that the reference emulator answers
-
-def read_by_emulator(data):
-    found = emulator.read_image(data)
-    return found.number if isinstance(found, emulator.Refusal) else ACCEPTED
-
+# Cases that the emulator answers
 
 def flipped():
     """Each bit of the small image changed."""
@@ -253,23 +246,12 @@ def flipped():
         yield "bit %d of the small image changed" % place, bytes(changed)
 
 
-def random_image(rng):
-    """A random image: half of them as they are, the others spoilt as a state or as bytes."""
-    state = inputs.random_state(rng)
-    kind = rng.randrange(4)
-    if kind == 1:
-        inputs.damaged_state(rng, state, [1])
-    data = emulator.write_image(state)
-    return inputs.damaged_bytes(rng, state, data, 0) if kind == 2 else data
-
-
 def answered_cases(seed, count):
-    rng = random.Random(seed)
-    for name, data in flipped():
-        yield name, data, read_by_emulator(data)
-    for place in range(count):
-        data = random_image(rng)
-        yield "random image %d of seed %d" % (place, seed), data, read_by_emulator(data)
+    cases = list(flipped())
+    for place, data in enumerate(hep_tools.generated("--images", seed, count)):
+        cases.append(("random image %d of seed %d" % (place, seed), data))
+    for (name, data), answer in zip(cases, hep_tools.readings([data for _, data in cases]), strict=True):
+        yield name, data, answer
 
 
 # The run
@@ -278,10 +260,15 @@ def expected(data, answer):
     return data if answer == ACCEPTED else b"R%d\n" % answer
 
 
+def hold_emulator(cases):
+    """Holds the emulator's reading to the answers."""
+    for (name, data, answer), found in zip(cases, hep_tools.readings([data for _, data, _ in cases]), strict=True):
+        if found != answer:
+            sys.exit(f"images: the emulator differs: {name}: {data.hex()}")
+
+
 def run_case(name, data, answer):
-    """Holds the program, and the emulator's reading, to the answer."""
-    if read_by_emulator(data) != answer:
-        sys.exit(f"images: the emulator differs: {name}: {data.hex()}")
+    """Holds the program to the answer."""
     done = subprocess.run([PROGRAM], input=data, capture_output=True)
     if done.returncode or done.stdout != expected(data, answer):
         print(f"{name}: the answer {answer} was expected\n{data.hex()}\nwritten:\n{done.stdout.hex()}")
@@ -292,6 +279,7 @@ def main():
     seed = int(sys.argv[1]) if len(sys.argv) > 1 else 1
     count = int(sys.argv[2]) if len(sys.argv) > 2 else 600
     cases = list(stated_cases()) + list(answered_cases(seed, count))
+    hold_emulator(cases)
     for case in cases:
         run_case(*case)
     print(f"images: {len(cases)} cases agree")

@@ -1,25 +1,63 @@
-//! Writes generated batch inputs as files.
+//! Writes generated inputs as files or as lines of hex.
 
-use hep_tools::generate::input;
+use hep_tools::generate::{any_image, input, small_input};
+use hep_tools::tool::hex_line;
+use std::io::{self, Write};
 use std::path::Path;
-use std::{env, fs, io, process};
+use std::{env, fs, process};
+
+const HELP: &str = "\
+usage: hep-generate [--small | --images] SEED COUNT [DIR]
+
+Makes batch inputs: valid, damaged and wild ones, the same for the same seed. They are files
+SEED-NUMBER.bin in DIR, or without DIR lines of hex on standard output.
+
+  --small    inputs of some 1,000 bytes with at most 40 items
+  --images   images instead, half of them spoilt or damaged
+";
 
 fn main() -> io::Result<()> {
-    let arguments: Vec<String> = env::args().skip(1).collect();
+    let mut arguments: Vec<String> = env::args().skip(1).collect();
+    let make = match arguments.first().map(String::as_str) {
+        Some("-h" | "--help") => return io::stdout().write_all(HELP.as_bytes()),
+        Some("--small") => small_input,
+        Some("--images") => any_image,
+        _ => input,
+    };
+    if arguments.first().is_some_and(|argument| argument.starts_with("--")) {
+        arguments.remove(0);
+    }
     let Some((seed, count, directory)) = parse(&arguments) else {
-        eprintln!("usage: hep-generate SEED COUNT DIR");
+        eprint!("{HELP}");
         process::exit(2);
     };
+    match directory {
+        Some(directory) => files(directory, seed, count, make),
+        None => lines(seed, count, make),
+    }
+}
+
+fn parse(arguments: &[String]) -> Option<(u64, u64, Option<&Path>)> {
+    let (seed, count, directory) = match arguments {
+        [seed, count] => (seed, count, None),
+        [seed, count, directory] => (seed, count, Some(Path::new(directory))),
+        _ => return None,
+    };
+    Some((seed.parse().ok()?, count.parse().ok()?, directory))
+}
+
+fn files(directory: &Path, seed: u64, count: u64, make: fn(u64, u64) -> Vec<u8>) -> io::Result<()> {
     fs::create_dir_all(directory)?;
-    for i in 0..count {
-        fs::write(directory.join(format!("{seed}-{i:06}.bin")), input(seed, i))?;
+    for n in 0..count {
+        fs::write(directory.join(format!("{seed}-{n:06}.bin")), make(seed, n))?;
     }
     Ok(())
 }
 
-fn parse(arguments: &[String]) -> Option<(u64, u64, &Path)> {
-    let [seed, count, directory] = arguments else {
-        return None;
-    };
-    Some((seed.parse().ok()?, count.parse().ok()?, Path::new(directory)))
+fn lines(seed: u64, count: u64, make: fn(u64, u64) -> Vec<u8>) -> io::Result<()> {
+    let mut out = io::stdout().lock();
+    for n in 0..count {
+        writeln!(out, "{}", hex_line(&make(seed, n)))?;
+    }
+    Ok(())
 }

@@ -1,15 +1,16 @@
 //! Damage: spoilt fields of a draft, damaged bytes, and wild inputs.
 
+use super::layout::Size;
 use crate::draft::{batch_input, Draft, Process};
 use crate::random::Random;
 
 /// Spoils one field of a valid draft, where it has such a field.
-pub fn field(draft: &mut Draft, random: &mut Random) {
+pub fn field(draft: &mut Draft, size: Size, random: &mut Random) {
     match random.below(4) {
         0 => task(draft, random),
         1 => process(draft, random),
         2 => window(draft, random),
-        _ => memory(draft, random),
+        _ => memory(draft, size, random),
     }
 }
 
@@ -74,8 +75,9 @@ fn window(draft: &mut Draft, random: &mut Random) {
     }
 }
 
-fn memory(draft: &mut Draft, random: &mut Random) {
-    match random.below(4) {
+fn memory(draft: &mut Draft, size: Size, random: &mut Random) {
+    let least = if size == Size::Small { 2 } else { 0 };
+    match random.between(least, 3) {
         0 => draft.constants.resize(random.between(4_095, 4_098) as usize, 5),
         1 => draft.registers.resize(random.between(2_047, 2_050) as usize, (0, 5)),
         2 => {

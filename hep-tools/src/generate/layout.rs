@@ -19,10 +19,18 @@ const REGISTER_UNIT: u64 = 2;
 const PROGRAM_UNIT: u64 = 16;
 const DATA_UNIT: u64 = 32;
 
+/// How large an image is.
+#[derive(Clone, Copy, PartialEq, Eq)]
+pub enum Size {
+    Any,
+    /// Small enough to be computed by the prover.
+    Small,
+}
+
 /// A valid image.
-pub fn draft(random: &mut Random) -> Draft {
+pub fn draft(size: Size, random: &mut Random) -> Draft {
     let mut draft = Draft::default();
-    fill_memories(&mut draft, random);
+    fill_memories(&mut draft, size, random);
     let mode = random.pick(&[Mode::Shared, Mode::Disjoint, Mode::Disjoint, Mode::Random]);
     let numbers = task_numbers(random);
     let count = numbers.len() as u64;
@@ -35,7 +43,13 @@ pub fn draft(random: &mut Random) -> Draft {
     draft
 }
 
-fn fill_memories(draft: &mut Draft, random: &mut Random) {
+/// How many constants, registers, instructions and data words.
+fn counts(size: Size, random: &mut Random) -> [u64; 4] {
+    if size == Size::Small {
+        let program = random.pick(&[1, 1, 2, 3]) * PROGRAM_UNIT;
+        let data = random.pick(&[0, 1, 1, 2, 2, 2]) * DATA_UNIT;
+        return [random.below(12), random.between(4, 16), program, data];
+    }
     let large = random.chance(3);
     let constants = match random.below(20) {
         0 => 0,
@@ -45,7 +59,11 @@ fn fill_memories(draft: &mut Draft, random: &mut Random) {
     let registers = if large { random.between(1_000, 2_048) } else { random.between(0, 90) };
     let program = random.between(1, 10) * PROGRAM_UNIT + random.below(PROGRAM_UNIT);
     let units = if random.chance(5) { 0 } else { random.between(1, 9) };
-    let data = units * DATA_UNIT + random.below(DATA_UNIT);
+    [constants, registers, program, units * DATA_UNIT + random.below(DATA_UNIT)]
+}
+
+fn fill_memories(draft: &mut Draft, size: Size, random: &mut Random) {
+    let [constants, registers, program, data] = counts(size, random);
     let purpose = |i: u64| USES[i as usize % 4];
     draft.constants = (0..constants).map(|i| values::word(purpose(i), random)).collect();
     let empties = random.pick(&[0, 10, 30]);

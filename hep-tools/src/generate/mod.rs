@@ -10,21 +10,44 @@ pub use neighbours::Pair;
 
 use crate::draft::{batch_input, Draft};
 use crate::random::Random;
+use layout::Size;
 
 /// The nth input of a seed.
 pub fn input(seed: u64, n: u64) -> Vec<u8> {
     let random = &mut random(seed, n);
     match random.below(20) {
-        0..=13 => valid_input(random),
-        14..=16 => damage::bytes(valid_input(random), random),
-        17..=18 => spoiled_input(random),
+        0..=13 => valid_input(Size::Any, random),
+        14..=16 => damage::bytes(valid_input(Size::Any, random), random),
+        17..=18 => spoiled_input(Size::Any, random),
         _ => damage::wild(random),
+    }
+}
+
+/// The nth small input of a seed: some 1,000 bytes and at most 40 items.
+pub fn small_input(seed: u64, n: u64) -> Vec<u8> {
+    let random = &mut random(seed, n);
+    match random.below(16) {
+        0..=13 => valid_input(Size::Small, random),
+        14 => damage::bytes(valid_input(Size::Small, random), random),
+        _ => spoiled_input(Size::Small, random),
     }
 }
 
 /// The nth valid image of a seed.
 pub fn image(seed: u64, n: u64) -> Vec<u8> {
-    layout::draft(&mut random(seed, n)).bytes()
+    layout::draft(Size::Any, &mut random(seed, n)).bytes()
+}
+
+/// The nth image of a seed, half of them spoilt or damaged.
+pub fn any_image(seed: u64, n: u64) -> Vec<u8> {
+    let random = &mut random(seed, n);
+    let mut draft = layout::draft(Size::Any, random);
+    match random.below(4) {
+        0 => damage::field(&mut draft, Size::Any, random),
+        1 => return damage::bytes(draft.bytes(), random),
+        _ => {}
+    }
+    draft.bytes()
 }
 
 /// The nth pair of a seed, for isolation.
@@ -37,20 +60,23 @@ fn random(seed: u64, n: u64) -> Random {
     Random::new(first ^ n.wrapping_mul(0xD6E8_FEB8_6659_FD93))
 }
 
-fn valid_input(random: &mut Random) -> Vec<u8> {
-    let draft = layout::draft(random);
-    batch_input(&schedule(&draft, random), &draft.bytes())
+fn valid_input(size: Size, random: &mut Random) -> Vec<u8> {
+    let draft = layout::draft(size, random);
+    batch_input(&schedule(&draft, size, random), &draft.bytes())
 }
 
 /// An input whose image has one field that a reader must refuse.
-fn spoiled_input(random: &mut Random) -> Vec<u8> {
-    let mut draft = layout::draft(random);
-    damage::field(&mut draft, random);
-    batch_input(&schedule(&draft, random), &draft.bytes())
+fn spoiled_input(size: Size, random: &mut Random) -> Vec<u8> {
+    let mut draft = layout::draft(size, random);
+    damage::field(&mut draft, size, random);
+    batch_input(&schedule(&draft, size, random), &draft.bytes())
 }
 
-fn schedule(draft: &Draft, random: &mut Random) -> Vec<u8> {
-    let most = random.pick(&[2, 30, 100, 300, 300, 600, 600, 3_000]);
+fn schedule(draft: &Draft, size: Size, random: &mut Random) -> Vec<u8> {
+    let most = match size {
+        Size::Any => random.pick(&[2, 30, 100, 300, 300, 600, 600, 3_000]),
+        Size::Small => 40,
+    };
     let length = random.between(most / 3, most);
     let listed: Vec<u8> = draft.tasks.iter().map(|task| task.number).collect();
     let bad = random.chance(2);

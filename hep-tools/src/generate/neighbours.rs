@@ -1,6 +1,7 @@
 //! Pairs of inputs that agree on one task and differ in its neighbours.
 
-use super::{layout, program, schedule, values};
+use super::layout::{self, Size};
+use super::{program, schedule, values};
 use crate::draft::{Draft, Process, Task};
 use crate::random::Random;
 use crate::share;
@@ -16,14 +17,14 @@ pub struct Pair {
 /// A pair; most meet the premises of isolation, some have windows that meet or raise the flag.
 pub fn pair(random: &mut Random) -> Pair {
     let first = loop {
-        let draft = layout::draft(random);
+        let draft = layout::draft(Size::Any, random);
         if !draft.tasks.is_empty() {
             break draft;
         }
     };
     let task = random.pick(&first.tasks).number;
     let second = neighboured(&first, task, random);
-    let items = schedule(&first, random);
+    let items = schedule(&first, Size::Any, random);
     let items: Vec<u8> = items.into_iter().filter(|item| (1..=7).contains(item)).collect();
     let other = reordered(&items, task, &second, random);
     Pair {
