@@ -1,22 +1,16 @@
-//! An independent emulator of the HEP process execution module (document 01),
-//! with a generator of batch inputs and timing workloads.
+//! The test program of the HEP emulator: another emulator of document 01, written from the
+//! papers alone, and what is held to it.
+//!
+//! - `emulator`: images, one step, runs, the batch program
+//! - `generate`: random inputs, images and pairs for isolation
+//! - `trials`: inputs with answers worked out by hand
+//! - `compare`: an implementation held to the trials and to the emulator; isolation tried
+//! - `benchmark`: workloads for timing
+//! - `tool`: the image tool: text both ways, traces, a task's share
 
-pub mod arithmetic;
-pub mod assemble;
-pub mod batch;
-pub mod codes;
+pub mod benchmark;
 pub mod compare;
-pub mod draft;
+pub mod emulator;
 pub mod generate;
-pub mod image;
-pub mod isolation;
-pub mod machine;
-pub mod psw;
-pub mod random;
-pub mod share;
-mod step;
-pub mod text;
 pub mod tool;
-pub mod trace;
 pub mod trials;
-pub mod workloads;

@@ -1,8 +1,10 @@
 //! The trials, the comparison and isolation, on the emulator and on faulty ones.
 
-use hep_tools::batch::{self, Answer};
+use hep_tools::compare::isolation;
 use hep_tools::compare::{self, Emulator, Implementation, Lines, Program};
-use hep_tools::{isolation, tool, trials};
+use hep_tools::emulator::batch::{self, Answer};
+use hep_tools::tool;
+use hep_tools::trials;
 
 #[test]
 fn the_emulator_meets_every_trial() {

@@ -1,6 +1,7 @@
 //! The frame check in examples/, by hand: README.md there has the figures.
 
-use hep_tools::{batch, tool};
+use hep_tools::emulator::batch;
+use hep_tools::tool;
 use std::fs;
 
 fn example(name: &str) -> String {

@@ -1,8 +1,11 @@
 //! Generated images and the workloads.
 
-use hep_tools::draft::batch_input;
-use hep_tools::machine::Counts;
-use hep_tools::{batch, generate, image, workloads};
+use hep_tools::benchmark;
+use hep_tools::emulator::batch;
+use hep_tools::emulator::draft::batch_input;
+use hep_tools::emulator::image;
+use hep_tools::emulator::machine::Counts;
+use hep_tools::generate;
 
 #[test]
 fn written_images_are_the_read_ones() {
@@ -43,7 +46,7 @@ fn outputs_are_reports_or_refusals() {
 
 #[test]
 fn workloads_do_what_they_say() {
-    for workload in &workloads::ALL {
+    for workload in &benchmark::ALL {
         let (bytes, schedule) = (workload.build)();
         let counts = image::read(&bytes).expect("accepted").run(&schedule);
         let expected = if workload.name == "waved" {

@@ -1,9 +1,9 @@
 //! What the batch program's input has no room for: the largest memories, the last PC.
 
-use hep_tools::assemble::{psw, word, MOV, NOP};
-use hep_tools::draft::{Draft, Process, Task};
-use hep_tools::image;
-use hep_tools::machine::Ending;
+use hep_tools::emulator::assemble::{psw, word, MOV, NOP};
+use hep_tools::emulator::draft::{Draft, Process, Task};
+use hep_tools::emulator::image;
+use hep_tools::emulator::machine::Ending;
 
 /// Every memory at its limit, and a task that has all of them.
 fn largest() -> Draft {
@@ -64,7 +64,7 @@ fn steps_of_no_task_are_idle() {
 
 #[test]
 fn the_lowest_number_is_taken_again() {
-    use hep_tools::assemble::{constant, create, quit, ALWAYS};
+    use hep_tools::emulator::assemble::{constant, create, quit, ALWAYS};
     let program = [quit(ALWAYS, constant(0)), create(ALWAYS, 0, constant(0), constant(0))];
     let mut draft = Draft {
         tasks: vec![Task { pb: 0, pl: 0, ..Task::empty(1) }],

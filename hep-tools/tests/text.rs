@@ -1,10 +1,14 @@
 //! The image tool's text, both ways, and what it says of bad text.
 
-use hep_tools::assemble::*;
-use hep_tools::draft::batch_input;
-use hep_tools::random::Random;
-use hep_tools::text::{assemble, dump, show};
-use hep_tools::{batch, codes, generate, image, tool};
+use hep_tools::emulator::assemble::*;
+use hep_tools::emulator::batch;
+use hep_tools::emulator::codes;
+use hep_tools::emulator::draft::batch_input;
+use hep_tools::emulator::image;
+use hep_tools::generate;
+use hep_tools::generate::random::Random;
+use hep_tools::tool;
+use hep_tools::tool::text::{assemble, dump, show};
 
 /// That the bytes come back from their text, and the text from the bytes.
 fn both_ways(bytes: &[u8]) {

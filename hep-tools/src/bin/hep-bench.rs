@@ -1,9 +1,9 @@
 //! Times the workloads, or with `--write DIR` writes them as batch inputs.
 
-use hep_tools::draft::batch_input;
-use hep_tools::image;
-use hep_tools::machine::Counts;
-use hep_tools::workloads::{Workload, ALL};
+use hep_tools::benchmark::{Workload, ALL};
+use hep_tools::emulator::draft::batch_input;
+use hep_tools::emulator::image;
+use hep_tools::emulator::machine::Counts;
 use std::path::Path;
 use std::time::Instant;
 use std::{env, fs, io, process};

@@ -1,8 +1,10 @@
 //! Holds an implementation of the batch program to the trials and to the emulator.
 
+use hep_tools::compare::isolation::{self, PREMISES};
 use hep_tools::compare::{self, Difference, Emulator, Implementation, Lines, Program};
-use hep_tools::isolation::{self, PREMISES};
-use hep_tools::{text, tool, trials};
+use hep_tools::tool;
+use hep_tools::tool::text;
+use hep_tools::trials;
 use std::path::{Path, PathBuf};
 use std::{env, fs, process};
 

@@ -1,7 +1,8 @@
 //! The batch program: standard input to standard output.
 
+use hep_tools::emulator::batch;
+use hep_tools::emulator::image;
 use hep_tools::tool::{from_hex, hex_line};
-use hep_tools::{batch, image};
 use std::io::{self, BufRead, Read, Write};
 use std::{env, process};
 

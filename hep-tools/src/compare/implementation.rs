@@ -1,6 +1,6 @@
 //! Implementations of the batch program.
 
-use crate::batch::{self, Answer};
+use crate::emulator::batch::{self, Answer};
 use crate::tool::{from_hex, hex_line};
 use std::io::{BufRead, BufReader, Read, Write};
 use std::process::{Child, ChildStdin, ChildStdout, Command, Stdio};

@@ -2,12 +2,13 @@
 //! random inputs, to the emulator; a case that differs is shrunk.
 
 mod implementation;
+pub mod isolation;
 mod shrink;
 
 pub use implementation::{Emulator, Implementation, Lines, Program};
 pub use shrink::shrink;
 
-use crate::batch::Answer;
+use crate::emulator::batch::Answer;
 use crate::generate;
 use crate::trials::Trial;
 

@@ -1,9 +1,9 @@
 //! Shrinking: a smaller input that still differs.
 
-use crate::batch::split;
-use crate::draft::{batch_input, Task};
-use crate::image;
-use crate::text::Source;
+use crate::emulator::batch::split;
+use crate::emulator::draft::{batch_input, Task};
+use crate::emulator::image;
+use crate::tool::text::Source;
 
 /// The search: what is left of the tries, and whether an input still differs.
 struct Search<'a> {
@@ -142,7 +142,7 @@ fn clear_data(task: &mut Task) {
 fn clear_status(source: &mut Source, search: &mut Search) {
     for i in 0..source.draft.processes.len() {
         let mut changed = source.clone();
-        changed.draft.processes[i].psw &= crate::psw::PC;
+        changed.draft.processes[i].psw &= crate::emulator::psw::PC;
         search.accept(source, changed);
     }
     for i in 0..source.draft.tasks.len() {

@@ -1,8 +1,8 @@
 //! Damage: spoilt fields of a draft, damaged bytes, and wild inputs.
 
 use super::layout::Size;
-use crate::draft::{batch_input, Draft, Process};
-use crate::random::Random;
+use crate::emulator::draft::{batch_input, Draft, Process};
+use crate::generate::random::Random;
 
 /// Spoils one field of a valid draft, where it has such a field.
 pub fn field(draft: &mut Draft, size: Size, random: &mut Random) {

@@ -2,9 +2,9 @@
 
 use super::program;
 use super::values::{self, USES};
-use crate::assemble::psw;
-use crate::draft::{Draft, Process, Task};
-use crate::random::Random;
+use crate::emulator::assemble::psw;
+use crate::emulator::draft::{Draft, Process, Task};
+use crate::generate::random::Random;
 
 /// How the windows of an image lie.
 #[derive(Clone, Copy)]

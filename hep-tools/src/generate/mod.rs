@@ -4,12 +4,13 @@ mod damage;
 mod layout;
 mod neighbours;
 mod program;
+pub mod random;
 mod values;
 
 pub use neighbours::Pair;
 
-use crate::draft::{batch_input, Draft};
-use crate::random::Random;
+use crate::emulator::draft::{batch_input, Draft};
+use crate::generate::random::Random;
 use layout::Size;
 
 /// The nth input of a seed.

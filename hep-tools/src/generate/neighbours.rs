@@ -2,10 +2,10 @@
 
 use super::layout::{self, Size};
 use super::{program, schedule, values};
-use crate::draft::{Draft, Process, Task};
-use crate::random::Random;
-use crate::share;
-use crate::text::Source;
+use crate::emulator::draft::{Draft, Process, Task};
+use crate::generate::random::Random;
+use crate::tool::share;
+use crate::tool::text::Source;
 
 /// Two inputs and the task they agree on.
 pub struct Pair {

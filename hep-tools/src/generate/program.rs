@@ -1,10 +1,10 @@
 //! Random programs: each task's window gets instructions that suit its windows.
 
 use super::values::{Use, USES};
-use crate::assemble::*;
-use crate::codes;
-use crate::draft::{Draft, Task};
-use crate::random::Random;
+use crate::emulator::assemble::*;
+use crate::emulator::codes;
+use crate::emulator::draft::{Draft, Task};
+use crate::generate::random::Random;
 
 /// What the writer of a task's program knows of the task.
 struct Author<'a> {

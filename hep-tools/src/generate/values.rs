@@ -1,7 +1,7 @@
 //! Words that make operations and addresses interesting.
 
-use crate::assemble::psw;
-use crate::random::Random;
+use crate::emulator::assemble::psw;
+use crate::generate::random::Random;
 
 /// What a word is meant for. Constants take turns by their place modulo 4.
 #[derive(Clone, Copy, PartialEq, Eq)]

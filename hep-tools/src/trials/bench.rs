@@ -7,10 +7,10 @@
 //! PC and the trap record needs no change; all else stays as it was.
 
 use super::Trial;
-use crate::batch::Answer;
-use crate::draft::{batch_input, Draft, Process, Task};
-use crate::machine::{EMPTY, NO_TRAP};
-use crate::text::{instruction, Error, Line, Names};
+use crate::emulator::batch::Answer;
+use crate::emulator::draft::{batch_input, Draft, Process, Task};
+use crate::emulator::machine::{EMPTY, NO_TRAP};
+use crate::tool::text::{instruction, Error, Line, Names};
 
 /// What a line changes.
 struct State {

@@ -114,8 +114,8 @@ fn left_so(changes: &str, register: usize, word: i64, full: bool) -> String {
 
 /// The instruction's bits with these set.
 fn bits(operation: &str, text: &str, set: u64) -> String {
-    let line = &mut crate::text::Line::new(1, text);
-    let word = crate::text::instruction::parse(line, &crate::text::Names::none());
+    let line = &mut crate::tool::text::Line::new(1, text);
+    let word = crate::tool::text::instruction::parse(line, &crate::tool::text::Names::none());
     let word = word.unwrap_or_else(|error| panic!("{operation}: {error}"));
     format!("word 0x{:016X}", word | set)
 }

@@ -4,7 +4,7 @@ mod bench;
 mod families;
 mod refusals;
 
-use crate::batch::Answer;
+use crate::emulator::batch::Answer;
 use crate::tool::from_hex;
 
 /// An input and what the batch program must answer.

@@ -1,8 +1,8 @@
 //! Refusals of the batch program, each on both sides of its boundary.
 
 use super::Trial;
-use crate::batch::Answer;
-use crate::draft::{batch_input, Draft, Process, Task};
+use crate::emulator::batch::Answer;
+use crate::emulator::draft::{batch_input, Draft, Process, Task};
 
 /// What an input must answer: a refusal's number, or 0 for none.
 type Case = (String, Vec<u8>, u8);

@@ -1,8 +1,8 @@
 //! The batch program: input bytes to output bytes.
 
-use crate::image;
-use crate::machine::{Counts, Machine};
-use crate::psw;
+use crate::emulator::image;
+use crate::emulator::machine::{Counts, Machine};
+use crate::emulator::psw;
 
 const MOST_BYTES: usize = 65_536;
 

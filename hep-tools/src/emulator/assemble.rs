@@ -1,6 +1,6 @@
 //! Instruction words, operand fields and status words from their parts.
 
-use crate::codes::{operation, Op};
+use crate::emulator::codes::{operation, Op};
 
 /// The code of an operation, its low bits zero.
 const fn code(op: Op) -> u16 {

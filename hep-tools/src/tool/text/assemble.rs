@@ -4,10 +4,10 @@
 use super::instruction;
 use super::line::{Error, Line};
 use super::Source;
-use crate::assemble::{constant, psw, register};
-use crate::draft::{Draft, Process, Task};
-use crate::image::{self, KINDS};
-use crate::machine::{EMPTY, NO_TRAP, PROCESSES};
+use crate::emulator::assemble::{constant, psw, register};
+use crate::emulator::draft::{Draft, Process, Task};
+use crate::emulator::image::{self, KINDS};
+use crate::emulator::machine::{EMPTY, NO_TRAP, PROCESSES};
 use std::collections::HashMap;
 
 const MOST_CONSTANTS: usize = 4_096;

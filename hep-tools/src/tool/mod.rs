@@ -1,12 +1,14 @@
 //! The image tool's subcommands: bytes of a file to bytes of the answer.
 
-use crate::batch::split;
-use crate::image;
-use crate::machine::Machine;
-use crate::share;
-use crate::text::{assemble, dump, Source};
-use crate::trace;
+pub mod share;
+pub mod text;
+pub mod trace;
+
+use crate::emulator::batch::split;
+use crate::emulator::image;
+use crate::emulator::machine::Machine;
 use std::ops::RangeInclusive;
+use text::{assemble, dump, Source};
 
 const BAD_ITEM: u8 = 10;
 

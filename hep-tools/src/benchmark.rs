@@ -1,7 +1,7 @@
 //! Workloads for timing: an image and a schedule of 60,000 items each.
 
-use crate::assemble::*;
-use crate::draft::{Draft, Process, Task};
+use crate::emulator::assemble::*;
+use crate::emulator::draft::{Draft, Process, Task};
 
 const ITEMS: usize = 60_000;
 

@@ -12,7 +12,7 @@ pub use instruction::show;
 pub use line::Error;
 pub(crate) use line::Line;
 
-use crate::draft::{batch_input, Draft};
+use crate::emulator::draft::{batch_input, Draft};
 
 /// An image's fields, with a schedule where it is the batch program's input.
 #[derive(Clone, PartialEq, Eq, Debug)]

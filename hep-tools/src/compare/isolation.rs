@@ -1,13 +1,13 @@
 //! Isolation tried: pairs of inputs that agree on one task, with other neighbours and
 //! another order; what the task has afterwards must be equal.
 
-use crate::batch::Answer;
 use crate::compare::Implementation;
-use crate::draft::{Draft, Task};
+use crate::emulator::batch::Answer;
+use crate::emulator::draft::{Draft, Task};
+use crate::emulator::image;
 use crate::generate::{self, Pair};
-use crate::image;
-use crate::share::{data, instructions, registers, share, Share};
-use crate::text::Source;
+use crate::tool::share::{data, instructions, registers, share, Share};
+use crate::tool::text::Source;
 
 /// A premise that a pair breaks.
 #[derive(Clone, Copy, PartialEq, Eq, Debug)]

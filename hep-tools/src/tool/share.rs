@@ -1,7 +1,7 @@
 //! A task's share of a machine: what isolation compares.
 
-use crate::draft::{Draft, Task};
-use crate::text;
+use crate::emulator::draft::{Draft, Task};
+use crate::tool::text;
 
 /// Trap record, status words from head to tail, and the cells of the windows.
 #[derive(Clone, PartialEq, Eq, Debug)]
@@ -64,7 +64,7 @@ impl Share {
     /// The share as text, each cell at its place in the window.
     pub fn show(&self) -> String {
         let mut out = match self.kind {
-            crate::machine::NO_TRAP => "trap none\n".to_string(),
+            crate::emulator::machine::NO_TRAP => "trap none\n".to_string(),
             kind => format!("trap {kind:02X} {}\n", text::psw_fields(self.trapped)),
         };
         for &psw in &self.processes {

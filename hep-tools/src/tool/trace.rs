@@ -1,9 +1,9 @@
 //! The steps of a schedule as lines: what each took and what it wrote.
 
-use crate::codes::{listed, Low, Operation, Role};
-use crate::machine::{Ending, Machine, CREATE_FAULT};
-use crate::psw;
-use crate::text::{self, psw_fields};
+use crate::emulator::codes::{listed, Low, Operation, Role};
+use crate::emulator::machine::{Ending, Machine, CREATE_FAULT};
+use crate::emulator::psw;
+use crate::tool::text::{self, psw_fields};
 
 /// What a task's next step takes.
 struct Taken {

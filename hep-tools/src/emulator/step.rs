@@ -1,9 +1,9 @@
 //! One step of a task: the checks in order, then the operation.
 
-use crate::arithmetic::{add, bit, leftmost, mul, sub};
-use crate::codes::{decode, forbidden, Op};
-use crate::machine::*;
-use crate::psw;
+use crate::emulator::arithmetic::{add, bit, leftmost, mul, sub};
+use crate::emulator::codes::{decode, forbidden, Op};
+use crate::emulator::machine::*;
+use crate::emulator::psw;
 
 /// Places of the operand fields in the instruction word. S0 stands where D does.
 const D: u32 = 32;

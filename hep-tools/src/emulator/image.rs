@@ -1,8 +1,8 @@
 //! Images: reading with refusals 1 to 6, and writing.
 
-use crate::draft::{Draft, Process, Task};
-use crate::machine::*;
-use crate::psw;
+use crate::emulator::draft::{Draft, Process, Task};
+use crate::emulator::machine::*;
+use crate::emulator::psw;
 
 const SHORT: u8 = 1;
 const COUNT: u8 = 2;

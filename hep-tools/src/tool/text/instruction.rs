@@ -2,8 +2,8 @@
 
 use super::assemble::Names;
 use super::line::{Error, Line};
-use crate::assemble::{CONSTANT, INDEXED};
-use crate::codes::{listed, Low, Operation, Role, OPERATIONS};
+use crate::emulator::assemble::{CONSTANT, INDEXED};
+use crate::emulator::codes::{listed, Low, Operation, Role, OPERATIONS};
 
 /// What follows the name for each test; the source has no names for 0 and from A up.
 const TESTS: [&str; 16] =

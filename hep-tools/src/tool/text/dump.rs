@@ -2,9 +2,9 @@
 
 use super::instruction::show;
 use super::Source;
-use crate::draft::{Draft, Process, Task};
-use crate::machine::{EMPTY, NO_TRAP};
-use crate::psw;
+use crate::emulator::draft::{Draft, Process, Task};
+use crate::emulator::machine::{EMPTY, NO_TRAP};
+use crate::emulator::psw;
 
 /// Below this in magnitude a word is shown in decimal.
 const DECIMAL: u64 = 1_000_000_000;
