@@ -1,11 +1,11 @@
-// What is done about a decision: the writes, the PSWs, the trap record, the queue and the create fault flag.
+// What is done about a decision: the writes, the PSWs, the trap record, the create fault flag, and what becomes of the queue.
 ghost use mathlib.Core.Path.{_≡_};
 ghost use Rattle.window.specs.Windows.{registerWindow, dataWordWindow};
 ghost use Rattle.window.specs.Memories.{memory, written};
 ghost use Rattle.operation.specs.declared.Decision.the-variants.{Executes};
 ghost use Rattle.operation.specs.Environment.{kindOf};
 ghost use Rattle.step.specs.Act.{registerWrites, dataWrites, trappedRow};
-ghost use Rattle.step.specs.Parts.{fateCreates, creates, result, fateResult, fatePsws, movedQueue, moves, raised, rowAfter, traps, Acts};
+ghost use Rattle.step.specs.Parts.{fateCreates, creates, result, fateResult, fatePsws, headLeaves, headTurns, ptJoins, raised, rowAfter, traps, Acts};
 use operation::Decision;
 use operation::Effects;
 use operation::Fate;
@@ -13,7 +13,6 @@ use operation::Trap;
 use step::Decided;
 use step::Ending;
 use step::Motion;
-use step::Queue;
 use step::StepResult;
 use window::Row;
 
@@ -151,26 +150,40 @@ pub fn creates(decided: Decided) -> bool
     }
 }
 
-pub fn moved(m: Motion, q: Queue) -> Queue
-    ensures { λ r. ⌜ r ≡ movedQueue m q ⌝ }
+// Whether the head leaves.
+pub fn head_leaves(m: Motion) -> bool
+    ensures { λ r. ⌜ r ≡ headLeaves m ⌝ }
 {
     match m {
-        Motion::Stays => q,
-        Motion::Turns => queue::turn(q),
-        Motion::Leaves => queue::leave(q),
-        Motion::TurnsAndJoins(pt) => queue::join(queue::turn(q), pt),
-        Motion::Joins(pt) => queue::join(q, pt),
+        Motion::Stays => false,
+        Motion::Turns => false,
+        Motion::Leaves => true,
+        Motion::TurnsAndJoins(_) => false,
+        Motion::Joins(_) => false,
     }
 }
 
-// Whether a queue of len processes changes.
-pub fn moves(m: Motion, len: usize) -> bool
-    ensures { λ r. ⌜ r ≡ moves m len ⌝ }
+// Whether a queue of len processes turns.
+pub fn head_turns(m: Motion, len: usize) -> bool
+    ensures { λ r. ⌜ r ≡ headTurns m len ⌝ }
 {
     match m {
         Motion::Stays => false,
         Motion::Turns => 2 <= len,
-        Motion::Leaves => true,
+        Motion::Leaves => false,
+        Motion::TurnsAndJoins(_) => 2 <= len,
+        Motion::Joins(_) => false,
+    }
+}
+
+// Whether a created PT joins.
+pub fn pt_joins(m: Motion) -> bool
+    ensures { λ r. ⌜ r ≡ ptJoins m ⌝ }
+{
+    match m {
+        Motion::Stays => false,
+        Motion::Turns => false,
+        Motion::Leaves => false,
         Motion::TurnsAndJoins(_) => true,
         Motion::Joins(_) => true,
     }

@@ -161,8 +161,14 @@ fn run_items(
         if act::traps(e) {
             rows[r] = act::row_after(e, rows[r]);
         }
-        if act::moves(m, queues[k].len) {
-            queues[k] = act::moved(m, queues[k]);
+        if act::head_leaves(m) {
+            queues[k] = queue::leave(queues[k]);
+        }
+        if act::head_turns(m, queues[k].len) {
+            queues[k] = queue::turn(queues[k]);
+        }
+        if act::pt_joins(m) {
+            queues[k] = queue::join(queues[k], free);
             flag = act::raised(m, flag);
         }
     }

@@ -101,13 +101,27 @@ movedQueue Leaves q = shifted q
 movedQueue (TurnsAndJoins p) q = joined (turned q) p
 movedQueue (Joins p) q = joined q p
 
--- whether a queue of len processes changes
-unfoldable pub moves : Motion → (len : ℕ) → Bool
-moves Stays len = false
-moves Turns len = leb 2 len
-moves Leaves len = true
-moves (TurnsAndJoins p) len = true
-moves (Joins p) len = true
+-- which parts a motion has: the head leaves, or turns where there are two or more processes, then a created PT joins
+unfoldable pub headLeaves : Motion → Bool
+headLeaves Stays = false
+headLeaves Turns = false
+headLeaves Leaves = true
+headLeaves (TurnsAndJoins p) = false
+headLeaves (Joins p) = false
+
+unfoldable pub headTurns : Motion → (len : ℕ) → Bool
+headTurns Stays len = false
+headTurns Turns len = leb 2 len
+headTurns Leaves len = false
+headTurns (TurnsAndJoins p) len = leb 2 len
+headTurns (Joins p) len = false
+
+unfoldable pub ptJoins : Motion → Bool
+ptJoins Stays = false
+ptJoins Turns = false
+ptJoins Leaves = false
+ptJoins (TurnsAndJoins p) = true
+ptJoins (Joins p) = true
 
 -- the flag: the create that makes the last process raises it
 unfoldable pub raised : Motion → (flag : ℕ) → ℕ

@@ -129,8 +129,14 @@ fn step_at(
     if act::traps(e) {
         row = act::row_after(e, row);
     }
-    if act::moves(m, len) {
-        queues[k] = act::moved(m, queues[k]);
+    if act::head_leaves(m) {
+        queues[k] = queue::leave(queues[k]);
+    }
+    if act::head_turns(m, queues[k].len) {
+        queues[k] = queue::turn(queues[k]);
+    }
+    if act::pt_joins(m) {
+        queues[k] = queue::join(queues[k], free);
         flag = act::raised(m, flag);
     }
     Moved {

@@ -2,11 +2,12 @@ use mathlib.Core.Path.{_≡_, sym, ap, _∙_}
 use mathlib.Core.Logic.{⊎-elim}
 use mathlib.Core.Bool.{true≢false}
 use native.Mathlib.Omega.{arith}
-use lib.ListN.{getD}
+use lib.ListN.{getD, set}
 use Rattle.step.specs.declared.Queue.{Queue}
+use Rattle.step.specs.declared.StepResult.{StepResult}
 use Rattle.step.specs.Queues.{headOf}
 use Rattle.step.specs.State.{noQueue, queueIn, withQueue, processesOf}
-use Rattle.step.specs.Laws.Parts.{step-made, untrapped, unraised, queues-moved, queues-kept}
+use Rattle.step.specs.Laws.Parts.{step-made, untrapped, unraised, part-made, part-left, queues-moved}
 use borrow.Author.Needs.{needs}
 use Rattle.stepper.proofs.step_at.Statement.{statement}
 use Rattle.stepper.proofs.step_at.Tie as tie
@@ -41,23 +42,65 @@ traps-requires c κs = search needs
 row-after-requires : tie.Need-row-after-requires
 row-after-requires c κs = search needs
 
-moves-requires : tie.Need-moves-requires
-moves-requires c κs = search needs
+head-leaves-requires : tie.Need-head-leaves-requires
+head-leaves-requires c κs = search needs
 
-mul-moved : tie.Need-mul-moved
-mul-moved c = omega (arith, c .before .before .before .before .before .before .before .before .before .before .before .before .before .before .before .before .before .before .before .before .before .before .before .before .before .before .before .before .before .before .before .before .before .before .before .before .before .pre)
+mul-leave : tie.Need-mul-leave
+mul-leave c = omega (arith, c .before .before .before .before .before .before .before .before .before .before .before .before .before .before .before .before .before .before .before .before .before .before .before .before .before .before .before .before .before .before .before .before .before .before .before .before .before .pre)
 
-array-copy-out-moved : tie.Need-array-copy-out-moved
-array-copy-out-moved c = omega (arith, c .before .before .before .before .before .before .before .before .before .before .before .before .before .before .before .before .before .before .before .before .before .before .before .before .before .before .before .before .before .before .before .before .before .before .before .before .before .pre)
+array-copy-out-leave : tie.Need-array-copy-out-leave
+array-copy-out-leave c = omega (arith, c .before .before .before .before .before .before .before .before .before .before .before .before .before .before .before .before .before .before .before .before .before .before .before .before .before .before .before .before .before .before .before .before .before .before .before .before .before .pre)
 
-moved-requires : tie.Need-moved-requires
-moved-requires c κs = search needs
+leave-requires : tie.Need-leave-requires
+leave-requires c κs = search needs
 
 mul-queues : tie.Need-mul-queues
 mul-queues c = omega (arith, c .before .before .before .before .before .before .before .before .before .before .before .before .before .before .before .before .before .before .before .before .before .before .before .before .before .before .before .before .before .before .before .before .before .before .before .before .before .before .before .pre)
 
 array-set-from-queues : tie.Need-array-set-from-queues
 array-set-from-queues c = omega (arith, c .before .before .before .before .before .before .before .before .before .before .before .before .before .before .before .before .before .before .before .before .before .before .before .before .before .before .before .before .before .before .before .before .before .before .before .before .before .before .before .pre)
+
+mul-head-turns : tie.Need-mul-head-turns
+mul-head-turns c = omega (arith, c .before .before .before .before .before .before .before .before .before .before .before .before .before .before .before .before .before .before .before .before .before .before .before .before .before .before .before .before .before .before .before .before .before .before .before .before .before .pre)
+
+element-copy-out-head-turns : tie.Need-element-copy-out-head-turns
+element-copy-out-head-turns c = omega (arith, c .before .before .before .before .before .before .before .before .before .before .before .before .before .before .before .before .before .before .before .before .before .before .before .before .before .before .before .before .before .before .before .before .before .before .before .before .before .pre)
+
+head-turns-requires : tie.Need-head-turns-requires
+head-turns-requires c κs = search needs
+
+mul-turn : tie.Need-mul-turn
+mul-turn c = omega (arith, c .before .before .before .before .before .before .before .before .before .before .before .before .before .before .before .before .before .before .before .before .before .before .before .before .before .before .before .before .before .before .before .before .before .before .before .before .before .before .before .pre)
+
+array-copy-out-turn : tie.Need-array-copy-out-turn
+array-copy-out-turn c = omega (arith, c .before .before .before .before .before .before .before .before .before .before .before .before .before .before .before .before .before .before .before .before .before .before .before .before .before .before .before .before .before .before .before .before .before .before .before .before .before .before .before .pre)
+
+turn-requires : tie.Need-turn-requires
+turn-requires c κs = search needs
+
+mul-queues-2 : tie.Need-mul-queues-2
+mul-queues-2 c = omega (arith, c .before .before .before .before .before .before .before .before .before .before .before .before .before .before .before .before .before .before .before .before .before .before .before .before .before .before .before .before .before .before .before .before .before .before .before .before .before .before .before .before .before .pre)
+
+array-set-from-queues-2 : tie.Need-array-set-from-queues-2
+array-set-from-queues-2 c = omega (arith, c .before .before .before .before .before .before .before .before .before .before .before .before .before .before .before .before .before .before .before .before .before .before .before .before .before .before .before .before .before .before .before .before .before .before .before .before .before .before .before .before .before .pre)
+
+pt-joins-requires : tie.Need-pt-joins-requires
+pt-joins-requires c κs = search needs
+
+mul-join : tie.Need-mul-join
+mul-join c = omega (arith, c .before .before .before .before .before .before .before .before .before .before .before .before .before .before .before .before .before .before .before .before .before .before .before .before .before .before .before .before .before .before .before .before .before .before .before .before .before .before .before .before .before .pre)
+
+array-copy-out-join : tie.Need-array-copy-out-join
+array-copy-out-join c = omega (arith, c .before .before .before .before .before .before .before .before .before .before .before .before .before .before .before .before .before .before .before .before .before .before .before .before .before .before .before .before .before .before .before .before .before .before .before .before .before .before .before .before .before .pre)
+
+join-requires : tie.Need-join-requires
+join-requires c κs = search needs
+
+mul-queues-3 : tie.Need-mul-queues-3
+mul-queues-3 c = omega (arith, c .before .before .before .before .before .before .before .before .before .before .before .before .before .before .before .before .before .before .before .before .before .before .before .before .before .before .before .before .before .before .before .before .before .before .before .before .before .before .before .before .before .before .before .pre)
+
+array-set-from-queues-3 : tie.Need-array-set-from-queues-3
+array-set-from-queues-3 c = omega (arith, c .before .before .before .before .before .before .before .before .before .before .before .before .before .before .before .before .before .before .before .before .before .before .before .before .before .before .before .before .before .before .before .before .before .before .before .before .before .before .before .before .before .before .before .pre)
 
 raised-requires : tie.Need-raised-requires
 raised-requires c κs = search needs
@@ -80,22 +123,25 @@ same-length-5 c = search needs
 returns : tie.Need-returns
 unfolding processesOf withQueue queueIn
 returns c = λ rows e h.
-    let qs = c .before .before .before .before .before .before .before .before .before .before .before .before .before .before .before .before .before .before .before .before .before .before .before .before .before .before .before .before .before .before .before .before .before .before .before .before .before .before .before .before .args .queues in
-    let own : getD qs (c .before .before .before .before .before .before .before .before .before .before .before .before .before .before .before .before .before .before .before .before .before .before .before .before .before .before .before .before .before .before .before .before .before .before .before .before .before .before .before .before .args .k) noQueue ≡ queueIn qs (c .before .before .before .before .before .before .before .before .before .before .before .before .before .before .before .before .before .before .before .before .before .before .before .before .before .before .before .before .before .before .before .before .before .before .before .before .before .before .before .before .args .row .task) = ap (λ i. getD qs i noQueue) h in
+    let qs = c .before .before .before .before .before .before .before .before .before .before .before .before .before .before .before .before .before .before .before .before .before .before .before .before .before .before .before .before .before .before .before .before .before .before .before .before .before .before .before .before .before .before .before .before .args .queues in
+    let own : getD qs (c .before .before .before .before .before .before .before .before .before .before .before .before .before .before .before .before .before .before .before .before .before .before .before .before .before .before .before .before .before .before .before .before .before .before .before .before .before .before .before .before .before .before .before .before .args .k) noQueue ≡ queueIn qs (c .before .before .before .before .before .before .before .before .before .before .before .before .before .before .before .before .before .before .before .before .before .before .before .before .before .before .before .before .before .before .before .before .before .before .before .before .before .before .before .before .before .before .before .before .args .row .task) = ap (λ i. getD qs i noQueue) h in
     step-made _ _ _ _ _ _ _ _ _ _ _
     (record {
       head = _;
       free = _;
       room = _;
       row = e;
-      decides = c .before .before .before .before .before .before .before .before .before .before .before .before .before .before .before .before .before .before .before .before .before .before .before .before .before .decided .ensures _ rows _ (ap (λ (q : Queue). q .len) (sym own)) (ap headOf (sym own) ∙ sym (c .before .before .before .before .before .before .before .before .before .before .before .before .before .before .before .before .before .before .before .before .before .before .before .before .before .before .before .before .before .before .before .head-pt .ensures));
-      heads = c .before .before .before .before .before .before .before .before .before .before .before .before .before .before .before .before .before .before .before .before .before .before .before .before .before .before .before .before .before .before .before .head-pt .ensures ∙ ap headOf own;
-      lowest = λ z. ⊎-elim (λ w. w .3 ∙ w .1 .ensures) (λ w. absurd (true≢false (sym z ∙ sym (c .before .before .before .before .before .before .before .before .before .before .before .before .before .before .before .before .before .before .before .before .before .before .before .before .creates .ensures) ∙ w .0 .left))) (c .before .before .before .before .before .before .before .before .before .before .before .before .before .before .before .before .before .before .before .before .before .before .before .if1 .came);
-      places = λ z. ⊎-elim (λ w. w .4 ∙ w .2 .ensures) (λ w. absurd (true≢false (sym z ∙ sym (c .before .before .before .before .before .before .before .before .before .before .before .before .before .before .before .before .before .before .before .before .before .before .before .before .creates .ensures) ∙ w .0 .left))) (c .before .before .before .before .before .before .before .before .before .before .before .before .before .before .before .before .before .before .before .before .before .before .before .if1 .came);
-      acts = c .before .before .before .before .before .before .before .before .before .before .before .before .before .before .before .before .before .act .ensures;
+      decides = c .before .before .before .before .before .before .before .before .before .before .before .before .before .before .before .before .before .before .before .before .before .before .before .before .before .before .before .before .before .decided .ensures _ rows _ (ap (λ (q : Queue). q .len) (sym own)) (ap headOf (sym own) ∙ sym (c .before .before .before .before .before .before .before .before .before .before .before .before .before .before .before .before .before .before .before .before .before .before .before .before .before .before .before .before .before .before .before .before .before .before .before .head-pt .ensures));
+      heads = c .before .before .before .before .before .before .before .before .before .before .before .before .before .before .before .before .before .before .before .before .before .before .before .before .before .before .before .before .before .before .before .before .before .before .before .head-pt .ensures ∙ ap headOf own;
+      lowest = λ z. ⊎-elim (λ w. w .3 ∙ w .1 .ensures) (λ w. absurd (true≢false (sym z ∙ sym (c .before .before .before .before .before .before .before .before .before .before .before .before .before .before .before .before .before .before .before .before .before .before .before .before .before .before .before .before .creates .ensures) ∙ w .0 .left))) (c .before .before .before .before .before .before .before .before .before .before .before .before .before .before .before .before .before .before .before .before .before .before .before .before .before .before .before .if1 .came);
+      places = λ z. ⊎-elim (λ w. w .4 ∙ w .2 .ensures) (λ w. absurd (true≢false (sym z ∙ sym (c .before .before .before .before .before .before .before .before .before .before .before .before .before .before .before .before .before .before .before .before .before .before .before .before .before .before .before .before .creates .ensures) ∙ w .0 .left))) (c .before .before .before .before .before .before .before .before .before .before .before .before .before .before .before .before .before .before .before .before .before .before .before .before .before .before .before .if1 .came);
+      acts = c .before .before .before .before .before .before .before .before .before .before .before .before .before .before .before .before .before .before .before .before .before .act .ensures;
     })
-    (⊎-elim (λ w. w .2 ∙ w .1 .ensures) (λ w. w .1 ∙ sym (untrapped _ _ (sym (c .before .before .before .before .before .before .traps .ensures) ∙ w .0 .left))) (c .before .before .before .before .before .if2 .came))
-    (queues-moved qs _ _ _ _ h (c .before .moved .ensures))
+    (⊎-elim (λ w. w .2 ∙ w .1 .ensures) (λ w. w .1 ∙ sym (untrapped _ _ (sym (c .before .before .before .before .before .before .before .before .before .before .traps .ensures) ∙ w .0 .left))) (c .before .before .before .before .before .before .before .before .before .if2 .came))
+    (queues-moved qs _ _ _ _ _ _ _ _ _ h (ap (λ (x : StepResult). x .motion) (c .before .before .before .before .before .before .before .before .before .before .before .before .before .before .before .before .before .before .before .before .before .act .ensures .ends))
+    (⊎-elim (λ w. w .3 ∙ part-made qs (c .before .before .before .before .before .before .before .before .before .before .before .before .before .before .before .before .before .before .before .before .before .before .before .before .before .before .before .before .before .before .before .before .before .before .before .before .before .before .before .before .before .before .before .before .args .k) _ _ _ (sym (c .before .before .before .before .before .before .before .before .head-leaves .ensures) ∙ w .0 .taken) (w .2 .ensures)) (λ w. w .1 ∙ part-left qs (c .before .before .before .before .before .before .before .before .before .before .before .before .before .before .before .before .before .before .before .before .before .before .before .before .before .before .before .before .before .before .before .before .before .before .before .before .before .before .before .before .before .before .before .before .args .k) _ _ (sym (c .before .before .before .before .before .before .before .before .head-leaves .ensures) ∙ w .0 .left)) (c .before .before .before .before .before .before .before .if3 .came))
+    (⊎-elim (λ w. w .3 ∙ part-made (c .before .before .before .before .before .before .before .if3 .queues) (c .before .before .before .before .before .before .before .before .before .before .before .before .before .before .before .before .before .before .before .before .before .before .before .before .before .before .before .before .before .before .before .before .before .before .before .before .before .before .before .before .before .before .before .before .args .k) _ _ _ (sym (c .before .before .before .before .before .before .head-turns .ensures) ∙ w .0 .taken) (w .2 .ensures)) (λ w. w .1 ∙ part-left (c .before .before .before .before .before .before .before .if3 .queues) (c .before .before .before .before .before .before .before .before .before .before .before .before .before .before .before .before .before .before .before .before .before .before .before .before .before .before .before .before .before .before .before .before .before .before .before .before .before .before .before .before .before .before .before .before .args .k) _ _ (sym (c .before .before .before .before .before .before .head-turns .ensures) ∙ w .0 .left)) (c .before .before .before .before .before .if4 .came))
+    (part-made (c .before .before .before .before .before .if4 .queues) (c .before .before .before .before .before .before .before .before .before .before .before .before .before .before .before .before .before .before .before .before .before .before .before .before .before .before .before .before .before .before .before .before .before .before .before .before .before .before .before .before .before .before .before .before .args .k) _ _ _ (sym (c .before .before .before .before .pt-joins .ensures) ∙ c .before .before .before .if5 .taken) (c .before .join .ensures)))
     (c .raised .ensures)
 
 same-length-6 : tie.Need-same-length-6
@@ -116,23 +162,26 @@ same-length-10 c = search needs
 returns-2 : tie.Need-returns-2
 unfolding processesOf withQueue queueIn
 returns-2 c = λ rows e h.
-    let qs = c .before .before .before .before .before .before .before .before .before .before .before .before .before .before .before .before .before .before .before .before .before .before .before .before .before .before .before .before .before .before .before .before .before .before .before .before .before .args .queues in
-    let own : getD qs (c .before .before .before .before .before .before .before .before .before .before .before .before .before .before .before .before .before .before .before .before .before .before .before .before .before .before .before .before .before .before .before .before .before .before .before .before .before .args .k) noQueue ≡ queueIn qs (c .before .before .before .before .before .before .before .before .before .before .before .before .before .before .before .before .before .before .before .before .before .before .before .before .before .before .before .before .before .before .before .before .before .before .before .before .before .args .row .task) = ap (λ i. getD qs i noQueue) h in
+    let qs = c .before .before .before .before .before .before .before .before .before .before .before .before .before .before .before .before .before .before .before .before .before .before .before .before .before .before .before .before .before .before .before .before .before .before .before .before .before .before .before .before .before .args .queues in
+    let own : getD qs (c .before .before .before .before .before .before .before .before .before .before .before .before .before .before .before .before .before .before .before .before .before .before .before .before .before .before .before .before .before .before .before .before .before .before .before .before .before .before .before .before .before .args .k) noQueue ≡ queueIn qs (c .before .before .before .before .before .before .before .before .before .before .before .before .before .before .before .before .before .before .before .before .before .before .before .before .before .before .before .before .before .before .before .before .before .before .before .before .before .before .before .before .before .args .row .task) = ap (λ i. getD qs i noQueue) h in
     step-made _ _ _ _ _ _ _ _ _ _ _
     (record {
       head = _;
       free = _;
       room = _;
       row = e;
-      decides = c .before .before .before .before .before .before .before .before .before .before .before .before .before .before .before .before .before .before .before .before .before .before .decided .ensures _ rows _ (ap (λ (q : Queue). q .len) (sym own)) (ap headOf (sym own) ∙ sym (c .before .before .before .before .before .before .before .before .before .before .before .before .before .before .before .before .before .before .before .before .before .before .before .before .before .before .before .before .head-pt .ensures));
-      heads = c .before .before .before .before .before .before .before .before .before .before .before .before .before .before .before .before .before .before .before .before .before .before .before .before .before .before .before .before .head-pt .ensures ∙ ap headOf own;
-      lowest = λ z. ⊎-elim (λ w. w .3 ∙ w .1 .ensures) (λ w. absurd (true≢false (sym z ∙ sym (c .before .before .before .before .before .before .before .before .before .before .before .before .before .before .before .before .before .before .before .before .before .creates .ensures) ∙ w .0 .left))) (c .before .before .before .before .before .before .before .before .before .before .before .before .before .before .before .before .before .before .before .before .if1 .came);
-      places = λ z. ⊎-elim (λ w. w .4 ∙ w .2 .ensures) (λ w. absurd (true≢false (sym z ∙ sym (c .before .before .before .before .before .before .before .before .before .before .before .before .before .before .before .before .before .before .before .before .before .creates .ensures) ∙ w .0 .left))) (c .before .before .before .before .before .before .before .before .before .before .before .before .before .before .before .before .before .before .before .before .if1 .came);
-      acts = c .before .before .before .before .before .before .before .before .before .before .before .before .before .before .act .ensures;
+      decides = c .before .before .before .before .before .before .before .before .before .before .before .before .before .before .before .before .before .before .before .before .before .before .before .before .before .before .decided .ensures _ rows _ (ap (λ (q : Queue). q .len) (sym own)) (ap headOf (sym own) ∙ sym (c .before .before .before .before .before .before .before .before .before .before .before .before .before .before .before .before .before .before .before .before .before .before .before .before .before .before .before .before .before .before .before .before .head-pt .ensures));
+      heads = c .before .before .before .before .before .before .before .before .before .before .before .before .before .before .before .before .before .before .before .before .before .before .before .before .before .before .before .before .before .before .before .before .head-pt .ensures ∙ ap headOf own;
+      lowest = λ z. ⊎-elim (λ w. w .3 ∙ w .1 .ensures) (λ w. absurd (true≢false (sym z ∙ sym (c .before .before .before .before .before .before .before .before .before .before .before .before .before .before .before .before .before .before .before .before .before .before .before .before .before .creates .ensures) ∙ w .0 .left))) (c .before .before .before .before .before .before .before .before .before .before .before .before .before .before .before .before .before .before .before .before .before .before .before .before .if1 .came);
+      places = λ z. ⊎-elim (λ w. w .4 ∙ w .2 .ensures) (λ w. absurd (true≢false (sym z ∙ sym (c .before .before .before .before .before .before .before .before .before .before .before .before .before .before .before .before .before .before .before .before .before .before .before .before .before .creates .ensures) ∙ w .0 .left))) (c .before .before .before .before .before .before .before .before .before .before .before .before .before .before .before .before .before .before .before .before .before .before .before .before .if1 .came);
+      acts = c .before .before .before .before .before .before .before .before .before .before .before .before .before .before .before .before .before .before .act .ensures;
     })
-    (⊎-elim (λ w. w .2 ∙ w .1 .ensures) (λ w. w .1 ∙ sym (untrapped _ _ (sym (c .before .before .before .traps .ensures) ∙ w .0 .left))) (c .before .before .if2 .came))
-    (queues-kept qs _ _ _ h (sym (c .before .moves .ensures) ∙ c .if3 .left))
-    (sym (unraised _ _ _ (sym (c .before .moves .ensures) ∙ c .if3 .left)))
+    (⊎-elim (λ w. w .2 ∙ w .1 .ensures) (λ w. w .1 ∙ sym (untrapped _ _ (sym (c .before .before .before .before .before .before .before .traps .ensures) ∙ w .0 .left))) (c .before .before .before .before .before .before .if2 .came))
+    (queues-moved qs _ _ _ _ _ _ _ _ _ h (ap (λ (x : StepResult). x .motion) (c .before .before .before .before .before .before .before .before .before .before .before .before .before .before .before .before .before .before .act .ensures .ends))
+    (⊎-elim (λ w. w .3 ∙ part-made qs (c .before .before .before .before .before .before .before .before .before .before .before .before .before .before .before .before .before .before .before .before .before .before .before .before .before .before .before .before .before .before .before .before .before .before .before .before .before .before .before .before .before .args .k) _ _ _ (sym (c .before .before .before .before .before .head-leaves .ensures) ∙ w .0 .taken) (w .2 .ensures)) (λ w. w .1 ∙ part-left qs (c .before .before .before .before .before .before .before .before .before .before .before .before .before .before .before .before .before .before .before .before .before .before .before .before .before .before .before .before .before .before .before .before .before .before .before .before .before .before .before .before .before .args .k) _ _ (sym (c .before .before .before .before .before .head-leaves .ensures) ∙ w .0 .left)) (c .before .before .before .before .if3 .came))
+    (⊎-elim (λ w. w .3 ∙ part-made (c .before .before .before .before .if3 .queues) (c .before .before .before .before .before .before .before .before .before .before .before .before .before .before .before .before .before .before .before .before .before .before .before .before .before .before .before .before .before .before .before .before .before .before .before .before .before .before .before .before .before .args .k) _ _ _ (sym (c .before .before .before .head-turns .ensures) ∙ w .0 .taken) (w .2 .ensures)) (λ w. w .1 ∙ part-left (c .before .before .before .before .if3 .queues) (c .before .before .before .before .before .before .before .before .before .before .before .before .before .before .before .before .before .before .before .before .before .before .before .before .before .before .before .before .before .before .before .before .before .before .before .before .before .before .before .before .before .args .k) _ _ (sym (c .before .before .before .head-turns .ensures) ∙ w .0 .left)) (c .before .before .if4 .came))
+    (part-left (c .before .before .if4 .queues) (c .before .before .before .before .before .before .before .before .before .before .before .before .before .before .before .before .before .before .before .before .before .before .before .before .before .before .before .before .before .before .before .before .before .before .before .before .before .before .before .before .before .args .k) _ _ (sym (c .before .pt-joins .ensures) ∙ c .if5 .left)))
+    (sym (unraised _ _ (sym (c .before .pt-joins .ensures) ∙ c .if5 .left)))
 
 pub step-at-spec : {M : Type 1} → statement M
 step-at-spec =
@@ -148,12 +197,26 @@ step-at-spec =
     act-requires
     traps-requires
     row-after-requires
-    moves-requires
-    mul-moved
-    array-copy-out-moved
-    moved-requires
+    head-leaves-requires
+    mul-leave
+    array-copy-out-leave
+    leave-requires
     mul-queues
     array-set-from-queues
+    mul-head-turns
+    element-copy-out-head-turns
+    head-turns-requires
+    mul-turn
+    array-copy-out-turn
+    turn-requires
+    mul-queues-2
+    array-set-from-queues-2
+    pt-joins-requires
+    mul-join
+    array-copy-out-join
+    join-requires
+    mul-queues-3
+    array-set-from-queues-3
     raised-requires
     same-length
     same-length-2

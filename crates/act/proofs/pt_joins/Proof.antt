@@ -1,7 +1,7 @@
-use Rattle.step.specs.Parts.{moves}
+use Rattle.step.specs.Parts.{ptJoins}
 use borrow.Author.Needs.{needs}
-use Rattle.act.proofs.moves.Statement.{statement}
-use Rattle.act.proofs.moves.Tie as tie
+use Rattle.act.proofs.pt_joins.Statement.{statement}
+use Rattle.act.proofs.pt_joins.Tie as tie
 
 enum-told : tie.Need-enum-told
 enum-told c = search needs
@@ -19,27 +19,27 @@ enum-told-5 : tie.Need-enum-told-5
 enum-told-5 c = search needs
 
 returns : tie.Need-returns
-unfolding moves
+unfolding ptJoins
 returns c = simp (c .enum-told .given .1)
 
 returns-2 : tie.Need-returns-2
-unfolding moves
+unfolding ptJoins
 returns-2 c = simp (c .enum-told2 .given .1)
 
 returns-3 : tie.Need-returns-3
-unfolding moves
+unfolding ptJoins
 returns-3 c = simp (c .enum-told3 .given .1)
 
 returns-4 : tie.Need-returns-4
-unfolding moves
+unfolding ptJoins
 returns-4 c = simp (c .enum-told4 .given .1)
 
 returns-5 : tie.Need-returns-5
-unfolding moves
+unfolding ptJoins
 returns-5 c = simp (c .enum-told5 .given .1)
 
-pub moves-spec : {M : Type 1} → statement M
-moves-spec =
+pub pt-joins-spec : {M : Type 1} → statement M
+pt-joins-spec =
     tie.close
     (tie.spec
     enum-told
