@@ -2,17 +2,18 @@
 use Prim.Native.Nat.{ℕ, suc, _+_, _-_, _*_, _≤_, _<_}
 use mathlib.Core.Path.{_≡_, sym, ap₂, _∙_}
 use mathlib.Core.List.{List, _++_, append-assoc, append-nil}
-use native.Mathlib.Nat.{sub-zero, mul-suc}
+use native.Mathlib.Nat.{sub-zero, mul-suc, mul-add, add-sub-cancel-left}
 use native.Mathlib.Numerals.{add-one}
 use native.Mathlib.Omega.{arith}
-use lib.ListN.{length, take, drop, set, length-set, length-drop}
-use lib.Seq.{take-suc-set, take-all}
+use lib.ListN.{length, take, drop, set, length-set, length-drop, length-append}
+use lib.Seq.{take-suc-set, take-all, take-at, length-take-le}
+use borrow.Rule.Slice.PartMut.{midOf, postOf, putMid, mid-len}
 use borrow.Author.Tests.{le-leb, lt-leb, eq-eqb, ne-eqb}
 use Rattle.window.specs.Memories.{memory, tagOf, wordOf}
 use Rattle.image.specs.Image.{memoryOf}
 use Rattle.image.specs.Fields.{paired}
 use Rattle.image_words.specs.Reading.{fieldAt, listed, wordsAt, cellFrom, cellsAt, filledWords, filledCells}
-use Rattle.image_words.specs.Laws.Listed.{map-listed}
+use Rattle.image_words.specs.Laws.Listed.{length-listed, listed-add, map-listed}
 
 -- i of n values are in l; the next stands at p of `long` bytes; what is still to come completes what is wanted
 pub record Filling (stride : ℕ) (f : ℕ → ℕ) (long at n : ℕ) (l : List ℕ) (p i : ℕ) : Type 0 where
@@ -43,6 +44,28 @@ module _ (stride : ℕ) (f : ℕ → ℕ) (long at n : ℕ) (l : List ℕ) where
           inside = rw add-one (omega (arith, z .inside));
           size = length-set l i _ ∙ z .size;
           all = rw (hv, add-one i, take-suc-set l i (f p) (omega (arith, z .size)), append-assoc) (rw e at (z .all));
+        }
+
+    -- a block of k more, put where the next k places of l were
+    pub steps : (k : ℕ) {part : List ℕ} → i + k ≤ n → part ≡ listed stride f (length (midOf i (i + k - i) l)) p
+        → Filling stride f long at n (putMid i (i + k - i) l part) (p + stride * k) (i + k)
+    steps k {part} h e₀ =
+        let q : length (midOf i (i + k - i) l) ≡ k = mid-len i (i + k) l (omega (arith, z .size)) ∙ add-sub-cancel-left i k in
+        let e : part ≡ listed stride f k p = rw q at e₀ in
+        let rest = postOf i (i + k - i) l in
+        let r : length rest ≡ n - (i + k) = rw (length-drop, length-drop, z .size) (omega arith) in
+        let a : n - i ≡ k + (n - (i + k)) = omega arith in
+        let m : stride * (n - i) ≡ stride * k + stride * (n - (i + k)) = rw a (mul-add stride k (n - (i + k))) in
+        let t : length (take i l) ≡ i = length-take-le i l (omega (arith, z .size)) in
+        let g : length part ≡ k = rw e (length-listed stride f k p) in
+        let b : length (take i l ++ part) ≡ i + k = rw (length-append, t, g) in
+        let c : take (i + k) (take i l ++ (part ++ rest)) ≡ take i l ++ part = rw (← append-assoc (take i l) part rest) (take-at (take i l ++ part) rest (i + k) b) in
+        let d : listed stride f (n - i) p ≡ part ++ listed stride f (n - (i + k)) (p + stride * k) = rw (a, e) (listed-add stride f k (n - (i + k)) p) in
+        record {
+          most = h;
+          inside = omega (arith, z .inside);
+          size = rw (length-append, length-append, t, g, r) (omega arith);
+          all = rw (c, append-assoc, ← d) (z .all);
         }
 
     pub done : n ≤ i → l ≡ listed stride f n at

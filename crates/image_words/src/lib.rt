@@ -1,13 +1,13 @@
 // Numbers, words and cells of an image: read from bytes, written to bytes, and checked.
 ghost use mathlib.Core.Path.{_≡_};
 ghost use mathlib.Core.Bool.{_&&_};
-ghost use Prim.Native.Nat.{_+_, _-_, _*_, _^_, _≤_, _<_};
+ghost use Prim.Native.Nat.{_+_, _-_, _*_, _^_, _≤_, _<_, min};
 ghost use lib.ListN.{length};
 ghost use Rattle.window.specs.Memories.{memory};
 ghost use Rattle.step.specs.Soundness.{every};
 ghost use Rattle.image.specs.Codec.{num, digits, decMany, noState};
 ghost use Rattle.image.specs.Image.{wordCodec, cellCodec};
-ghost use Rattle.image_words.specs.Reading.{fieldAt, numberAt, tagsAt, filledWords, filledCells};
+ghost use Rattle.image_words.specs.Reading.{fieldAt, numberAt, listed, tagsAt, filledWords, filledCells};
 ghost use Rattle.image_words.specs.Writing.{laid, putAt, wordBytes, putCells};
 ghost use Rattle.image_words.specs.Scanning.{scan, valueAt, tagTest};
 use refusal::Refusal;
@@ -89,7 +89,48 @@ pub fn fill_words(s: &[u8], at: usize, words: &mut [u64])
     }
 }
 
-// Fills `tags` and `words` from the cells at `at`; does nothing where they are not all there, or the two are not of one length.
+// Fills `tags` from the cells at `at`.
+fn fill_tags(s: &[u8], at: usize, tags: &mut [u8])
+    requires { ⌜ 9 * length (now tags) ≤ length (now s) - at ⌝ }
+    ensures { λ _. ⌜ now (tags .exit) ≡ listed 9 (λ p. fieldAt 1 p (now (s .entry))) (length (now (tags .entry))) at ⌝ }
+{
+    let n = tags.len();
+    let mut p = at;
+    let mut i = 0;
+    while i < n {
+        tags[i] = s[p];
+        p += 9;
+        i += 1;
+    }
+}
+
+// Fills `words` from the cells at `at`.
+fn fill_tagged_words(s: &[u8], at: usize, words: &mut [u64])
+    requires { ⌜ 9 * length (now words) ≤ length (now s) - at ⌝ }
+    ensures { λ _. ⌜ now (words .exit) ≡ listed 9 (λ p. fieldAt 8 (p + 1) (now (s .entry))) (length (now (words .entry))) at ⌝ }
+{
+    let n = words.len();
+    let mut p = at;
+    let mut i = 0;
+    while i < n {
+        words[i] = get_word(s, p + 1);
+        p += 9;
+        i += 1;
+    }
+}
+
+// How many of the cells that are left make the next block.
+fn block(left: usize) -> usize
+    ensures { λ r. ⌜ r ≡ min 64 left ⌝ }
+{
+    if left < 64 {
+        return left;
+    }
+    64
+}
+
+// Fills `tags` and `words` from the cells at `at`; does nothing where they are not all there, or the two are not of one length. It goes by
+// blocks, first the tags and then the words: so that a cache line is filled before the next one is begun.
 pub fn fill_cells(s: &[u8], at: usize, tags: &mut [u8], words: &mut [u64])
     ensures { λ _. ⌜ memory (now (tags .exit)) (now (words .exit)) ≡ filledCells at (now (s .entry)) (memory (now (tags .entry)) (now (words .entry))) ⌝ }
 {
@@ -103,10 +144,12 @@ pub fn fill_cells(s: &[u8], at: usize, tags: &mut [u8], words: &mut [u64])
     let mut p = at;
     let mut i = 0;
     while i < n {
-        tags[i] = s[p];
-        words[i] = get_word(s, p + 1);
-        p += 9;
-        i += 1;
+        let k = block(n - i);
+        let end = i + k;
+        fill_tags(s, p, &mut tags[i..end]);
+        fill_tagged_words(s, p, &mut words[i..end]);
+        p += 9 * k;
+        i = end;
     }
 }
 

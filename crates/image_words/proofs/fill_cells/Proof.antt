@@ -4,7 +4,7 @@ use mathlib.Core.Path.{refl, sym, _∙_}
 use lib.ListN.{length}
 use Rattle.image_words.specs.Reading.{fieldAt}
 use Rattle.image_words.specs.Laws.Fields.{byte-at}
-use Rattle.image_words.proofs.Filling.{Filling, start, fits, step, done, cells-unpaired, cells-stay, cells-filled}
+use Rattle.image_words.proofs.Filling.{Filling, start, steps, done, cells-unpaired, cells-stay, cells-filled}
 use borrow.Author.Needs.{needs}
 use native.Mathlib.Omega.{arith}
 use Rattle.image_words.proofs.fill_cells.Statement.{statement}
@@ -40,43 +40,58 @@ loop-holds c =
     let h : 9 * length (args .words .now) ≤ length (args .s .now) - args .at = omega (arith, left-from .ensures, c .if2 .left) in
     (start _ _ _ _ _ _ h (if1 .left), start _ _ _ _ _ _ h refl)
 
-shared-slice-read-tags : tie.Need-shared-slice-read-tags Inv-loop μ-loop
-shared-slice-read-tags c = let r = fits _ _ _ _ _ _ _ _ (c .before .before .loop .inv .1) (c .before .loop-test .taken) in omega arith
+sub-block : tie.Need-sub-block Inv-loop μ-loop
+sub-block c = search needs
 
-slice-write-tags : tie.Need-slice-write-tags Inv-loop μ-loop
-slice-write-tags c = omega (arith, c .before .before .loop .inv .0 .size, c .before .loop-test .taken)
+block-requires : tie.Need-block-requires Inv-loop μ-loop
+block-requires c κs = search needs
 
-add-get-word : tie.Need-add-get-word Inv-loop μ-loop
-add-get-word c = let r = fits _ _ _ _ _ _ _ _ (c .before .before .loop .inv .1) (c .before .loop-test .taken) in omega arith
+add-end : tie.Need-add-end Inv-loop μ-loop
+add-end c = search needs
 
-get-word-requires : tie.Need-get-word-requires Inv-loop μ-loop
-get-word-requires c κs = let r = fits _ _ _ _ _ _ _ _ (c .before .before .loop .inv .1) (c .before .loop-test .taken) in omega arith
+sub-fill-tags : tie.Need-sub-fill-tags Inv-loop μ-loop
+sub-fill-tags c = search needs
 
-mul-words : tie.Need-mul-words Inv-loop μ-loop
-mul-words c = let f = c .before .before .before .loop .inv .1 in omega (arith, f .inside, f .size)
+part-fill-tags-start : tie.Need-part-fill-tags-start Inv-loop μ-loop
+part-fill-tags-start c = search needs
 
-slice-write-words : tie.Need-slice-write-words Inv-loop μ-loop
-slice-write-words c = omega (arith, c .before .before .before .loop .inv .1 .size, c .before .before .loop-test .taken)
+part-fill-tags-end : tie.Need-part-fill-tags-end Inv-loop μ-loop
+part-fill-tags-end c = search needs
+
+fill-tags-requires : tie.Need-fill-tags-requires Inv-loop μ-loop
+fill-tags-requires c κs = search needs
+
+mul-fill-tagged-words : tie.Need-mul-fill-tagged-words Inv-loop μ-loop
+mul-fill-tagged-words c = search needs
+
+sub-fill-tagged-words : tie.Need-sub-fill-tagged-words Inv-loop μ-loop
+sub-fill-tagged-words c = search needs
+
+part-fill-tagged-words-start : tie.Need-part-fill-tagged-words-start Inv-loop μ-loop
+part-fill-tagged-words-start c = search needs
+
+part-fill-tagged-words-end : tie.Need-part-fill-tagged-words-end Inv-loop μ-loop
+part-fill-tagged-words-end c = search needs
+
+fill-tagged-words-requires : tie.Need-fill-tagged-words-requires Inv-loop μ-loop
+fill-tagged-words-requires c κs = search needs
+
+mul-p : tie.Need-mul-p Inv-loop μ-loop
+mul-p c = search needs
 
 add-p : tie.Need-add-p Inv-loop μ-loop
-add-p c =
-    let loop = c .before .before .before .loop in
-    let loop-test = c .before .before .loop-test in
-    let r = fits _ _ _ _ _ _ _ _ (loop .inv .1) (loop-test .taken) in omega arith
-
-add-i : tie.Need-add-i Inv-loop μ-loop
-add-i c = search needs
+add-p c = search needs
 
 loop-less : tie.Need-loop-less Inv-loop μ-loop
 loop-less c = search needs
 
 loop-again : tie.Need-loop-again Inv-loop μ-loop
 loop-again c =
-    let l = c .before .before .before .loop in
-    let loop-test = c .before .before .loop-test in
-    let args = c .before .before .before .before .before .before .before .before .before .before .args in
-    let t = loop-test .taken in
-    (step _ _ _ _ _ _ _ _ (l .inv .0) t (sym (byte-at (l .p) (args .s .now))), step _ _ _ _ _ _ _ _ (l .inv .1) t (c .get-word .ensures))
+    let l = c .before .before .before .before .before .before .before .before .before .before .loop in
+    let block = c .before .before .before .before .before .before .before .before .block in
+    let loop-test = c .before .before .before .before .before .before .before .before .before .loop-test in
+    let h : l .i + block .result ≤ length (c .before .before .before .before .before .before .before .before .before .before .before .before .before .before .before .before .before .args .words .now) = omega (arith, block .ensures, loop-test .taken) in
+    (steps _ _ _ _ _ _ _ _ (l .inv .0) (block .result) h (c .before .before .before .before .before .before .fill-tags .ensures), steps _ _ _ _ _ _ _ _ (l .inv .1) (block .result) h (c .before .before .fill-tagged-words .ensures))
 
 same-length : tie.Need-same-length Inv-loop μ-loop
 same-length c = c .before .loop .inv .0 .size ∙ sym (c .before .before .before .before .if1 .left)
@@ -98,5 +113,29 @@ returns-3 c =
 pub fill-cells-spec : {M : Type 1} → statement M
 fill-cells-spec =
     tie.close
-    (tie.spec Inv-loop μ-loop returns left-from-requires returns-2 loop-holds shared-slice-read-tags slice-write-tags add-get-word
-    get-word-requires mul-words slice-write-words add-p add-i loop-less loop-again same-length same-length-2 returns-3)
+    (tie.spec
+    Inv-loop
+    μ-loop
+    returns
+    left-from-requires
+    returns-2
+    loop-holds
+    sub-block
+    block-requires
+    add-end
+    sub-fill-tags
+    part-fill-tags-start
+    part-fill-tags-end
+    fill-tags-requires
+    mul-fill-tagged-words
+    sub-fill-tagged-words
+    part-fill-tagged-words-start
+    part-fill-tagged-words-end
+    fill-tagged-words-requires
+    mul-p
+    add-p
+    loop-less
+    loop-again
+    same-length
+    same-length-2
+    returns-3)

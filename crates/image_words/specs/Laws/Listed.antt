@@ -1,7 +1,8 @@
 -- Values at every so many bytes.
-use Prim.Native.Nat.{ℕ, zero, suc, _+_, _-_, _≤_, _<_}
+use Prim.Native.Nat.{ℕ, zero, suc, _+_, _-_, _*_, _≤_, _<_}
 use mathlib.Core.Path.{_≡_, refl, ap, ap₂, _∙_}
-use mathlib.Core.List.{List, [], _∷_, map}
+use mathlib.Core.List.{List, [], _∷_, _++_, map}
+use native.Mathlib.Nat.{zero-add, add-zero, suc-add, mul-zero, mul-suc}
 use native.Mathlib.Omega.{arith}
 use lib.ListN.{length, drop}
 use lib.Seq.{drop-drop}
@@ -21,6 +22,14 @@ module _ {A : Type 0} (stride : ℕ) where
   pub listed-none : (f : ℕ → A) (n at : ℕ) → n ≤ 0 → listed stride f n at ≡ []
   unfolding listed
   listed-none f n at h = let e : n ≡ 0 = omega arith in rw e
+
+  -- the first k of them, and m more
+  pub listed-add : (f : ℕ → A) (k m at : ℕ) → listed stride f (k + m) at ≡ listed stride f k at ++ listed stride f m (at + stride * k)
+  unfolding listed
+  listed-add f zero m at = rw (zero-add m, mul-zero stride, add-zero at)
+  listed-add f (suc k) m at =
+      let q : at + stride + stride * k ≡ at + stride * suc k = rw mul-suc (omega arith) in
+      rw suc-add (ap (λ (l : List A). f at ∷ l) (listed-add f k m (at + stride) ∙ ap (λ (b : ℕ). listed stride f k (at + stride) ++ listed stride f m b) q))
 
   pub map-listed : {B : Type 0} (g : A → B) (f : ℕ → A) (n at : ℕ) → map g (listed stride f n at) ≡ listed stride (λ p. g (f p)) n at
   unfolding listed
