@@ -2,7 +2,7 @@
 ghost use mathlib.Core.Path.{_≡_};
 ghost use mathlib.Core.Bool.{true};
 ghost use Prim.Native.Nat.{_≤_};
-ghost use lib.ListN.{length, take};
+ghost use lib.ListN.{length, take, replicate};
 ghost use Rattle.run.specs.Run.{run};
 ghost use Rattle.run.specs.Schedule.{scheduleRefusal};
 ghost use Rattle.image.specs.Image.{decode};
@@ -19,7 +19,7 @@ use runner::RunAnswer;
 use step::ProcessTable;
 use window::Row;
 
-// A buffer of so many bytes is long enough for every output.
+// No output is longer.
 pub const OUTPUT_ROOM: usize = 512;
 
 // The text of a run on a sound state: its report, or the line of 9 or 10.
@@ -148,6 +148,13 @@ pub fn output(input: &[u8]) -> Text
     }
     let end = 2 + items;
     image_text(&input[2..end], &input[end..])
+}
+
+// A buffer that is long enough for every output.
+pub fn output_buffer() -> [u8; OUTPUT_ROOM]
+    ensures { λ r. ⌜ r ≡ replicate room 0 ⌝ }
+{
+    [0; OUTPUT_ROOM]
 }
 
 // The output goes to the front of a buffer that is long enough. The answer is how many bytes were copied.

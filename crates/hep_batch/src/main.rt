@@ -5,7 +5,7 @@ use libc::STDOUT_FILENO;
 fn main() {
     let mut input = [0; 65537];
     let n = io::read_full(STDIN_FILENO, &mut input);
-    let mut out = [0; batch::OUTPUT_ROOM];
+    let mut out = batch::output_buffer();
     let k = batch::batch(&input[..n], &mut out);
     io::write_all(STDOUT_FILENO, &out[..k]);
 }

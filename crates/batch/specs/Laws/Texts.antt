@@ -5,8 +5,9 @@ use mathlib.Core.Bool.{Bool, true, false, cond}
 use mathlib.Core.Option.{Option, none, some}
 use mathlib.Core.List.{List, _++_}
 use native.Mathlib.Omega.{arith}
+use lib.Dec.{ltb}
 use lib.ListN.{length, take}
-use borrow.Author.Tests.{lt-ltb, le-ltb}
+use borrow.Author.Tests.{lt-ltb, le-ltb, ltb-false}
 use Rattle.refusal.specs.declared.Refusal.{Refusal}
 use Rattle.refusal.specs.declared.Refusal.the-variants.{UnsoundState}
 use Rattle.window.specs.declared.Row.{Row}
@@ -61,3 +62,12 @@ module _ (text buffer : List ℕ) (m n : ℕ) (is : n ≡ length text) (same : m
   pub all-copied : n ≤ m → n ≡ bytesCopied text buffer
   unfolding bytesCopied
   all-copied h = rw (le-ltb (length buffer) (length text) (omega arith)) is
+
+-- never more than the buffer has
+pub copied-fits : (text buffer : List ℕ) (n : ℕ) → n ≡ bytesCopied text buffer → n ≤ length buffer
+unfolding bytesCopied
+copied-fits text buffer n is = go (ltb (length buffer) (length text)) refl is
+  where
+    go : (short : Bool) → ltb (length buffer) (length text) ≡ short → n ≡ cond short 0 (length text) → n ≤ length buffer
+    go true e h = omega arith
+    go false e h = omega (arith, ltb-false (length buffer) (length text) e)
