@@ -51,11 +51,11 @@ fn run_text(
         data_words,
     );
     let answer = x.answer;
-    let rows = x.rows;
-    let table = x.table;
+    let rows_left = x.rows;
+    let table_left = x.table;
     match answer {
         RunAnswer::Refused(e) => reporting::refusal_text(e),
-        RunAnswer::Counted(counts) => reporting::report_text(rows, n, table, counts),
+        RunAnswer::Counted(counts) => reporting::report_text(rows_left, n, table_left, counts),
     }
 }
 
