@@ -20,7 +20,7 @@ use Rattle.image_check.specs.declared.Counted.{Counted}
 use Rattle.image_check.specs.declared.Checked.the-variants.{Sound}
 use Rattle.image_check.specs.Checked.{processesPlace, constantsPlace, registersPlace, programPlace, dataPlace, endPlace, countsOf, checkedOf}
 use Rattle.image_check.specs.Laws.Found.{Found, found}
-use Rattle.image_read.specs.declared.ReadAnswer.the-variants.{Refused, Counts}
+use Rattle.image_read.specs.declared.ReadAnswer.the-variants.{Refused}
 use Rattle.image_read.specs.Read.{ReadBuffers, Read, roomFor, roomIn, readLeaving, refusal, imageReading, filledBuffers, decodedRead, readOf}
 use Rattle.image_read.specs.Laws.Few.{found-few}
 use Rattle.image_read.specs.Laws.Held.{Held, stateRead}
@@ -45,9 +45,9 @@ few-fit z s b f h r =
     let e = f .ends in
     (omega (arith, e, r .constants), omega (arith, e, r .tags), omega (arith, e, r .words), omega (arith, e, r .program), omega (arith, e, r .dataTags), omega (arith, e, r .dataWords))
 
-has-room : (z : Counted) (s : List ℕ) (b : ReadBuffers) → Found z s → length s ≤ 65536 → Roomy b → roomIn z b ≡ true
+room-enough : (z : Counted) (s : List ℕ) (b : ReadBuffers) → Found z s → length s ≤ 65536 → Roomy b → roomIn z b ≡ true
 unfolding roomFor
-has-room z s b f h r =
+room-enough z s b f h r =
     let w = few-fit z s b f h r in
     also (le-leb (z .constants) _ (w .0))
     (also (le-leb (z .registers) _ (w .1))
@@ -71,7 +71,7 @@ module _ (s : List ℕ) where
           → refusalLine e ≡ outputRead l (good i)
       fits i d true m k = let z : _≡_ {A = ℕ} 0 1 = cc in absurd (omega arith)
       fits i d false m k =
-          let t : roomIn (countsOf i) b ≡ true = has-room (countsOf i) s b (found-good i d) h w in
+          let t : roomIn (countsOf i) b ≡ true = room-enough (countsOf i) s b (found-good i d) h w in
           let z : _≡_ {A = ℕ} 0 1 = cc in
           absurd (omega arith)
 
@@ -79,10 +79,10 @@ module _ (s : List ℕ) where
       go (bad x) d k = let p : x ≡ e = cc in rw p
       go (good i) d k = fits i d (roomIn (countsOf i) b) refl k
 
-  run-text : (l : List ℕ) (x : Option Refusal) (i : Image) → runText x (run l (stateOf i)) ≡ outputRun x l i
+  text-of-image : (l : List ℕ) (x : Option Refusal) (i : Image) → runText x (run l (stateOf i)) ≡ outputRun x l i
   unfolding runText outputRun
-  run-text l none i = refl
-  run-text l (some e) i = refl
+  text-of-image l none i = refl
+  text-of-image l (some e) i = refl
 
   -- a state that is held was found sound, and gives the output
   module _ (z : Counted) (r : Read) (x : Held s z r) where
@@ -98,4 +98,4 @@ module _ (s : List ℕ) where
 
     pub text-held : (l : List ℕ) → runText (scheduleRefusal l) (run l (stateRead z r)) ≡ outputRead l (decode s)
     unfolding outputRead
-    text-held l = rw (x .state, x .accepted) (run-text l (scheduleRefusal l) (x .image))
+    text-held l = rw (x .state, x .accepted) (text-of-image l (scheduleRefusal l) (x .image))
