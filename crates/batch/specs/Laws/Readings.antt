@@ -37,7 +37,7 @@ pub record Roomy (b : ReadBuffers) : Type 0 where
   pub dataWords : length (b .dataWords) ≡ 8192
 
 -- each value of these sections has 8 or 9 bytes
-pub few-fit : (z : Counted) (s : List ℕ) (b : ReadBuffers) → Found z s → length s ≤ 65536 → Roomy b
+few-fit : (z : Counted) (s : List ℕ) (b : ReadBuffers) → Found z s → length s ≤ 65536 → Roomy b
     → (z .constants ≤ length (b .constants)) × (z .registers ≤ length (b .tags)) × (z .registers ≤ length (b .words))
     × (z .program ≤ length (b .program)) × (z .data_words ≤ length (b .dataTags)) × (z .data_words ≤ length (b .dataWords))
 unfolding endPlace dataPlace programPlace registersPlace constantsPlace processesPlace
@@ -84,17 +84,23 @@ module _ (s : List ℕ) where
   text-of-image l none i = refl
   text-of-image l (some e) i = refl
 
-  -- a state that is held was found sound, and gives the output
+  -- a state that is held is sound, fits its buffers, and gives the output
   module _ (z : Counted) (r : Read) (x : Held s z r) where
-    pub found-held : Found z s
+    found-held : Found z s
     unfolding checkedOf
     found-held = found s z (ap checkedOf (x .accepted) ∙ ap Sound (sym (x .counts)))
 
-    pub sound-held : Bytes s → soundIn (z .rows) (stateRead z r) ≡ true
+    sound-held : Bytes s → soundIn (z .rows) (stateRead z r) ≡ true
     unfolding soundIn
     sound-held b =
         also (le-leb (z .rows) 7 (found-few z s found-held .0))
         (rw (x .state) (reads-only-sound s b (x .image) (x .accepted)))
+
+    pub ready-held : length s ≤ 65536 → Bytes s → Roomy (r .buffers)
+        → ((z .constants ≤ length (r .buffers .constants)) × (z .registers ≤ length (r .buffers .tags)) × (z .registers ≤ length (r .buffers .words))
+        × (z .program ≤ length (r .buffers .program)) × (z .data_words ≤ length (r .buffers .dataTags)) × (z .data_words ≤ length (r .buffers .dataWords)))
+        × (soundIn (z .rows) (stateRead z r) ≡ true)
+    ready-held h b w = (few-fit z s (r .buffers) found-held h w, sound-held b)
 
     pub text-held : (l : List ℕ) → runText (scheduleRefusal l) (run l (stateRead z r)) ≡ outputRead l (decode s)
     unfolding outputRead
