@@ -1,6 +1,6 @@
 #!/usr/bin/env python3
 """Runs the program hep_batch on many inputs: the fullest ones of each section, random ones, parts of them, and noise. Each output must be that
-of the reference emulator, a report or the line of a refusal that the batch program has, and come at once.
+of the emulator of hep-tools, a report or the line of a refusal that the batch program has, and come at once.
 `rt check hep_batch` builds the program.
 
     python3 tests/batch.py [SEED [COUNT]]
@@ -11,9 +11,8 @@ import re
 import subprocess
 import sys
 
-import emulator
+import hep_tools
 import images
-import inputs
 
 PROGRAM = pathlib.Path(__file__).resolve().parent.parent / "target" / "bin" / "hep_batch"
 LONGEST = 65536                 # bytes of an input
@@ -66,16 +65,17 @@ def longer(data, items):
     return batch_input((schedule * items)[:items], data[end:])
 
 
-def random_case(rng, place):
-    """One in ten has a longer schedule, one is a part of a random input, and one is noise."""
-    data = inputs.random_input(rng)
-    if place % 10 == 7:
-        return longer(data, rng.randrange(2000))
-    if place % 10 == 8:
-        return data[:rng.randrange(len(data))]
-    if place % 10 == 9:
-        return rng.randbytes(rng.randrange(70001))
-    return data
+def random_cases(rng, seed, count):
+    """One in ten has a longer schedule, one is a part of a generated input, and one is noise."""
+    for place, data in enumerate(hep_tools.generated("--small", seed, count)):
+        if place % 10 == 7:
+            yield longer(data, rng.randrange(2000))
+        elif place % 10 == 8:
+            yield data[:rng.randrange(len(data) + 1)]
+        elif place % 10 == 9:
+            yield rng.randbytes(rng.randrange(70001))
+        else:
+            yield data
 
 
 # Runs
@@ -88,9 +88,9 @@ def answered(data):
     return done.stdout if done.returncode == 0 else b"status %d\n" % done.returncode
 
 
-def agrees(data):
+def agrees(data, expected):
     output = answered(data)
-    if ANSWER.fullmatch(output) and output == emulator.batch(data):
+    if ANSWER.fullmatch(output) and output == expected:
         return True
     print(f"batch: {len(data)} bytes, {data[:2000].hex()}\nwritten:\n{output.decode(errors='replace')}")
     return False
@@ -99,9 +99,8 @@ def agrees(data):
 def main():
     seed = int(sys.argv[1]) if len(sys.argv) > 1 else 1
     count = int(sys.argv[2]) if len(sys.argv) > 2 else 5000
-    rng = random.Random(seed)
-    cases = list(stated_inputs()) + [random_case(rng, place) for place in range(count)]
-    differed = sum(not agrees(data) for data in cases)
+    cases = list(stated_inputs()) + list(random_cases(random.Random(seed), seed, count))
+    differed = sum(not agrees(data, output) for data, (output, _) in zip(cases, hep_tools.answers(cases), strict=True))
     print(f"batch: {len(cases)} inputs, {differed} differed")
     sys.exit(1 if differed else 0)
 

@@ -133,7 +133,7 @@ fn image_text(schedule: &[u8], image: &[u8]) -> Text
 }
 
 // The whole output: the report, or the line of a refusal.
-pub fn output(input: &[u8]) -> Text
+fn output(input: &[u8]) -> Text
     ensures { λ r. ⌜ shown r ≡ outputOf (now (input .entry)) ⌝ }
 {
     if 65536 < input.len() {

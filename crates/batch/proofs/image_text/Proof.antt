@@ -1,7 +1,7 @@
 use Prim.Native.Nat.{ℕ}
 use lib.ListN.{length-replicate}
 use native.Mathlib.Omega.{arith}
-use Rattle.batch.specs.Laws.Readings.{Roomy, few-fit, read-refused, found-held, sound-held, text-held}
+use Rattle.batch.specs.Laws.Readings.{Roomy, read-refused, ready-held, text-held}
 use Rattle.image_read.specs.Laws.Held.{held}
 use Rattle.image_read.specs.Read.{buffers}
 use Rattle.image_words.specs.Laws.Fields.{all-bytes}
@@ -60,9 +60,8 @@ slice-aggregate-state-text-6 c = search needs
 
 state-text-requires : tie.Need-state-text-requires
 state-text-requires c κs =
-    let x = held _ _ _ _ (c .before .before .before .before .before .before .before .before .before .before .before .before .before .before .before .read .ensures) (c .before .before .before .before .before .before .before .answer2 .given .1) in
     let w : Roomy (buffers (c .before .before .before .before .before .before .before .before .before .before .before .before .before .before .before .read .last .1 .0) (c .before .before .before .before .before .before .before .before .before .before .before .before .before .before .before .read .last .1 .1 .0) (c .before .before .before .before .before .before .before .before .before .before .before .before .before .before .before .read .last .1 .1 .1 .0) (c .before .before .before .before .before .before .before .before .before .before .before .before .before .before .before .read .last .1 .1 .1 .1 .0) (c .before .before .before .before .before .before .before .before .before .before .before .before .before .before .before .read .last .1 .1 .1 .1 .1 .0) (c .before .before .before .before .before .before .before .before .before .before .before .before .before .before .before .read .last .1 .1 .1 .1 .1 .1 .0)) = record { constants = search needs; tags = search needs; words = search needs; program = search needs; dataTags = search needs; dataWords = search needs } in
-    (few-fit _ _ (buffers (c .before .before .before .before .before .before .before .before .before .before .before .before .before .before .before .read .last .1 .0) (c .before .before .before .before .before .before .before .before .before .before .before .before .before .before .before .read .last .1 .1 .0) (c .before .before .before .before .before .before .before .before .before .before .before .before .before .before .before .read .last .1 .1 .1 .0) (c .before .before .before .before .before .before .before .before .before .before .before .before .before .before .before .read .last .1 .1 .1 .1 .0) (c .before .before .before .before .before .before .before .before .before .before .before .before .before .before .before .read .last .1 .1 .1 .1 .1 .0) (c .before .before .before .before .before .before .before .before .before .before .before .before .before .before .before .read .last .1 .1 .1 .1 .1 .1 .0)) (found-held _ _ _ x) (c .before .before .before .before .before .before .before .before .before .before .before .before .before .before .before .before .before .before .before .before .before .before .before .before .pre) w, sound-held _ _ _ x (all-bytes _ (λ i. omega (arith, c .before .before .before .before .before .before .before .before .before .before .before .before .before .before .before .before .before .before .before .before .before .before .shared-slice-known2 .given i))))
+    ready-held _ _ _ (held _ _ _ _ (c .before .before .before .before .before .before .before .before .before .before .before .before .before .before .before .read .ensures) (c .before .before .before .before .before .before .before .answer2 .given .1)) (c .before .before .before .before .before .before .before .before .before .before .before .before .before .before .before .before .before .before .before .before .before .before .before .before .pre) (all-bytes _ (λ i. omega (arith, c .before .before .before .before .before .before .before .before .before .before .before .before .before .before .before .before .before .before .before .before .before .before .shared-slice-known2 .given i))) w
 
 returns : tie.Need-returns
 returns c =
@@ -70,9 +69,7 @@ returns c =
     c .refusal-text .ensures ∙ read-refused _ _ _ _ _ (c .before .before .before .before .before .before .before .before .before .before .before .before .before .before .before .before .before .before .before .pre) (record { constants = k; tags = k; words = k; program = k; dataTags = k; dataWords = k }) (c .before .before .before .before .before .before .before .before .before .before .read .ensures) (c .before .before .answer .given .1)
 
 returns-2 : tie.Need-returns-2
-returns-2 c =
-    let x = held _ _ _ _ (c .before .before .before .before .before .before .before .before .before .before .before .before .before .before .before .before .before .before .before .before .read .ensures) (c .before .before .before .before .before .before .before .before .before .before .before .before .answer2 .given .1) in
-    c .before .before .before .before .state-text .ensures ∙ text-held _ _ _ x _
+returns-2 c = c .before .before .before .before .state-text .ensures ∙ text-held _ _ _ (held _ _ _ _ (c .before .before .before .before .before .before .before .before .before .before .before .before .before .before .before .before .before .before .before .before .read .ensures) (c .before .before .before .before .before .before .before .before .before .before .before .before .answer2 .given .1)) _
 
 pub image-text-spec : {M : Type 1} → statement M
 image-text-spec =

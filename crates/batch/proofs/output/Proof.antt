@@ -1,5 +1,4 @@
-use Prim.Native.Nat.{_+_, _-_}
-use Rattle.batch.specs.Laws.Schedule.{too-long, count-missing, items-missing, schedule-whole}
+use Rattle.batch.specs.Laws.Input.{input-too-long, count-missing, items-missing, schedule-whole}
 use Rattle.image_words.specs.Reading.{numberAt}
 use Rattle.image.specs.Codec.{field}
 use native.Mathlib.Omega.{arith}
@@ -12,7 +11,7 @@ refusal-text-requires : tie.Need-refusal-text-requires
 refusal-text-requires c κs = search needs
 
 returns : tie.Need-returns
-returns c = c .refusal-text .ensures ∙ sym (too-long _ (c .before .if1 .taken))
+returns c = c .refusal-text .ensures ∙ sym (input-too-long _ (c .before .if1 .taken))
 
 refusal-text-requires-2 : tie.Need-refusal-text-requires-2
 refusal-text-requires-2 c κs = search needs

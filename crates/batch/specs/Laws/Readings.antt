@@ -20,7 +20,7 @@ use Rattle.image_check.specs.declared.Counted.{Counted}
 use Rattle.image_check.specs.declared.Checked.the-variants.{Sound}
 use Rattle.image_check.specs.Checked.{processesPlace, constantsPlace, registersPlace, programPlace, dataPlace, endPlace, countsOf, checkedOf}
 use Rattle.image_check.specs.Laws.Found.{Found, found}
-use Rattle.image_read.specs.declared.ReadAnswer.the-variants.{Refused, Counts}
+use Rattle.image_read.specs.declared.ReadAnswer.the-variants.{Refused}
 use Rattle.image_read.specs.Read.{ReadBuffers, Read, roomFor, roomIn, readLeaving, refusal, imageReading, filledBuffers, decodedRead, readOf}
 use Rattle.image_read.specs.Laws.Few.{found-few}
 use Rattle.image_read.specs.Laws.Held.{Held, stateRead}
@@ -37,7 +37,7 @@ pub record Roomy (b : ReadBuffers) : Type 0 where
   pub dataWords : length (b .dataWords) ≡ 8192
 
 -- each value of these sections has 8 or 9 bytes
-pub few-fit : (z : Counted) (s : List ℕ) (b : ReadBuffers) → Found z s → length s ≤ 65536 → Roomy b
+few-fit : (z : Counted) (s : List ℕ) (b : ReadBuffers) → Found z s → length s ≤ 65536 → Roomy b
     → (z .constants ≤ length (b .constants)) × (z .registers ≤ length (b .tags)) × (z .registers ≤ length (b .words))
     × (z .program ≤ length (b .program)) × (z .data_words ≤ length (b .dataTags)) × (z .data_words ≤ length (b .dataWords))
 unfolding endPlace dataPlace programPlace registersPlace constantsPlace processesPlace
@@ -45,9 +45,9 @@ few-fit z s b f h r =
     let e = f .ends in
     (omega (arith, e, r .constants), omega (arith, e, r .tags), omega (arith, e, r .words), omega (arith, e, r .program), omega (arith, e, r .dataTags), omega (arith, e, r .dataWords))
 
-has-room : (z : Counted) (s : List ℕ) (b : ReadBuffers) → Found z s → length s ≤ 65536 → Roomy b → roomIn z b ≡ true
+room-enough : (z : Counted) (s : List ℕ) (b : ReadBuffers) → Found z s → length s ≤ 65536 → Roomy b → roomIn z b ≡ true
 unfolding roomFor
-has-room z s b f h r =
+room-enough z s b f h r =
     let w = few-fit z s b f h r in
     also (le-leb (z .constants) _ (w .0))
     (also (le-leb (z .registers) _ (w .1))
@@ -71,7 +71,7 @@ module _ (s : List ℕ) where
           → refusalLine e ≡ outputRead l (good i)
       fits i d true m k = let z : _≡_ {A = ℕ} 0 1 = cc in absurd (omega arith)
       fits i d false m k =
-          let t : roomIn (countsOf i) b ≡ true = has-room (countsOf i) s b (found-good i d) h w in
+          let t : roomIn (countsOf i) b ≡ true = room-enough (countsOf i) s b (found-good i d) h w in
           let z : _≡_ {A = ℕ} 0 1 = cc in
           absurd (omega arith)
 
@@ -79,23 +79,29 @@ module _ (s : List ℕ) where
       go (bad x) d k = let p : x ≡ e = cc in rw p
       go (good i) d k = fits i d (roomIn (countsOf i) b) refl k
 
-  run-text : (l : List ℕ) (x : Option Refusal) (i : Image) → runText x (run l (stateOf i)) ≡ outputRun x l i
+  text-of-image : (l : List ℕ) (x : Option Refusal) (i : Image) → runText x (run l (stateOf i)) ≡ outputRun x l i
   unfolding runText outputRun
-  run-text l none i = refl
-  run-text l (some e) i = refl
+  text-of-image l none i = refl
+  text-of-image l (some e) i = refl
 
-  -- a state that is held was found sound, and gives the output
+  -- a state that is held is sound, fits its buffers, and gives the output
   module _ (z : Counted) (r : Read) (x : Held s z r) where
-    pub found-held : Found z s
+    found-held : Found z s
     unfolding checkedOf
     found-held = found s z (ap checkedOf (x .accepted) ∙ ap Sound (sym (x .counts)))
 
-    pub sound-held : Bytes s → soundIn (z .rows) (stateRead z r) ≡ true
+    sound-held : Bytes s → soundIn (z .rows) (stateRead z r) ≡ true
     unfolding soundIn
     sound-held b =
         also (le-leb (z .rows) 7 (found-few z s found-held .0))
         (rw (x .state) (reads-only-sound s b (x .image) (x .accepted)))
 
+    pub ready-held : length s ≤ 65536 → Bytes s → Roomy (r .buffers)
+        → ((z .constants ≤ length (r .buffers .constants)) × (z .registers ≤ length (r .buffers .tags)) × (z .registers ≤ length (r .buffers .words))
+        × (z .program ≤ length (r .buffers .program)) × (z .data_words ≤ length (r .buffers .dataTags)) × (z .data_words ≤ length (r .buffers .dataWords)))
+        × (soundIn (z .rows) (stateRead z r) ≡ true)
+    ready-held h b w = (few-fit z s (r .buffers) found-held h w, sound-held b)
+
     pub text-held : (l : List ℕ) → runText (scheduleRefusal l) (run l (stateRead z r)) ≡ outputRead l (decode s)
     unfolding outputRead
-    text-held l = rw (x .state, x .accepted) (run-text l (scheduleRefusal l) (x .image))
+    text-held l = rw (x .state, x .accepted) (text-of-image l (scheduleRefusal l) (x .image))

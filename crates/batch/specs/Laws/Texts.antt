@@ -6,17 +6,14 @@ use mathlib.Core.Option.{Option, none, some}
 use mathlib.Core.List.{List, _++_}
 use native.Mathlib.Omega.{arith}
 use lib.Dec.{ltb}
-use lib.ListN.{length, take}
+use lib.ListN.{length}
 use borrow.Author.Tests.{lt-ltb, le-ltb, ltb-false}
 use Rattle.refusal.specs.declared.Refusal.{Refusal}
-use Rattle.refusal.specs.declared.Refusal.the-variants.{UnsoundState}
-use Rattle.window.specs.declared.Row.{Row}
-use Rattle.step.specs.declared.ProcessTable.{ProcessTable}
 use Rattle.step.specs.State.{State}
 use Rattle.run.specs.declared.Counts.{Counts}
 use Rattle.run.specs.Run.{Ran, run}
 use Rattle.run.specs.Schedule.{scheduleRefusal}
-use Rattle.soundness.specs.Held.{stateIn, soundIn}
+use Rattle.soundness.specs.Held.{soundIn}
 use Rattle.runner.specs.declared.RunAnswer.{RunAnswer}
 use Rattle.runner.specs.declared.RunAnswer.the-variants.{Refused, Counted}
 use Rattle.runner.specs.Answer.{runRefusalIn, answerOf, leftBy, answerIn, stateLeft}

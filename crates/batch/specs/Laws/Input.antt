@@ -16,21 +16,21 @@ use Rattle.report.specs.Report.{refusalLine, itemCodec, scheduleCodec, outputRe
 abbrev itemsFrom : (n : ℕ) → List ℕ → Result (List ℕ)
 itemsFrom n b = decMany (λ _. itemCodec) noState tt n b
 
-item : (x : ℕ) (b : List ℕ) → itemCodec .dec (x ∷ b) ≡ accepted x b
+item-read : (x : ℕ) (b : List ℕ) → itemCodec .dec (x ∷ b) ≡ accepted x b
 unfolding itemCodec num field number
-item x b = let e : 0 * 256 + x ≡ x = omega arith in rw (le-ltb (suc (length b)) 1 (omega arith), e)
+item-read x b = let e : 0 * 256 + x ≡ x = omega arith in rw (le-ltb (suc (length b)) 1 (omega arith), e)
 
 items-whole : (n : ℕ) (b : List ℕ) → n ≤ length b → itemsFrom n b ≡ accepted (take n b) (drop n b)
 unfolding decMany bind
 items-whole zero b h = refl
 items-whole (suc n) [] h = absurd (omega arith)
-items-whole (suc n) (x ∷ b) h = rw (item x b, items-whole n b (omega arith))
+items-whole (suc n) (x ∷ b) h = rw (item-read x b, items-whole n b (omega arith))
 
 items-short : (n : ℕ) (b : List ℕ) → length b < n → itemsFrom n b ≡ refused InputEnds
 unfolding decMany bind itemCodec num
 items-short zero b h = absurd (omega arith)
 items-short (suc n) [] h = refl
-items-short (suc n) (x ∷ b) h = rw (item x b, items-short n b (omega arith))
+items-short (suc n) (x ∷ b) h = rw (item-read x b, items-short n b (omega arith))
 
 -- ---- the schedule
 
@@ -46,22 +46,22 @@ module _ (s : List ℕ) where
 
   -- ---- the output
 
-  pub too-long : 65536 < length s → outputOf s ≡ refusalLine InputTooLong
+  pub input-too-long : 65536 < length s → outputOf s ≡ refusalLine InputTooLong
   unfolding outputOf
-  too-long h = rw (lt-ltb 65536 (length s) h)
+  input-too-long h = rw (lt-ltb 65536 (length s) h)
 
-  scheduled : (x : Result (List ℕ)) → length s ≤ 65536 → scheduleCodec .dec s ≡ x → outputOf s ≡ outputScheduled x
+  output-scheduled : (x : Result (List ℕ)) → length s ≤ 65536 → scheduleCodec .dec s ≡ x → outputOf s ≡ outputScheduled x
   unfolding outputOf
-  scheduled x h e = rw (le-ltb 65536 (length s) h, e)
+  output-scheduled x h e = rw (le-ltb 65536 (length s) h, e)
 
   pub count-missing : length s ≤ 65536 → length s < 2 → outputOf s ≡ refusalLine InputEnds
   unfolding outputScheduled
-  count-missing h k = scheduled (refused InputEnds) h (no-count k)
+  count-missing h k = output-scheduled (refused InputEnds) h (no-count k)
 
   pub items-missing : length s ≤ 65536 → 2 ≤ length s → field 2 s ≤ 65535 → length s - 2 < field 2 s → outputOf s ≡ refusalLine InputEnds
   unfolding outputScheduled
   items-missing h k f m =
-      scheduled (refused InputEnds) h (schedule-of _ k f (items-short (field 2 s) (drop 2 s) (omega (arith, length-drop 2 s))))
+      output-scheduled (refused InputEnds) h (schedule-of _ k f (items-short (field 2 s) (drop 2 s) (omega (arith, length-drop 2 s))))
 
   -- the items, and the image behind them
   pub schedule-whole : (n : ℕ) → n ≡ field 2 s → length s ≤ 65536 → 2 ≤ length s → n ≤ 65535 → n ≤ length s - 2
@@ -72,5 +72,5 @@ module _ (s : List ℕ) where
       let image : take (length s - (2 + n)) (drop (2 + n) s) ≡ drop (2 + n) s =
       take-all (length s - (2 + n)) (drop (2 + n) s) (omega (arith, length-drop (2 + n) s)) in
       let whole : itemsFrom n (drop 2 s) ≡ accepted (take n (drop 2 s)) (drop n (drop 2 s)) = items-whole n (drop 2 s) (omega (arith, length-drop 2 s)) in
-      let read = scheduled (accepted _ _) h (schedule-of _ k (omega arith) (ap (λ (j : ℕ). itemsFrom j (drop 2 s)) (sym e) ∙ whole)) in
+      let read = output-scheduled (accepted _ _) h (schedule-of _ k (omega arith) (ap (λ (j : ℕ). itemsFrom j (drop 2 s)) (sym e) ∙ whole)) in
       rw (items, image, ← drop-drop n 2 s) (sym read)
