@@ -396,88 +396,62 @@ fn read_into(
     print(b"\n");
 }
 
+fn least(n: usize, most: usize) -> usize
+    ensures { λ r. ⌜ r ≤ most ⌝ }
+{
+    if n < most { n } else { most }
+}
+
+// Reads into buffers of so many places, of which there is one more than the image needs.
+fn read_trial(
+    image: &[u8],
+    constants_room: usize,
+    tags_room: usize,
+    words_room: usize,
+    program_room: usize,
+    data_tags_room: usize,
+    data_words_room: usize,
+) {
+    let mut constants = [WORD_MARK; 4];
+    let mut tags = [MARK; 9];
+    let mut words = [WORD_MARK; 9];
+    let mut program = [WORD_MARK; 17];
+    let mut data_tags = [MARK; 33];
+    let mut data_words = [WORD_MARK; 33];
+    let constants_room = least(constants_room, 4);
+    let tags_room = least(tags_room, 9);
+    let words_room = least(words_room, 9);
+    let program_room = least(program_room, 17);
+    let data_tags_room = least(data_tags_room, 33);
+    let data_words_room = least(data_words_room, 33);
+    read_into(
+        image,
+        &mut constants[..constants_room],
+        &mut tags[..tags_room],
+        &mut words[..words_room],
+        &mut program[..program_room],
+        &mut data_tags[..data_tags_room],
+        &mut data_words[..data_words_room],
+    );
+}
+
 fn read_trials(image: &[u8]) {
-    let m = WORD_MARK;
     print(b"read: ");
-    read_into(
-        image,
-        &mut [m; 3],
-        &mut [MARK; 8],
-        &mut [m; 8],
-        &mut [m; 16],
-        &mut [MARK; 32],
-        &mut [m; 32],
-    );
+    read_trial(image, 3, 8, 8, 16, 32, 32);
     print(b"read, all one longer: ");
-    read_into(
-        image,
-        &mut [m; 4],
-        &mut [MARK; 9],
-        &mut [m; 9],
-        &mut [m; 17],
-        &mut [MARK; 33],
-        &mut [m; 33],
-    );
+    read_trial(image, 4, 9, 9, 17, 33, 33);
     print(b"read, constants short: ");
-    read_into(
-        image,
-        &mut [m; 2],
-        &mut [MARK; 8],
-        &mut [m; 8],
-        &mut [m; 16],
-        &mut [MARK; 32],
-        &mut [m; 32],
-    );
+    read_trial(image, 2, 8, 8, 16, 32, 32);
     print(b"read, tags short: ");
-    read_into(
-        image,
-        &mut [m; 3],
-        &mut [MARK; 7],
-        &mut [m; 8],
-        &mut [m; 16],
-        &mut [MARK; 32],
-        &mut [m; 32],
-    );
+    read_trial(image, 3, 7, 8, 16, 32, 32);
     print(b"read, words short: ");
-    read_into(
-        image,
-        &mut [m; 3],
-        &mut [MARK; 8],
-        &mut [m; 7],
-        &mut [m; 16],
-        &mut [MARK; 32],
-        &mut [m; 32],
-    );
+    read_trial(image, 3, 8, 7, 16, 32, 32);
     print(b"read, program short: ");
-    read_into(
-        image,
-        &mut [m; 3],
-        &mut [MARK; 8],
-        &mut [m; 8],
-        &mut [m; 15],
-        &mut [MARK; 32],
-        &mut [m; 32],
-    );
+    read_trial(image, 3, 8, 8, 15, 32, 32);
     print(b"read, data states short: ");
-    read_into(
-        image,
-        &mut [m; 3],
-        &mut [MARK; 8],
-        &mut [m; 8],
-        &mut [m; 16],
-        &mut [MARK; 31],
-        &mut [m; 32],
-    );
+    read_trial(image, 3, 8, 8, 16, 31, 32);
     print(b"read, data words short: ");
-    read_into(
-        image,
-        &mut [m; 3],
-        &mut [MARK; 8],
-        &mut [m; 8],
-        &mut [m; 16],
-        &mut [MARK; 32],
-        &mut [m; 31],
-    );
+    read_trial(image, 3, 8, 8, 16, 32, 31);
 }
 
 fn read_state() {
