@@ -1,4 +1,4 @@
-// The public library: reading, running and writing a state that lies in lent buffers. Its calls come with their proofs.
+// States in lent buffers: what each call of the library answers and leaves is defined here.
 
 // The counts of a state's fields in its buffers: so many of the first places of each are the state.
 pub struct Sizes {
