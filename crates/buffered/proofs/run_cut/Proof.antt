@@ -61,9 +61,10 @@ returns c =
     let a = s .args in
     let x = c .before .before .before .before .before .before .before .before .before .before .run in
     let k = x .kept .1 .1 .1 .1 .1 .1 in
-    let seven = sym (length-map (a .rows .at) _) ∙ s .good .0 .1 .1 .0 .1 .0 .1 in
-    (run-cuts (a .rows) (a .table) (a .constants .now) (a .tags .now) (a .words .now) (a .program .now) (a .data-tags .now) (a .data-words .now) (a .n) (a .schedule .now) (x .result) _ _ _ _ seven (s .pre) (k .0) (k .1 .0) (k .1 .1 .0) (k .1 .1 .1 .0) (x .ensures .0) (x .ensures .1) (x .ensures .2),
-    record { count = refl; places = rows-left (a .rows) (a .table) (a .constants .now) (a .tags .now) (a .words .now) (a .program .now) (a .data-tags .now) (a .data-words .now) (a .n) (a .schedule .now) (x .result) _ _ _ _ seven (s .pre) (x .ensures .1) (x .ensures .2) })
+    let seven = sym (length-map (a .rows .at) _) ∙ s .good .0 .1 .1 .0 .1 .0 .1 in (
+      run-cuts (a .rows) (a .table) (a .constants .now) (a .tags .now) (a .words .now) (a .program .now) (a .data-tags .now) (a .data-words .now) (a .n) (a .schedule .now) (x .result) _ _ _ _ seven (s .pre) (k .0) (k .1 .0) (k .1 .1 .0) (k .1 .1 .1 .0) (x .ensures .0) (x .ensures .1) (x .ensures .2),
+      record { count = refl; places = rows-left (a .rows) (a .table) (a .constants .now) (a .tags .now) (a .words .now) (a .program .now) (a .data-tags .now) (a .data-words .now) (a .n) (a .schedule .now) (x .result) _ _ _ _ seven (s .pre) (x .ensures .1) (x .ensures .2) },
+    )
 
 pub run-cut-spec : {M : Type 1} → statement M
 run-cut-spec =

@@ -7,7 +7,6 @@ use mathlib.Core.List.{List, _++_}
 use native.Mathlib.Omega.{arith}
 use lib.Dec.{leb}
 use lib.ListN.{length, take, drop, length-take, length-drop}
-use lib.Seq.{take-take}
 use borrow.Author.Tests.{le-leb}
 use Rattle.refusal.specs.declared.Refusal.{Refusal}
 use Rattle.refusal.specs.declared.Refusal.the-variants.{UnsoundState}
@@ -27,8 +26,9 @@ use Rattle.calls.specs.declared.Sizes.{Sizes}
 use Rattle.calls.specs.Buffers.{Buffers, Room, roomOf, fits, fieldsIn, holding}
 use Rattle.calls.specs.Calls.{unless, leaving, stateRefusal, orElse, runRefusal, runAnswer, runLeaves}
 use Rattle.buffered.specs.declared.Rows.{Rows}
-use Rattle.buffered.specs.Held.{lentBuffers, room, heldRows}
+use Rattle.buffered.specs.Held.{lentBuffers, heldRows}
 use Rattle.buffered.specs.Promises.{runAnswered, RunPromise}
+use Rattle.buffered.specs.Laws.Cut.{before, lengths, room-held, cut, cut-fields}
 use Rattle.buffered.specs.Laws.Places.{Fitting, fitting, over-first, over-cut, over-places}
 
 -- the state's fields put back leave the buffers as they are
@@ -72,31 +72,19 @@ run-kept n b l r b′ f q e k =
 -- ---- rows by value, and slices cut to their counts
 
 module _ (v : Rows) (table : ProcessTable) (constants tags words program dataTags dataWords : List ℕ) (n : Sizes) where
-  abbrev before : Buffers
-  before = lentBuffers (heldRows v) table constants tags words program dataTags dataWords
+  abbrev held : Buffers
+  held = before v table constants tags words program dataTags dataWords
 
-  abbrev lengths : Room
-  lengths = room (min (v .n) 7) (length constants) (length tags) (length words) (length program) (length dataTags) (length dataWords)
+  abbrev room-lengths : Room
+  room-lengths = lengths v table constants tags words program dataTags dataWords
 
-  -- the lengths that are tested
-  pub room-held : length (v .at) ≡ 7 → roomOf before ≡ lengths
-  unfolding roomOf heldRows
-  room-held e = rw (length-take (v .n) (v .at), e)
+  abbrev given : State
+  given = cut v table constants tags words program dataTags dataWords n
 
-  abbrev cut : State
-  cut =
-      stateIn (v .at) (n .rows) table (take (n .constants) constants) (take (n .registers) tags) (take (n .registers) words) (take (n .program) program)
-      (take (n .data_words) dataTags) (take (n .data_words) dataWords)
-
-  -- what is cut is the state
-  pub cut-fields : n .rows ≤ v .n → cut ≡ fieldsIn n before
-  unfolding stateIn fieldsIn heldRows
-  cut-fields h = rw (take-take (n .rows) (v .n) (v .at) h)
-
-  -- no count above its buffers: 8
-  pub run-unfit : (l : List ℕ) → length (v .at) ≡ 7 → fits n lengths ≡ false → RunPromise n before l (Refused UnsoundState) before
+  -- a count above its buffers: 8
+  pub run-unfit : (l : List ℕ) → length (v .at) ≡ 7 → fits n room-lengths ≡ false → RunPromise n held l (Refused UnsoundState) held
   unfolding runAnswered runAnswer runLeaves runRefusal stateRefusal orElse unless leaving
-  run-unfit l e q = let f : fits n (roomOf before) ≡ false = ap (fits n) (room-held e) ∙ q in record { answer = rw f; leaves = rw f }
+  run-unfit l e q = let f : fits n (roomOf held) ≡ false = ap (fits n) (room-held v table constants tags words program dataTags dataWords e) ∙ q in record { answer = rw f; leaves = rw f }
 
   module _ (l : List ℕ) (x : Ran) (tags′ words′ dataTags′ dataWords′ : List ℕ) where
     abbrev cutAfter : State
@@ -107,7 +95,7 @@ module _ (v : Rows) (table : ProcessTable) (constants tags words program dataTag
         lentBuffers (take (v .n) (x .rows)) (x .table) constants (tags′ ++ drop (n .registers) tags) (words′ ++ drop (n .registers) words) program
         (dataTags′ ++ drop (n .data_words) dataTags) (dataWords′ ++ drop (n .data_words) dataWords)
 
-    held-after : length (v .at) ≡ 7 → length (x .rows) ≡ 7 → Fitting n lengths → length tags′ ≡ length (take (n .registers) tags) → length words′ ≡ length (take (n .registers) words) → length dataTags′ ≡ length (take (n .data_words) dataTags) → length dataWords′ ≡ length (take (n .data_words) dataWords) → drop (n .rows) (x .rows) ≡ drop (n .rows) (v .at) → after ≡ holding cutAfter before
+    held-after : length (v .at) ≡ 7 → length (x .rows) ≡ 7 → Fitting n room-lengths → length tags′ ≡ length (take (n .registers) tags) → length words′ ≡ length (take (n .registers) words) → length dataTags′ ≡ length (take (n .data_words) dataTags) → length dataWords′ ≡ length (take (n .data_words) dataWords) → drop (n .rows) (x .rows) ≡ drop (n .rows) (v .at) → after ≡ holding cutAfter held
     unfolding holding stateIn heldRows
     held-after e i f k₁ k₂ k₃ k₄ d =
         let h : n .rows ≤ min (v .n) 7 = f .rows in
@@ -122,12 +110,11 @@ module _ (v : Rows) (table : ProcessTable) (constants tags words program dataTag
         )
 
     -- there are seven rows still
-    pub rows-left : length (v .at) ≡ 7 → fits n lengths ≡ true → cutAfter ≡ stateLeft (n .rows) cut l → drop (n .rows) (x .rows) ≡ drop (n .rows) (v .at) → length (x .rows) ≡ 7
+    pub rows-left : length (v .at) ≡ 7 → fits n room-lengths ≡ true → cutAfter ≡ stateLeft (n .rows) given l → drop (n .rows) (x .rows) ≡ drop (n .rows) (v .at) → length (x .rows) ≡ 7
     unfolding stateIn stateLeft leftBy
     rows-left e q s d =
-        let h : n .rows ≤ min (v .n) 7 = fitting n lengths q .rows in
-        let kept : (o : Option Refusal) → length (leftBy o cut (run l cut) .rows) ≡ length (cut .rows) = λ o. same o in
-        let t : length (take (n .rows) (x .rows)) ≡ length (take (n .rows) (v .at)) = ap (λ (y : State). length (y .rows)) s ∙ kept (runRefusalIn (n .rows) cut l) in
+        let h : n .rows ≤ min (v .n) 7 = fitting n room-lengths q .rows in
+        let t : length (take (n .rows) (x .rows)) ≡ length (take (n .rows) (v .at)) = ap (λ (y : State). length (y .rows)) s ∙ same (runRefusalIn (n .rows) given l) in
         omega (
           arith,
           e,
@@ -140,17 +127,17 @@ module _ (v : Rows) (table : ProcessTable) (constants tags words program dataTag
           ap length d,
         )
       where
-        same : (o : Option Refusal) → length (leftBy o cut (run l cut) .rows) ≡ length (cut .rows)
-        same none = run-lengths l cut .rows
+        same : (o : Option Refusal) → length (leftBy o given (run l given) .rows) ≡ length (given .rows)
+        same none = run-lengths l given .rows
         same (some e) = refl
 
     -- what the runner promises of the cut slices is what is promised of the buffers
-    pub run-cuts : length (v .at) ≡ 7 → fits n lengths ≡ true → length tags′ ≡ length (take (n .registers) tags) → length words′ ≡ length (take (n .registers) words) → length dataTags′ ≡ length (take (n .data_words) dataTags) → length dataWords′ ≡ length (take (n .data_words) dataWords) → x .answer ≡ answerIn (n .rows) cut l → cutAfter ≡ stateLeft (n .rows) cut l
-        → drop (n .rows) (x .rows) ≡ drop (n .rows) (v .at) → RunPromise n before l (x .answer) after
+    pub run-cuts : length (v .at) ≡ 7 → fits n room-lengths ≡ true → length tags′ ≡ length (take (n .registers) tags) → length words′ ≡ length (take (n .registers) words) → length dataTags′ ≡ length (take (n .data_words) dataTags) → length dataWords′ ≡ length (take (n .data_words) dataWords) → x .answer ≡ answerIn (n .rows) given l → cutAfter ≡ stateLeft (n .rows) given l
+        → drop (n .rows) (x .rows) ≡ drop (n .rows) (v .at) → RunPromise n held l (x .answer) after
     run-cuts e q k₁ k₂ k₃ k₄ a s d =
-        let f = fitting n lengths q in
+        let f = fitting n room-lengths q in
         let h : n .rows ≤ min (v .n) 7 = f .rows in
-        let c = cut-fields (omega (arith, h)) in
-        let t : fits n (roomOf before) ≡ true = ap (fits n) (room-held e) ∙ q in
-        run-kept n before l (x .answer) after (fitting n (roomOf before) t) (run-refusals n before l t (omega (arith, h)))
-        (a ∙ ap (λ (y : State). answerIn (n .rows) y l) c) (held-after e (rows-left e q s d) f k₁ k₂ k₃ k₄ d ∙ ap (λ (y : State). holding y before) (s ∙ ap (λ (y : State). stateLeft (n .rows) y l) c))
+        let c = cut-fields v table constants tags words program dataTags dataWords n (omega (arith, h)) in
+        let t : fits n (roomOf held) ≡ true = ap (fits n) (room-held v table constants tags words program dataTags dataWords e) ∙ q in
+        run-kept n held l (x .answer) after (fitting n (roomOf held) t) (run-refusals n held l t (omega (arith, h)))
+        (a ∙ ap (λ (y : State). answerIn (n .rows) y l) c) (held-after e (rows-left e q s d) f k₁ k₂ k₃ k₄ d ∙ ap (λ (y : State). holding y held) (s ∙ ap (λ (y : State). stateLeft (n .rows) y l) c))
