@@ -6,7 +6,7 @@ use lib.ListN.{length, take}
 use Rattle.window.specs.declared.Row.{Row}
 use Rattle.step.specs.declared.ProcessTable.{ProcessTable}
 use Rattle.calls.specs.Buffers.{Buffers, Room}
-use Rattle.buffered.specs.declared.Rows.{Rows}
+use Rattle.calls.specs.declared.Rows.{Rows}
 
 abbrev pub lentBuffers : List Row → ProcessTable → (constants tags words program dataTags dataWords : List ℕ) → Buffers
 lentBuffers rows table constants tags words program dataTags dataWords = record {

@@ -12,7 +12,7 @@ use Rattle.image_read.specs.declared.Reading.{Reading}
 use Rattle.image_read.specs.declared.ReadAnswer.{ReadAnswer}
 use Rattle.image_read.specs.declared.ReadAnswer.the-variants.{Refused as RefusedReading, Counts}
 use Rattle.calls.specs.declared.Sizes.{Sizes}
-use Rattle.buffered.specs.declared.Rows.{Rows}
+use Rattle.calls.specs.declared.Rows.{Rows}
 use Rattle.buffered.specs.declared.AfterRead.{AfterRead}
 use Rattle.buffered.specs.declared.SizesRead.the-variants.{Refused, Read}
 

@@ -10,6 +10,7 @@ ghost use Rattle.buffered.specs.declared.SizesRead.the-variants.{Refused
 ghost use Rattle.buffered.specs.Held.{room, heldRows, lentBuffers, SamePlaces};
 ghost use Rattle.buffered.specs.Promises.{ReadPromise, RunPromise, WritePromise};
 ghost use Rattle.buffered.specs.Left.{shortOfRows, readLeft};
+use calls::Rows;
 use calls::Sizes;
 use image_check::Checked;
 use image_read::ReadAnswer;
@@ -19,12 +20,6 @@ use refusal::Refusal;
 use runner::RunAnswer;
 use step::ProcessTable;
 use window::Row;
-
-// Rows by value: the first n of seven.
-pub struct Rows {
-    pub at: [Row; 7],
-    pub n: usize,
-}
 
 // What a run answers, and what it leaves besides the lent memories.
 pub struct AfterRun {

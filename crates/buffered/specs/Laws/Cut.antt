@@ -9,7 +9,7 @@ use Rattle.step.specs.State.{State}
 use Rattle.soundness.specs.Held.{stateIn}
 use Rattle.calls.specs.declared.Sizes.{Sizes}
 use Rattle.calls.specs.Buffers.{Buffers, Room, roomOf, fieldsIn}
-use Rattle.buffered.specs.declared.Rows.{Rows}
+use Rattle.calls.specs.declared.Rows.{Rows}
 use Rattle.buffered.specs.Held.{lentBuffers, room, heldRows}
 
 module _ (v : Rows) (table : ProcessTable) (constants tags words program dataTags dataWords : List ℕ) where

@@ -25,7 +25,7 @@ use Rattle.image_read.specs.Laws.Few.{found-few}
 use Rattle.calls.specs.declared.Sizes.{Sizes}
 use Rattle.calls.specs.Buffers.{Buffers, Room, roomOf, fits, sizesOf, holding}
 use Rattle.calls.specs.Calls.{unless, leaving, decodedRefusal, decodedAnswer, readAnswer, decodedLeaves, readLeaves}
-use Rattle.buffered.specs.declared.Rows.{Rows}
+use Rattle.calls.specs.declared.Rows.{Rows}
 use Rattle.buffered.specs.declared.SizesRead.{SizesRead}
 use Rattle.buffered.specs.declared.SizesRead.the-variants.{Refused}
 use Rattle.buffered.specs.Held.{lentBuffers, heldRows, SamePlaces}

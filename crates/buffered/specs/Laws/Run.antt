@@ -25,7 +25,7 @@ use Rattle.runner.specs.Answer.{runRefusalIn, answerOf, leftBy, answerIn, state
 use Rattle.calls.specs.declared.Sizes.{Sizes}
 use Rattle.calls.specs.Buffers.{Buffers, Room, roomOf, fits, fieldsIn, holding}
 use Rattle.calls.specs.Calls.{unless, leaving, stateRefusal, orElse, runRefusal, runAnswer, runLeaves}
-use Rattle.buffered.specs.declared.Rows.{Rows}
+use Rattle.calls.specs.declared.Rows.{Rows}
 use Rattle.buffered.specs.Held.{lentBuffers, heldRows}
 use Rattle.buffered.specs.Promises.{runAnswered, RunPromise}
 use Rattle.buffered.specs.Laws.Cut.{before, lengths, room-held, cut, cut-fields}

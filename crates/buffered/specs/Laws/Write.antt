@@ -21,7 +21,7 @@ use Rattle.image_write.specs.Writing as writing
 use Rattle.calls.specs.declared.Sizes.{Sizes}
 use Rattle.calls.specs.Buffers.{Buffers, roomOf, fits, fieldsIn}
 use Rattle.calls.specs.Calls.{Answer, unless, leaving, stateRefusal, orElse, outputRefusal, writeRefusal, writeAnswer, writeLeaves}
-use Rattle.buffered.specs.declared.Rows.{Rows}
+use Rattle.calls.specs.declared.Rows.{Rows}
 use Rattle.buffered.specs.Promises.{writeAnswered, WritePromise}
 use Rattle.buffered.specs.Laws.Cut.{before, lengths, room-held, cut, cut-fields}
 use Rattle.buffered.specs.Laws.Places.{fitting}
