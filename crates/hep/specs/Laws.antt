@@ -1,0 +1,3 @@
+-- The laws behind the calls: nothing here need be believed.
+pub mod Seven
+pub mod Lent
