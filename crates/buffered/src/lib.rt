@@ -110,8 +110,7 @@ fn run_cut(
     n: Sizes,
 ) -> AfterRun
     requires { ⌜ fits n (room (min (rows .n) 7) (length (now constants)) (length (now tags)) (length (now words)) (length (now program)) (length (now data_tags)) (length (now data_words))) ≡ true ⌝ }
-    ensures { λ r. ⌜ RunPromise n (lentBuffers (heldRows rows) table (now (constants .entry)) (now (tags .entry)) (now (words .entry)) (now (program .entry)) (now (data_tags .entry)) (now (data_words .entry))) (now (schedule .entry)) (r .answer) (lentBuffers (heldRows (r .rows)) (r .table) (now (constants .entry)) (now (tags .exit)) (now (words .exit)) (now (program .entry)) (now (data_tags .exit)) (now (data_words .exit))) ⌝ }
-    ensures { λ r. ⌜ SamePlaces rows (r .rows) ⌝ }
+    ensures { λ r. ⌜ RunPromise n (lentBuffers (heldRows rows) table (now (constants .entry)) (now (tags .entry)) (now (words .entry)) (now (program .entry)) (now (data_tags .entry)) (now (data_words .entry))) (now (schedule .entry)) (r .answer) (lentBuffers (heldRows (r .rows)) (r .table) (now (constants .entry)) (now (tags .exit)) (now (words .exit)) (now (program .entry)) (now (data_tags .exit)) (now (data_words .exit))) × SamePlaces rows (r .rows) ⌝ }
 {
     let at = rows.at;
     let constant_count = n.constants;
@@ -153,8 +152,7 @@ pub fn run(
     schedule: &[u8],
     n: Sizes,
 ) -> AfterRun
-    ensures { λ r. ⌜ RunPromise n (lentBuffers (heldRows rows) table (now (constants .entry)) (now (tags .entry)) (now (words .entry)) (now (program .entry)) (now (data_tags .entry)) (now (data_words .entry))) (now (schedule .entry)) (r .answer) (lentBuffers (heldRows (r .rows)) (r .table) (now (constants .entry)) (now (tags .exit)) (now (words .exit)) (now (program .entry)) (now (data_tags .exit)) (now (data_words .exit))) ⌝ }
-    ensures { λ r. ⌜ SamePlaces rows (r .rows) ⌝ }
+    ensures { λ r. ⌜ RunPromise n (lentBuffers (heldRows rows) table (now (constants .entry)) (now (tags .entry)) (now (words .entry)) (now (program .entry)) (now (data_tags .entry)) (now (data_words .entry))) (now (schedule .entry)) (r .answer) (lentBuffers (heldRows (r .rows)) (r .table) (now (constants .entry)) (now (tags .exit)) (now (words .exit)) (now (program .entry)) (now (data_tags .exit)) (now (data_words .exit))) × SamePlaces rows (r .rows) ⌝ }
 {
     if !fits(
         n,
@@ -338,8 +336,7 @@ pub fn read(
     data_words: &mut [u64],
     image: &[u8],
 ) -> AfterRead
-    ensures { λ r. ⌜ ReadPromise (lentBuffers (heldRows rows) table (now (constants .entry)) (now (tags .entry)) (now (words .entry)) (now (program .entry)) (now (data_tags .entry)) (now (data_words .entry))) (now (image .entry)) (r .answer) (lentBuffers (heldRows (r .rows)) (r .table) (now (constants .exit)) (now (tags .exit)) (now (words .exit)) (now (program .exit)) (now (data_tags .exit)) (now (data_words .exit))) ⌝ }
-    ensures { λ r. ⌜ SamePlaces rows (r .rows) ⌝ }
+    ensures { λ r. ⌜ ReadPromise (lentBuffers (heldRows rows) table (now (constants .entry)) (now (tags .entry)) (now (words .entry)) (now (program .entry)) (now (data_tags .entry)) (now (data_words .entry))) (now (image .entry)) (r .answer) (lentBuffers (heldRows (r .rows)) (r .table) (now (constants .exit)) (now (tags .exit)) (now (words .exit)) (now (program .exit)) (now (data_tags .exit)) (now (data_words .exit))) × SamePlaces rows (r .rows) ⌝ }
 {
     let room = row_count(rows.n);
     if (room as u64) < image_words::number_at(image, 0, 1) {
