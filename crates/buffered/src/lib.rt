@@ -117,7 +117,7 @@ fn run_cut(
     let register_count = n.registers;
     let program_count = n.program;
     let data_count = n.data_words;
-    let x = runner::run(
+    let ran = runner::run(
         at,
         n.rows,
         table,
@@ -129,9 +129,9 @@ fn run_cut(
         &mut data_tags[..data_count],
         &mut data_words[..data_count],
     );
-    let at = x.rows;
-    let table = x.table;
-    let answer = x.answer;
+    let at = ran.rows;
+    let table = ran.table;
+    let answer = ran.answer;
     AfterRun {
         rows: Rows { at, n: rows.n },
         table,

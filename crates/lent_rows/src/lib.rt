@@ -35,15 +35,15 @@ fn row_in(v: Rows, i: usize, r: Row) -> Rows
     Rows { at: a, n: i + 1 }
 }
 
-// Row i, or what stood there where it is past the seventh.
-fn row_or(v: Rows, i: usize, old: Row) -> Row
-    ensures { λ r. ⌜ r ≡ rowOr v i old ⌝ }
+// Row k, or what stood there where it is past the seventh.
+fn row_or(v: Rows, k: usize, old: Row) -> Row
+    ensures { λ r. ⌜ r ≡ rowOr v k old ⌝ }
 {
-    if 7 <= i {
+    if 7 <= k {
         return old;
     }
     let a = v.at;
-    a[i]
+    a[k]
 }
 
 // The first seven rows of a slice, by value.

@@ -1,11 +1,11 @@
 -- The first places of a buffer: counts that fit, and what is put over them.
-use Prim.Native.Nat.{ℕ, min, _+_, _-_, _≤_}
-use mathlib.Core.Path.{_≡_, refl, sym, ap, _∙_, subst}
+use Prim.Native.Nat.{ℕ, _+_, _-_, _≤_}
+use mathlib.Core.Path.{_≡_, sym, ap, _∙_}
 use mathlib.Core.Bool.{true}
 use mathlib.Core.List.{List, _++_}
 use native.Mathlib.Omega.{arith}
-use lib.ListN.{length, take, drop, length-take, take-append-drop}
-use lib.Seq.{length-take-le, take-take, take-add, take-at, drop-at}
+use lib.ListN.{length, take, drop, take-append-drop}
+use lib.Seq.{length-take-le, take-add, drop-at}
 use borrow.Author.Tests.{leb-true}
 use Rattle.word.specs.Laws.Conjunctions.{both}
 use Rattle.image.specs.Fields.{over}

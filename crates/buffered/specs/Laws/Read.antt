@@ -2,28 +2,25 @@
 use Prim.Native.Nat.{ℕ, min, _≤_, _<_}
 use mathlib.Core.Path.{_≡_, refl, sym, ap, _∙_, subst}
 use mathlib.Core.Bool.{Bool, true, false, cond, not, _&&_}
-use mathlib.Core.Option.{none, some}
 use mathlib.Core.List.{List, _++_}
 use native.Mathlib.Omega.{arith}
 use lib.Dec.{leb}
-use lib.ListN.{length, take, drop, length-map, length-take, length-append, length-drop}
+use lib.ListN.{length, take, drop, length-map, length-append, length-drop}
 use lib.Seq.{take-append-seam, drop-append-seam}
 use borrow.Author.Tests.{le-leb, lt-leb}
 use Rattle.refusal.specs.declared.Refusal.{Refusal}
 use Rattle.refusal.specs.declared.Refusal.the-variants.{ShortBuffer}
-use Rattle.window.specs.declared.Row.{Row}
-use Rattle.window.specs.Memories.{tagOf, wordOf}
+use Rattle.window.specs.Memories.{wordOf}
 use Rattle.step.specs.declared.ProcessTable.{ProcessTable}
 use Rattle.image.specs.Image.{Image, Decoded, bad, good, memoryOf, stateOf, decode}
 use Rattle.image_words.specs.Reading.{fieldAt}
 use Rattle.image_check.specs.declared.Counted.{Counted}
 use Rattle.image_check.specs.Checked.{countsIn, countsOf, checkedOf}
-use Rattle.image_check.specs.Laws.Found.{Found, found}
+use Rattle.image_check.specs.Laws.Found.{found}
 use Rattle.image_read.specs.declared.Reading.{Reading}
 use Rattle.image_read.specs.Read.{ReadBuffers, Read, buffers, readLeaving, roomFor, roomIn, sevenRows, filledBuffers, refusal, imageReading, decodedRead, readOf}
 use Rattle.image_read.specs.Laws.Few.{found-few}
-use Rattle.calls.specs.declared.Sizes.{Sizes}
-use Rattle.calls.specs.Buffers.{Buffers, Room, roomOf, fits, sizesOf, holding}
+use Rattle.calls.specs.Buffers.{Buffers, roomOf, fits, sizesOf, holding}
 use Rattle.calls.specs.Calls.{unless, leaving, decodedRefusal, decodedAnswer, readAnswer, decodedLeaves, readLeaves}
 use Rattle.calls.specs.declared.Rows.{Rows}
 use Rattle.buffered.specs.declared.SizesRead.{SizesRead}
@@ -31,7 +28,7 @@ use Rattle.buffered.specs.declared.SizesRead.the-variants.{Refused}
 use Rattle.buffered.specs.Held.{lentBuffers, heldRows, SamePlaces}
 use Rattle.buffered.specs.Promises.{readAnswered, ReadPromise}
 use Rattle.buffered.specs.Left.{shortOfRows, sizesCounted, leftBy, readLeft}
-use Rattle.buffered.specs.Laws.Cut.{before, lengths, room-held}
+use Rattle.buffered.specs.Laws.Cut.{before, room-held}
 use Rattle.buffered.specs.Laws.Places.{over-places}
 
 -- the first byte of an accepted image is the count of its rows

@@ -5,7 +5,7 @@ use mathlib.Core.Bool.{Bool, true, false, cond, not}
 use mathlib.Core.Option.{none, some}
 use mathlib.Core.List.{List}
 use native.Mathlib.Omega.{arith}
-use lib.Dec.{leb, ltb}
+use lib.Dec.{ltb}
 use lib.ListN.{length}
 use borrow.Author.Tests.{le-leb}
 use Rattle.refusal.specs.declared.Refusal.the-variants.{ShortBuffer, UnsoundState}
@@ -20,7 +20,7 @@ use Rattle.image_write.specs.declared.Writing.the-variants.{Refused, Wrote}
 use Rattle.image_write.specs.Writing as writing
 use Rattle.calls.specs.declared.Sizes.{Sizes}
 use Rattle.calls.specs.Buffers.{Buffers, roomOf, fits, fieldsIn}
-use Rattle.calls.specs.Calls.{Answer, unless, leaving, stateRefusal, orElse, outputRefusal, writeRefusal, writeAnswer, writeLeaves}
+use Rattle.calls.specs.Calls.{unless, leaving, stateRefusal, orElse, outputRefusal, writeRefusal, writeAnswer, writeLeaves}
 use Rattle.calls.specs.declared.Rows.{Rows}
 use Rattle.buffered.specs.Promises.{writeAnswered, WritePromise}
 use Rattle.buffered.specs.Laws.Cut.{before, lengths, room-held, cut, cut-fields}

@@ -1,31 +1,28 @@
 -- What the calls with rows by value promise of the rows that were loaded, the thin calls promise of the lent slice.
 use Prim.Native.Nat.{ℕ, _≤_}
 use mathlib.Core.Path.{_≡_, refl, sym, ap, _∙_, subst}
-use mathlib.Core.Bool.{Bool, true, false, cond, not}
+use mathlib.Core.Bool.{Bool, true, false}
 use mathlib.Core.Option.{Option, none, some}
 use mathlib.Core.List.{List, _++_}
 use native.Mathlib.Omega.{arith}
 use lib.ListN.{length, take, drop}
 use lib.Seq.{length-take-le}
 use Rattle.refusal.specs.declared.Refusal.{Refusal}
-use Rattle.refusal.specs.declared.Refusal.the-variants.{ShortBuffer}
 use Rattle.window.specs.declared.Row.{Row}
 use Rattle.step.specs.declared.ProcessTable.{ProcessTable}
 use Rattle.step.specs.State.{State}
-use Rattle.run.specs.declared.Counts.{Counts}
 use Rattle.run.specs.Run.{run}
 use Rattle.run.specs.Schedule.{scheduleRefusal}
 use Rattle.run.specs.Laws.Run.{run-lengths}
-use Rattle.image.specs.Fields.{over}
-use Rattle.image.specs.Image.{Image, Decoded, bad, good, stateOf, decode, encode}
+use Rattle.image.specs.Image.{Decoded, bad, good, stateOf, decode}
 use Rattle.image_write.specs.declared.Writing.{Writing}
 use Rattle.runner.specs.declared.RunAnswer.{RunAnswer}
 use Rattle.calls.specs.declared.Rows.{Rows}
 use Rattle.calls.specs.declared.Sizes.{Sizes}
 use Rattle.calls.specs.Buffers.{Buffers, roomOf, fits, sizesOf, fieldsIn, holding}
-use Rattle.calls.specs.Calls.{Answer, answers, unless, leaving, decodedRefusal, decodedAnswer, readAnswer, decodedLeaves, readLeaves, stateRefusal, orElse, runRefusal, runAnswer, runLeaves, outputRefusal, writeRefusal, writeAnswer, writeLeaves}
+use Rattle.calls.specs.Calls.{answers, unless, leaving, decodedRefusal, decodedAnswer, readAnswer, decodedLeaves, readLeaves, stateRefusal, orElse, runRefusal, runAnswer, runLeaves, writeRefusal, writeAnswer, writeLeaves}
 use Rattle.lent_rows.specs.Rows.{loadedRows, storedRows}
-use Rattle.lent_rows.specs.Laws.Rows.{Loaded, loaded, stored}
+use Rattle.lent_rows.specs.Laws.Rows.{loaded, stored}
 use Rattle.buffered.specs.declared.SizesRead.{SizesRead}
 use Rattle.buffered.specs.Held.{lentBuffers, heldRows, SamePlaces}
 use Rattle.buffered.specs.Promises.{readAnswered, ReadPromise, runAnswered, RunPromise, writeAnswered, WritePromise}
@@ -87,9 +84,6 @@ module _ (rows : List Row) (table : ProcessTable) (constants tags words program 
   -- ---- writing
 
   module _ (n : Sizes) (out : List ℕ) where
-    abbrev refusalOf : Buffers → Option Refusal
-    refusalOf b = writeRefusal n b (length out)
-
     write-both : (o : Option Refusal) → stateRefusal n s ≡ o
         → (writeAnswer n s (length out) ≡ writeAnswer n w (length out)) × (writeLeaves n s out ≡ writeLeaves n w out)
     unfolding writeLeaves writeAnswer writeRefusal orElse unless leaving

@@ -3,7 +3,7 @@
 -- Each turn looks into the slice, takes element i out, copies it, puts it back and shuts the slice; then it calls `row_in`, of which the proof knows only that it meets its contract.
 -- Assumes nothing.
 use mathlib.Core.Path.{_≡_, refl, sym, _∙_, ap, subst}
-use Prim.Native.Nat.{ℕ, suc, _+_, _-_, _<_, _≤_, _^_, _*_}
+use Prim.Native.Nat.{ℕ, _+_, _-_, _<_, _≤_, _^_, _*_}
 use native.Mathlib.Numerals.{add-one}
 use native.Mathlib.Omega.{arith}
 use mathlib.Core.Bool.{Bool, true, false, not}
@@ -30,7 +30,7 @@ use types.Kit.{Given, Item, Sq, ‵, raw, _⊛_, ⋆, some, later, anyQ, atRet, 
 use types.Run as Run
 use types.Run.{look, look-raw, init, store, forget, stop, hop, fld, from, load, lit, of-opd, and-then, no-more, bin, assigns, assigns-last, land, first, blocks, stays, leaves-loop, returns, enter, alloc1, alloc0, params1, pass1, pass0, free1, free0, exec, loops, again}
 use types.Part.{whole, sub, look-in}
-use sound.WpLaws.{FmC, fmOf, WpFn-mono}
+use sound.WpLaws.{fmOf, WpFn-mono}
 use denote.RattleType.{owns}
 use denote.Memory.{pointee}
 use denote.Laws.{Is, shows}

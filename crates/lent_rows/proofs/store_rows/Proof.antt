@@ -29,7 +29,7 @@ use types.Kit.{Given, Item, Sq, ‵, raw, _⊛_, ⋆, some, later, anyQ, atRet, 
 use types.Run as Run
 use types.Run.{look, look-raw, init, store, store-raw, forget, stop, hop, fld, from, load, lit, unit-lit, of-opd, and-then, no-more, bin, assigns, assigns-last, land, first, blocks, stays, leaves-loop, returns, enter, alloc1, alloc0, params1, pass1, pass0, free1, free0, exec, loops, again}
 use types.Part.{whole, sub, look-in}
-use sound.WpLaws.{FmC, fmOf, WpFn-mono}
+use sound.WpLaws.{fmOf, WpFn-mono}
 use denote.RattleType.{owns}
 use denote.Memory.{pointee}
 use denote.Shadow.{pureI}

@@ -11,7 +11,7 @@ use lib.Seq.{take-all, take-append-le, take-suc-set, drop-cons, drop-nil, take-n
 use borrow.Author.Tests.{leb-true, leb-false}
 use Rattle.window.specs.declared.Row.{Row}
 use Rattle.calls.specs.declared.Rows.{Rows}
-use Rattle.lent_rows.specs.Rows.{noRow, noRows, withRow, rowOr, loadFrom, loadedRows, storeFrom, storedRows}
+use Rattle.lent_rows.specs.Rows.{noRow, noRows, withRow, loadFrom, loadedRows, storeFrom, storedRows}
 
 -- these rows were loaded
 pub record Loaded (rows : List Row) (v : Rows) : Type 0 where
