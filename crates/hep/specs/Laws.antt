@@ -1,3 +1,3 @@
--- The laws of the definitions: nothing here need be believed.
-pub mod Opened
-pub mod InPlace
+-- The laws behind the calls: nothing here need be believed.
+pub mod Seven
+pub mod Lent

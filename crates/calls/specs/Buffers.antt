@@ -9,7 +9,7 @@ use Rattle.window.specs.Memories.{memory}
 use Rattle.step.specs.declared.ProcessTable.{ProcessTable}
 use Rattle.step.specs.State.{State}
 use Rattle.image.specs.Fields.{over}
-use Rattle.hep.specs.declared.Sizes.{Sizes}
+use Rattle.calls.specs.declared.Sizes.{Sizes}
 
 -- the buffers; registers and data words have one for tags and one for words. The process table has a fixed size
 pub record Buffers : Type 0 where

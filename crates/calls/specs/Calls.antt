@@ -15,8 +15,8 @@ use Rattle.run.specs.Schedule.{scheduleRefusal}
 use Rattle.run.specs.Run.{run}
 use Rattle.image.specs.Image.{Image, stateOf, Decoded, bad, good, decode, encode}
 use Rattle.image.specs.Fields.{over}
-use Rattle.hep.specs.declared.Sizes.{Sizes}
-use Rattle.hep.specs.Buffers.{Buffers, Room, roomOf, fits, sizesOf, fieldsIn, holding}
+use Rattle.calls.specs.declared.Sizes.{Sizes}
+use Rattle.calls.specs.Buffers.{Buffers, Room, roomOf, fits, sizesOf, fieldsIn, holding}
 
 -- what a call answers: a refusal, or a value
 pub data Answer (A : Type 0) : Type 0 where

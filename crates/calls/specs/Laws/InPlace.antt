@@ -18,9 +18,9 @@ use Rattle.step.specs.Laws.Lengths.{SameLengths}
 use Rattle.run.specs.Schedule.{scheduleRefusal}
 use Rattle.image.specs.Image.{Image, memoryOf, stateOf, good, decode}
 use Rattle.image.specs.Fields.{over}
-use Rattle.hep.specs.declared.Sizes.{Sizes}
-use Rattle.hep.specs.Buffers.{Buffers, roomOf, fits, sizesOf, fieldsIn, spareIn, holding}
-use Rattle.hep.specs.Calls.{unless, leaving, decodedRefusal, readRefusal, decodedAnswer, decodedLeaves, readLeaves, stateRefusal, orElse, runRefusal}
+use Rattle.calls.specs.declared.Sizes.{Sizes}
+use Rattle.calls.specs.Buffers.{Buffers, roomOf, fits, sizesOf, fieldsIn, spareIn, holding}
+use Rattle.calls.specs.Calls.{unless, leaving, decodedRefusal, readRefusal, decodedAnswer, decodedLeaves, readLeaves, stateRefusal, orElse, runRefusal}
 
 module _ {A : Type 0} where
   over-take : (n : ℕ) (xs l : List A) → length xs ≡ n → take n (over xs l) ≡ xs

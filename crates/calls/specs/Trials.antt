@@ -10,10 +10,10 @@ use Rattle.window.specs.declared.Row.{Row}
 use Rattle.window.specs.Memories.{cell}
 use Rattle.step.specs.declared.ProcessTable.{ProcessTable}
 use Rattle.image.specs.Image.{Image, imageCodec, queueOf, stateOf}
-use Rattle.hep.specs.declared.Sizes.{Sizes}
-use Rattle.hep.specs.Buffers.{Buffers, Room, roomOf, sizesOf, holding}
-use Rattle.hep.specs.Calls.{Answer, answers, readRefusal, readAnswer, readLeaves, runRefusal, runLeaves, writeRefusal, writeAnswer, writeLeaves}
-use Rattle.hep.specs.Laws.Opened.{opened}
+use Rattle.calls.specs.declared.Sizes.{Sizes}
+use Rattle.calls.specs.Buffers.{Buffers, Room, roomOf, sizesOf, holding}
+use Rattle.calls.specs.Calls.{Answer, answers, readRefusal, readAnswer, readLeaves, runRefusal, runLeaves, writeRefusal, writeAnswer, writeLeaves}
+use Rattle.calls.specs.Laws.Opened.{opened}
 
 -- the number of a refusal, 0 where there is none
 unfoldable pub numbered : Option Refusal → ℕ

@@ -6,10 +6,10 @@ use mathlib.Core.List.{List}
 use Rattle.run.specs.Run.{run}
 use Rattle.run.specs.Laws.Run.{run-lengths}
 use Rattle.image.specs.Image.{Image, stateOf, good, decode}
-use Rattle.hep.specs.declared.Sizes.{Sizes}
-use Rattle.hep.specs.Buffers.{Buffers, roomOf, sizesOf, fieldsIn, spareIn}
-use Rattle.hep.specs.Calls.{unless, leaving, readRefusal, readLeaves, runRefusal, runAnswer, runLeaves}
-use Rattle.hep.specs.Laws.InPlace.{held-by-read, holding-fields, holding-spare, fields-sized, lengths-sized, read-sized, run-fits}
+use Rattle.calls.specs.declared.Sizes.{Sizes}
+use Rattle.calls.specs.Buffers.{Buffers, roomOf, sizesOf, fieldsIn, spareIn}
+use Rattle.calls.specs.Calls.{unless, leaving, readRefusal, readLeaves, runRefusal, runAnswer, runLeaves}
+use Rattle.calls.specs.Laws.InPlace.{held-by-read, holding-fields, holding-spare, fields-sized, lengths-sized, read-sized, run-fits}
 
 -- after a reading that isn't refused the first places of the buffers, by the counts that it answers, are the state that was read
 pub read-in-place : (b : Buffers) (bytes : List ℕ) (i : Image) → decode bytes ≡ good i → readRefusal (roomOf b) bytes ≡ none

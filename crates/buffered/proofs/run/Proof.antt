@@ -1,0 +1,63 @@
+-- `buffered::run` meets its contract: counts that do not fit are 8, and else the buffers are cut to them.
+use Prim.Native.Nat.{min}
+use mathlib.Core.Path.{_≡_, refl, sym, _∙_}
+use mathlib.Core.Bool.{false}
+use lib.ListN.{length, length-map}
+use borrow.Author.Tests.{not-true, not-false}
+use Rattle.calls.specs.Buffers.{fits}
+use Rattle.buffered.specs.Held.{room}
+use Rattle.buffered.specs.Laws.Run.{run-unfit}
+use borrow.Author.Needs.{needs}
+use Rattle.buffered.proofs.run.Statement.{statement}
+use Rattle.buffered.proofs.run.Tie as tie
+
+row-count-requires : tie.Need-row-count-requires
+row-count-requires c κs = search needs
+
+fits-requires : tie.Need-fits-requires
+fits-requires c κs = search needs
+
+run-refused-requires : tie.Need-run-refused-requires
+run-refused-requires c κs = search needs
+
+returns : tie.Need-returns
+returns c =
+    let s = c .before .before .before .before .before .before .before .before .before .before .before in
+    let a = s .args in
+    let seven = sym (length-map (a .rows .at) _) ∙ s .good .0 .1 .1 .0 .1 .0 .1 in
+    let q : fits (a .n) (room (min (a .rows .n) 7) (length (a .constants .now)) (length (a .tags .now)) (length (a .words .now)) (length (a .program .now)) (length (a .data-tags .now)) (length (a .data-words .now))) ≡ false = rw (← c .before .before .before .row-count .ensures) (sym (c .before .before .fits2 .ensures) ∙ not-true _ (c .before .if1 .taken)) in
+    rw (c .run-refused .ensures)
+    (run-unfit (a .rows) (a .table) (a .constants .now) (a .tags .now) (a .words .now) (a .program .now) (a .data-tags .now) (a .data-words .now) (a .n) (a .schedule .now) seven q, record { count = refl; places = seven })
+
+run-cut-requires : tie.Need-run-cut-requires
+run-cut-requires c κs = rw (← c .before .before .before .before .before .before .row-count .ensures) (sym (c .before .before .before .before .before .fits2 .ensures) ∙ not-false _ (c .before .before .before .before .if1 .left))
+
+same-length : tie.Need-same-length
+same-length c = search needs
+
+same-length-2 : tie.Need-same-length-2
+same-length-2 c = search needs
+
+same-length-3 : tie.Need-same-length-3
+same-length-3 c = search needs
+
+same-length-4 : tie.Need-same-length-4
+same-length-4 c = search needs
+
+returns-2 : tie.Need-returns-2
+returns-2 c = search needs
+
+pub run-spec : {M : Type 1} → statement M
+run-spec =
+    tie.close
+    (tie.spec
+    row-count-requires
+    fits-requires
+    run-refused-requires
+    returns
+    run-cut-requires
+    same-length
+    same-length-2
+    same-length-3
+    same-length-4
+    returns-2)

@@ -1,0 +1,4 @@
+pub mod Held
+pub mod Promises
+pub mod Left
+pub mod Laws

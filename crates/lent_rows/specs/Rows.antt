@@ -1,0 +1,38 @@
+-- A slice of rows, taken by value and put back.
+use Prim.Native.Nat.{ℕ, suc, _+_}
+use mathlib.Core.Bool.{cond}
+use mathlib.Core.List.{List, [], _∷_}
+use lib.Dec.{leb}
+use lib.ListN.{getD, set, replicate}
+use Rattle.window.specs.declared.Row.{Row}
+use Rattle.calls.specs.declared.Rows.{Rows}
+
+-- what stands where no row is
+abbrev pub noRow : Row
+noRow = record { task = 0; cb = 0; rb = 0; rl = 0; pb = 0; pl = 0; db = 0; dl = 0; kind = 0; psw = 0 }
+
+abbrev pub noRows : Rows
+noRows = record { at = replicate 7 noRow; n = 0 }
+
+-- row i by value; there are seven
+abbrev pub withRow : Rows → ℕ → Row → Rows
+withRow v i r = cond (leb 7 i) v (record { at = set (v .at) i r; n = i + 1 })
+
+abbrev pub rowOr : Rows → ℕ → Row → Row
+rowOr v i old = cond (leb 7 i) old (getD (v .at) i noRow)
+
+-- the rows from index i on, into v
+unfoldable pub loadFrom : List Row → ℕ → Rows → Rows
+loadFrom [] i v = v
+loadFrom (r ∷ rs) i v = loadFrom rs (suc i) (withRow v i r)
+
+abbrev pub loadedRows : List Row → Rows
+loadedRows rows = loadFrom rows 0 noRows
+
+-- the rows of v over those of a slice, from index i on
+unfoldable pub storeFrom : List Row → ℕ → Rows → List Row
+storeFrom [] i v = []
+storeFrom (r ∷ rs) i v = rowOr v i r ∷ storeFrom rs (suc i) v
+
+abbrev pub storedRows : List Row → Rows → List Row
+storedRows rows v = storeFrom rows 0 v
