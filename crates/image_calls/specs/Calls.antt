@@ -11,9 +11,9 @@ use Rattle.image_write.specs.declared.Writing.{Writing}
 use Rattle.image_write.specs.declared.Writing.the-variants as writing
 
 -- whether an image was read
-unfoldable pub accepted : ReadAnswer → Bool
-accepted (Refused e) = false
-accepted (Counts z) = true
+unfoldable pub isRead : ReadAnswer → Bool
+isRead (Refused e) = false
+isRead (Counts z) = true
 
 -- the length of the image that was written; 0 where it was refused
 unfoldable pub lengthWritten : Writing → ℕ

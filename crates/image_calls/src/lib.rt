@@ -4,15 +4,15 @@ ghost use lib.ListN.{length};
 ghost use Rattle.image.specs.Image.{encode};
 ghost use Rattle.image_read.specs.Read.{buffers, readOf};
 ghost use Rattle.image_write.specs.Writing.{answer, leaves};
-ghost use Rattle.image_calls.specs.Calls.{accepted, lengthWritten, memoriesOnly};
+ghost use Rattle.image_calls.specs.Calls.{isRead, lengthWritten, memoriesOnly};
 use image_read::ReadAnswer;
 use image_write::Writing;
 use step::ProcessTable;
 use step::Queue;
 use window::Row;
 
-fn is_accepted(x: ReadAnswer) -> bool
-    ensures { λ r. ⌜ r ≡ accepted x ⌝ }
+fn is_read(x: ReadAnswer) -> bool
+    ensures { λ r. ⌜ r ≡ isRead x ⌝ }
 {
     match x {
         ReadAnswer::Refused(_) => false,
@@ -29,7 +29,7 @@ fn length_written(x: Writing) -> usize
     }
 }
 
-// Reads an image into the buffers; answers whether it was accepted. Its rows and processes are dropped.
+// Reads an image into the buffers; answers whether it was read. Its rows and processes are dropped.
 #[no_mangle]
 pub extern "C" fn image_calls_read(
     s: &[u8],
@@ -40,12 +40,12 @@ pub extern "C" fn image_calls_read(
     data_tags: &mut [u8],
     data_words: &mut [u64],
 ) -> bool
-    ensures { λ r. ⌜ r ≡ accepted (readOf (now (s .entry)) (buffers (now (constants .entry)) (now (tags .entry)) (now (words .entry)) (now (program .entry)) (now (data_tags .entry)) (now (data_words .entry))) .reading .answer) ⌝ }
+    ensures { λ r. ⌜ r ≡ isRead (readOf (now (s .entry)) (buffers (now (constants .entry)) (now (tags .entry)) (now (words .entry)) (now (program .entry)) (now (data_tags .entry)) (now (data_words .entry))) .reading .answer) ⌝ }
     ensures { λ _. ⌜ buffers (now (constants .exit)) (now (tags .exit)) (now (words .exit)) (now (program .exit)) (now (data_tags .exit)) (now (data_words .exit)) ≡ readOf (now (s .entry)) (buffers (now (constants .entry)) (now (tags .entry)) (now (words .entry)) (now (program .entry)) (now (data_tags .entry)) (now (data_words .entry))) .buffers ⌝ }
 {
     let x = image_read::read(s, constants, tags, words, program, data_tags, data_words);
     let answer = x.answer;
-    is_accepted(answer)
+    is_read(answer)
 }
 
 // Writes the image of a state that has these memories and neither rows nor processes; answers its length, or 0 where it was refused.
