@@ -49,7 +49,7 @@ fn neighboured(first: &Draft, number: u8, random: &mut Random) -> Draft {
     };
     draft.registers.iter_mut().for_each(|cell| *cell = any(random));
     draft.data.iter_mut().for_each(|cell| *cell = (random.below(2) as u8, values::any(random)));
-    program::fill(&mut draft, random);
+    program::fill(&mut draft, Size::Any, random);
     keep(&mut draft.registers, &first.registers, share::registers(&own));
     keep(&mut draft.data, &first.data, share::data(&own));
     keep(&mut draft.program, &first.program, share::program(&own));
