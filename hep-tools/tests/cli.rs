@@ -1,11 +1,17 @@
-//! The image tool as a program: help, exit codes, files and standard input.
+//! The programs: help, exit codes, files and standard input.
 
 use std::io::Write;
 use std::process::{Command, Output, Stdio};
 use std::{env, fs, process};
 
+const EMULATOR: &str = env!("CARGO_BIN_EXE_hep-emulator");
+
 fn image_tool(arguments: &[&str], input: &[u8]) -> Output {
-    let mut child = Command::new(env!("CARGO_BIN_EXE_hep-image"))
+    run(env!("CARGO_BIN_EXE_hep-image"), arguments, input)
+}
+
+fn run(program: &str, arguments: &[&str], input: &[u8]) -> Output {
+    let mut child = Command::new(program)
         .args(arguments)
         .stdin(Stdio::piped())
         .stdout(Stdio::piped())
@@ -72,5 +78,35 @@ fn files_and_pipes() {
     assert_eq!(image_tool(&["asm"], &text).stdout, bytes);
     let hex = image_tool(&["asm", "--hex"], TEXT.as_bytes()).stdout;
     assert_eq!(image_tool(&["asm"], &hex).stdout, bytes);
+    fs::remove_dir_all(folder).unwrap();
+}
+
+#[test]
+fn the_emulator_answers_lines() {
+    let input = image_tool(&["asm", "--hex"], TEXT.as_bytes()).stdout;
+    let image = image_tool(&["asm", "--hex"], b"hep image\nconstants\n7\n").stdout;
+    let lines = run(EMULATOR, &["--lines"], &input).stdout;
+    let output: String = "E0 W0 T0 I3 CF0\n".bytes().map(|byte| format!("{byte:02X}")).collect();
+    let image = String::from_utf8(image).unwrap();
+    assert_eq!(String::from_utf8(lines).unwrap(), format!("{output} {image}"));
+    assert_eq!(run(EMULATOR, &["--lines"], b"00\n").stdout, b"52310A -\n");
+    assert_eq!(run(EMULATOR, &["--images"], b"00\n").stdout, b"R1\n");
+    assert_eq!(run(EMULATOR, &["--images"], image.as_bytes()).stdout, image.as_bytes());
+    assert_eq!(run(EMULATOR, &["--images"], b"0g\n").status.code(), Some(1));
+    assert_eq!(run(EMULATOR, &["--line"], b"").status.code(), Some(2));
+}
+
+#[test]
+fn comparison() {
+    let folder = env::temp_dir().join(format!("hep-compare-{}", process::id()));
+    let compare = env!("CARGO_BIN_EXE_hep-compare");
+    let few = ["--count", "50", "--pairs", "20", "--save", folder.to_str().unwrap()];
+    let code = |more: &[&str]| run(compare, &[&few[..], more].concat(), b"").status.code();
+    assert_eq!(code(&[]), Some(0));
+    assert_eq!(code(&["--lines", EMULATOR, "--lines"]), Some(0));
+    assert_eq!(code(&["false"]), Some(1));
+    assert!(fs::read_to_string(folder.join("differs.hex")).is_ok());
+    assert_eq!(code(&["--seed"]), Some(2));
+    assert_eq!(code(&["--unknown"]), Some(2));
     fs::remove_dir_all(folder).unwrap();
 }

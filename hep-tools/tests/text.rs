@@ -239,9 +239,8 @@ fn files_are_text_hex_or_bytes() {
     assert_eq!(refused, "refused: R10 as a batch input, R3 as an image");
 }
 
-#[test]
-fn a_trace_shows_what_is_written() {
-    let text = "hep input
+/// Six steps of one task and one of an unlisted one.
+const TRACED: &str = "hep input
         task 1 cb=0 rb=0 rl=1 pb=0 pl=0 db=0 dl=0
         process 5 task=1 pc=0
         constants
@@ -262,8 +261,11 @@ fn a_trace_shows_what_is_written() {
         schedule
           1 * 6
           2";
+
+#[test]
+fn a_trace_shows_what_is_written() {
     let lines: Vec<String> =
-        tool::traced(text.as_bytes()).unwrap().lines().map(str::to_string).collect();
+        tool::traced(TRACED.as_bytes()).unwrap().lines().map(str::to_string).collect();
     let expected = [
         "item task PT PC    instruction                      ending     what it wrote",
         "   0    1  5 00000 ADD r0:F, r1:W:U, c0             executed   r1 set empty, r0 = full 11",
@@ -275,11 +277,11 @@ fn a_trace_shows_what_is_written() {
         "   6    2 -- ----- -                                idle",
     ];
     assert_eq!(lines, expected);
-    let after = tool::dumped(text.as_bytes(), true).unwrap();
+    let after = tool::dumped(TRACED.as_bytes(), true).unwrap();
     let registers = "registers\n  full 11                                  ; 0\n  empty 3";
     assert!(after.contains(registers), "{after}");
-    assert_eq!(tool::shared(text.as_bytes(), 1, Some(0..=1)).unwrap(), "0 0 full\n1 11 empty\n");
-    assert!(tool::shared(text.as_bytes(), 2, None).is_err());
+    assert_eq!(tool::shared(TRACED.as_bytes(), 1, Some(0..=1)).unwrap(), "0 0 full\n1 11 empty\n");
+    assert!(tool::shared(TRACED.as_bytes(), 2, None).is_err());
 }
 
 #[test]

@@ -4,7 +4,8 @@ use crate::emulator::image;
 use crate::emulator::machine::{Counts, Machine};
 use crate::emulator::psw;
 
-const MOST_BYTES: usize = 65_536;
+/// The longest input.
+pub const MOST_BYTES: usize = 65_536;
 
 const SHORT: u8 = 1;
 const BAD_ITEM: u8 = 10;
@@ -40,16 +41,22 @@ fn refusal(number: u8) -> Vec<u8> {
 }
 
 fn run(input: &[u8]) -> Result<(Machine, Counts), u8> {
+    let (schedule, mut machine) = accepted(input)?;
+    let counts = machine.run(schedule);
+    Ok((machine, counts))
+}
+
+/// Schedule and machine of an input, or the number of its refusal.
+pub fn accepted(input: &[u8]) -> Result<(&[u8], Machine), u8> {
     if input.len() > MOST_BYTES {
         return Err(TOO_LONG);
     }
     let (schedule, image) = split(input).ok_or(SHORT)?;
-    let mut machine = image::read(image)?;
+    let machine = image::read(image)?;
     if !schedule.iter().all(|item| (1..=7).contains(item)) {
         return Err(BAD_ITEM);
     }
-    let counts = machine.run(schedule);
-    Ok((machine, counts))
+    Ok((schedule, machine))
 }
 
 /// Splits the input into schedule and image.

@@ -28,6 +28,10 @@ const REGISTER_BITS: u32 = 1;
 const PROGRAM_BITS: u32 = 4;
 const DATA_BITS: u32 = 8;
 
+/// The most constants, and the most words of program and of data.
+pub const MOST_CONSTANTS: usize = 4_096;
+pub const MOST_WORDS: usize = 1 << 20;
+
 type Refusable<T> = Result<T, u8>;
 
 /// Refuses with this number unless it holds.
@@ -66,10 +70,10 @@ impl Input<'_> {
     }
 
     /// A section's count.
-    fn count(&mut self, width: usize, most: u64) -> Refusable<usize> {
-        let value = self.field(width)?;
+    fn count(&mut self, width: usize, most: usize) -> Refusable<usize> {
+        let value = self.field(width)? as usize;
         require(value <= most, COUNT)?;
-        Ok(value as usize)
+        Ok(value)
     }
 
     fn status_word(&mut self) -> Refusable<u64> {
@@ -126,7 +130,7 @@ fn window(input: &mut Input, width: usize, most: u64, appended: u32) -> Refusabl
 
 /// Tells whether a process number stands twice.
 fn processes(machine: &mut Machine, input: &mut Input) -> Refusable<bool> {
-    let count = input.count(1, PROCESSES as u64)?;
+    let count = input.count(1, PROCESSES)?;
     machine.flag = input.within(1, 1)? == 1;
     let mut last = 1;
     let mut twice = false;
@@ -144,7 +148,7 @@ fn processes(machine: &mut Machine, input: &mut Input) -> Refusable<bool> {
 }
 
 fn constants(machine: &mut Machine, input: &mut Input) -> Refusable<()> {
-    machine.constant_count = input.count(2, 4_096)?;
+    machine.constant_count = input.count(2, MOST_CONSTANTS)?;
     for word in &mut machine.words[REGISTERS..][..machine.constant_count] {
         *word = input.field(8)?;
     }
@@ -152,7 +156,7 @@ fn constants(machine: &mut Machine, input: &mut Input) -> Refusable<()> {
 }
 
 fn registers(machine: &mut Machine, input: &mut Input) -> Refusable<()> {
-    machine.register_count = input.count(2, REGISTERS as u64)?;
+    machine.register_count = input.count(2, REGISTERS)?;
     for i in 0..machine.register_count {
         let tag = input.within(1, 14)? as u8;
         require(tag != 7, FIELD)?;
@@ -163,14 +167,14 @@ fn registers(machine: &mut Machine, input: &mut Input) -> Refusable<()> {
 }
 
 fn program(machine: &mut Machine, input: &mut Input) -> Refusable<()> {
-    for _ in 0..input.count(4, 1 << 20)? {
+    for _ in 0..input.count(4, MOST_WORDS)? {
         machine.program.push(input.field(8)?);
     }
     Ok(())
 }
 
 fn data(machine: &mut Machine, input: &mut Input) -> Refusable<()> {
-    for _ in 0..input.count(4, 1 << 20)? {
+    for _ in 0..input.count(4, MOST_WORDS)? {
         machine.full.push(input.within(1, 1)? as u8);
         machine.data.push(input.field(8)?);
     }

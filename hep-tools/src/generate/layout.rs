@@ -39,7 +39,7 @@ pub fn draft(size: Size, random: &mut Random) -> Draft {
         draft.tasks.push(task);
     }
     add_processes(&mut draft, random);
-    program::fill(&mut draft, random);
+    program::fill(&mut draft, size, random);
     draft
 }
 
@@ -67,7 +67,11 @@ fn fill_memories(draft: &mut Draft, size: Size, random: &mut Random) {
     let purpose = |i: u64| USES[i as usize % 4];
     draft.constants = (0..constants).map(|i| values::word(purpose(i), random)).collect();
     let empties = random.pick(&[0, 10, 30]);
-    draft.registers = (0..registers).map(|_| (tag(random, empties), values::any(random))).collect();
+    let held = |i: u64, random: &mut Random| match i % 2 {
+        0 => values::any(random),
+        _ => values::held(random),
+    };
+    draft.registers = (0..registers).map(|i| (tag(random, empties), held(i, random))).collect();
     draft.program = (0..program).map(|_| values::any(random)).collect();
     let full = |random: &mut Random| u8::from(!random.chance(empties));
     draft.data = (0..data).map(|_| (full(random), values::any(random))).collect();

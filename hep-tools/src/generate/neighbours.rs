@@ -14,7 +14,7 @@ pub struct Pair {
     pub task: u8,
 }
 
-/// A pair; most meet the premises of isolation, some have windows that meet or raise the flag.
+/// A pair; most meet the premises of isolation, some break one.
 pub fn pair(random: &mut Random) -> Pair {
     let first = loop {
         let draft = layout::draft(Size::Any, random);
@@ -23,10 +23,15 @@ pub fn pair(random: &mut Random) -> Pair {
         }
     };
     let task = random.pick(&first.tasks).number;
-    let second = neighboured(&first, task, random);
+    let mut second = neighboured(&first, task, random);
     let items = schedule(&first, Size::Any, random);
     let items: Vec<u8> = items.into_iter().filter(|item| (1..=7).contains(item)).collect();
-    let other = reordered(&items, task, &second, random);
+    let mut other = reordered(&items, task, &second, random);
+    match random.below(40) {
+        0 => other.push(task),
+        1 => disagree(&mut second, task),
+        _ => {}
+    }
     Pair {
         first: Source { schedule: Some(items), draft: first },
         second: Source { schedule: Some(other), draft: second },
@@ -49,12 +54,24 @@ fn neighboured(first: &Draft, number: u8, random: &mut Random) -> Draft {
     };
     draft.registers.iter_mut().for_each(|cell| *cell = any(random));
     draft.data.iter_mut().for_each(|cell| *cell = (random.below(2) as u8, values::any(random)));
-    program::fill(&mut draft, random);
+    program::fill(&mut draft, Size::Any, random);
     keep(&mut draft.registers, &first.registers, share::registers(&own));
     keep(&mut draft.data, &first.data, share::data(&own));
     keep(&mut draft.program, &first.program, share::program(&own));
     add_processes(&mut draft, first, number, random);
     draft
+}
+
+/// Turns a bit of the first register in the task's window, or of a status word of its own.
+fn disagree(draft: &mut Draft, number: u8) {
+    let own = draft.tasks.iter().find(|task| task.number == number).map(share::registers);
+    match own.filter(|registers| !registers.is_empty()) {
+        Some(registers) => draft.registers[registers.start].1 ^= 1,
+        None => {
+            let process = draft.processes.iter_mut().find(|process| process.task == number);
+            process.into_iter().for_each(|process| process.psw ^= 1);
+        }
+    }
 }
 
 /// Puts back the cells of a window.

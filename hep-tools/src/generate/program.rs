@@ -1,5 +1,6 @@
 //! Random programs: each task's window gets instructions that suit its windows.
 
+use super::layout::Size;
 use super::values::{Use, USES};
 use crate::emulator::assemble::*;
 use crate::emulator::codes;
@@ -23,9 +24,11 @@ const THREE: [u16; 10] = [EOR, EQV, NAND, NOR, OR, BITCLR, BITSET, ADD, SUB, MUL
 const TWO: [u16; 6] = [MOV, NOT, ENCODE0, ENCODE1, DEC, INC];
 
 /// Fills the program windows, later tasks over earlier ones.
-pub fn fill(draft: &mut Draft, random: &mut Random) {
-    let strays = random.pick(&[0, 2, 8, 30]);
-    let accessed = random.pick(&[0, 0, 2, 8, 40]);
+pub fn fill(draft: &mut Draft, size: Size, random: &mut Random) {
+    let (strays, accessed) = match size {
+        Size::Any => (random.pick(&[0, 2, 8, 30]), random.pick(&[0, 0, 2, 8, 40])),
+        Size::Small => (random.pick(&[0, 10, 40]), random.pick(&[0, 8, 20, 40])),
+    };
     for task in draft.tasks.clone() {
         if task.pb > task.pl {
             continue;
@@ -53,10 +56,7 @@ impl Author<'_> {
                 let code = self.random.pick(&THREE);
                 word(code, self.destination(), self.source(), self.source())
             }
-            33..=49 => {
-                let code = self.random.pick(&TWO);
-                word(code, self.destination(), self.source(), 0)
-            }
+            33..=49 => self.two(),
             50..=54 => {
                 let code = self.random.pick(&[CLR, ONE]);
                 word(code, self.destination(), 0, 0)
@@ -74,6 +74,12 @@ impl Author<'_> {
             79..=89 => self.load(),
             _ => self.store(),
         }
+    }
+
+    /// An operation with D and S1.
+    fn two(&mut self) -> u64 {
+        let code = self.random.pick(&TWO);
+        word(code, self.destination(), self.source(), 0)
     }
 
     /// The last instruction: a way back, or a branch that shows a register in the PC.
@@ -141,12 +147,20 @@ impl Author<'_> {
         self.meant(purpose)
     }
 
-    /// A constant for this use, as long as CI is zero.
+    /// A constant for this use, as long as CI is zero; or a register that holds a byte
+    /// address or status word from the start.
     fn meant(&mut self, purpose: Use) -> u16 {
+        let held = matches!(purpose, Use::Address | Use::Status) && self.registers > 1;
+        if held && self.random.chance(25) {
+            let access = self.access(&[1, 1, 2, 2]);
+            return self.register() | 1 | access;
+        }
         let turn = USES.iter().position(|&other| other == purpose).unwrap_or(0) as u64;
         let place = 4 * self.random.below(self.constants / 4 + 1) + turn;
+        // Now and then a place that reads as zero.
+        let past = if self.random.chance(3) { 4_096 } else { 0 };
         let base = u64::from(self.task.cb) * 2;
-        constant((place.wrapping_sub(base) % 8_192) as u16)
+        constant(((place + past).wrapping_sub(base) % 8_192) as u16)
     }
 
     fn source(&mut self) -> u16 {
@@ -159,9 +173,11 @@ impl Author<'_> {
         self.register() | access
     }
 
+    /// Mostly an even register, so that the odd ones keep what they hold.
     fn destination(&mut self) -> u16 {
         let access = self.access(&[1, 1, 2, 3]);
-        self.register() | access
+        let low = if self.random.chance(85) { 1 } else { 0 };
+        self.register() & !low | access
     }
 
     fn access(&mut self, choices: &[u16]) -> u16 {
@@ -183,7 +199,7 @@ impl Author<'_> {
     /// An instruction that breaks some rule, mostly.
     fn stray(&mut self) -> u64 {
         let word_of_code = |code: u16, random: &mut Random| word(code, random.draw() as u16, 0, 0);
-        match self.random.below(10) {
+        match self.random.below(13) {
             0 => self.random.draw(),
             1 => word_of_code(SVC, self.random),
             2 => word_of_code(self.random.pick(&codes::PRIVILEGED), self.random),
@@ -193,6 +209,9 @@ impl Author<'_> {
             6 => self.instruction() | 0x4000 << self.random.pick(&[0, 16, 32]),
             7 => self.instruction() | 0x2000 << self.random.pick(&[0, 16, 32]),
             8 => self.instruction() | self.random.below(0x800) << self.random.pick(&[0, 16, 32]),
+            9 => self.two() | self.random.between(1, 0xFFFF),
+            10 => self.load() | self.random.pick(&[0x1, 0x2, 0xC, 0xE]) << 48,
+            11 => self.store() | self.random.pick(&[0x1, 0x3, 0x4, 0x8]) << 48,
             _ => self.instruction() ^ 1 << self.random.below(48),
         }
     }

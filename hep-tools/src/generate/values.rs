@@ -30,6 +30,15 @@ pub fn any(random: &mut Random) -> u64 {
     word(purpose, random)
 }
 
+/// A word that serves as a byte address and as a status word: PC 0 or 8, mostly.
+pub fn held(random: &mut Random) -> u64 {
+    if random.chance(5) {
+        return address(random);
+    }
+    let (ci, ri) = (field(random, 8, 0x1FFF), field(random, 4, 0x7FF));
+    psw(ci, ri, 0, 8 * random.below(2))
+}
+
 /// A status word with PC below `program`, now and then a wilder one.
 pub fn status(random: &mut Random, program: u64) -> u64 {
     let ci = field(random, 8, 0x1FFF);

@@ -4,13 +4,11 @@ pub mod share;
 pub mod text;
 pub mod trace;
 
-use crate::emulator::batch::split;
+use crate::emulator::batch;
 use crate::emulator::image;
 use crate::emulator::machine::Machine;
 use std::ops::RangeInclusive;
 use text::{assemble, dump, Source};
-
-const BAD_ITEM: u8 = 10;
 
 /// A failure's message.
 pub type Failure = String;
@@ -50,19 +48,10 @@ pub fn to_hex(bytes: &[u8]) -> String {
     bytes.chunks(32).map(|chunk| hex_line(chunk) + "\n").collect()
 }
 
-fn accepted_input(bytes: &[u8]) -> Result<Source, u8> {
-    let (schedule, image) = split(bytes).ok_or(1)?;
-    let machine = image::read(image)?;
-    if !schedule.iter().all(|item| (1..=7).contains(item)) {
-        return Err(BAD_ITEM);
-    }
-    Ok(Source { schedule: Some(schedule.to_vec()), draft: image::draft(&machine) })
-}
-
 /// An input if the bytes are one, else an image.
 fn from_bytes(bytes: &[u8]) -> Result<Source, Failure> {
-    if let Ok(source) = accepted_input(bytes) {
-        return Ok(source);
+    if let Ok((schedule, machine)) = batch::accepted(bytes) {
+        return Ok(Source { schedule: Some(schedule.to_vec()), draft: image::draft(&machine) });
     }
     match image::read(bytes) {
         Ok(machine) => Ok(Source { schedule: None, draft: image::draft(&machine) }),
@@ -71,7 +60,7 @@ fn from_bytes(bytes: &[u8]) -> Result<Source, Failure> {
 }
 
 fn refused(bytes: &[u8]) -> Failure {
-    let as_input = accepted_input(bytes).err().unwrap_or(0);
+    let as_input = batch::accepted(bytes).err().unwrap_or(0);
     let as_image = image::read(bytes).err().unwrap_or(0);
     format!("refused: R{as_input} as a batch input, R{as_image} as an image")
 }

@@ -5,16 +5,13 @@ use super::instruction;
 use super::line::{Error, Line};
 use super::Source;
 use crate::emulator::assemble::{constant, psw, register};
+use crate::emulator::batch::MOST_BYTES;
 use crate::emulator::draft::{Draft, Process, Task};
-use crate::emulator::image::{self, KINDS};
-use crate::emulator::machine::{EMPTY, NO_TRAP, PROCESSES};
+use crate::emulator::image::{self, KINDS, MOST_CONSTANTS, MOST_WORDS};
+use crate::emulator::machine::{EMPTY, NO_TRAP, PROCESSES, REGISTERS};
 use std::collections::HashMap;
 
-const MOST_CONSTANTS: usize = 4_096;
-const MOST_REGISTERS: usize = 2_048;
-const MOST_WORDS: usize = 1 << 20;
 const MOST_ITEMS: usize = 65_535;
-const MOST_BYTES: usize = 65_536;
 
 /// What a name stands for; in the first reading it may be unknown yet.
 #[derive(Clone, Copy)]
@@ -396,7 +393,7 @@ impl Reading<'_> {
         match self.section {
             Section::Start | Section::Rows => 0,
             Section::Constants => MOST_CONSTANTS,
-            Section::Registers => MOST_REGISTERS,
+            Section::Registers => REGISTERS,
             Section::Program | Section::Data => MOST_WORDS,
             Section::Schedule => MOST_ITEMS,
         }
