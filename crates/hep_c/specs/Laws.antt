@@ -1,0 +1,4 @@
+-- The laws behind the promises.
+pub mod Numbers
+pub mod Grown
+pub mod Runs
