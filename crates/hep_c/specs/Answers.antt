@@ -12,11 +12,15 @@ use Rattle.refusal.specs.declared.Refusal.the-variants.{ShortBuffer}
 use Rattle.refusal.specs.Numbers.{numberOf}
 use Rattle.run.specs.declared.Counts.{Counts}
 use Rattle.run.specs.Schedule.{scheduleRefusal}
-use Rattle.run.specs.Run.{Ran, run}
+use Rattle.run.specs.Run.{Ran, noCounts, run}
+use Rattle.runner.specs.declared.RunAnswer.{RunAnswer}
+use Rattle.runner.specs.declared.RunAnswer.the-variants.{Refused, Counted}
 use Rattle.image.specs.Image.{Image, stateOf, Decoded, bad, good, decode, encode}
 use Rattle.image.specs.Fields.{over}
+use Rattle.image_write.specs.declared.Writing.{Writing}
+use Rattle.image_write.specs.declared.Writing.the-variants.{Refused as RefusedWrite, Wrote}
 use Rattle.calls.specs.declared.Sizes.{Sizes}
-use Rattle.calls.specs.Buffers.{fits, sizesOf}
+use Rattle.calls.specs.Buffers.{Room, fits, sizesOf}
 use Rattle.calls.specs.Calls.{Answer, refuses, answers, unless, orElse}
 use Rattle.buffered.specs.Held.{room}
 use Rattle.report.specs.Report.{reportOf}
@@ -80,23 +84,23 @@ slices constants registerTags registerWords program dataTags dataWords output co
 abbrev pub growth : ℕ
 growth = 640
 
--- the memories have room for the state; the output for the image and its growth, the counts for six numbers, the report for 512 bytes
-unfoldable pub memoriesFit : Sizes → Slices → Bool
-memoriesFit n l =
-    fits n (room 7 (length (l .constants)) (length (l .registerTags)) (length (l .registerWords)) (length (l .program)) (length (l .dataTags)) (length (l .dataWords)))
-
+-- the output has room for the image and its growth, the counts for six numbers, the report for 512 bytes
 unfoldable pub resultsFit : (image output counts report : ℕ) → Bool
 resultsFit image output counts report = leb (image + growth) output && (leb 6 counts && leb 512 report)
 
--- 7: a buffer to be filled is too short
-unfoldable pub roomRefusal : (image : ℕ) → Sizes → Slices → Option Refusal
-roomRefusal image n l =
-    cond (memoriesFit n l && resultsFit image (length (l .output)) (length (l .counts)) (length (l .report))) none (some ShortBuffer)
+-- 7: a memory is too short for the state, or a slice for its result; then 9 and 10. The call has places for seven rows itself
+unfoldable pub lengthsRefusal : (schedule : List ℕ) → Sizes → Room → (image output counts report : ℕ) → Option Refusal
+lengthsRefusal schedule n memories image output counts report =
+    orElse (cond (fits n memories && resultsFit image output counts report) none (some ShortBuffer)) (scheduleRefusal schedule)
+
+unfoldable pub imageRunRefusal : (image schedule : List ℕ) → Sizes → Slices → Option Refusal
+imageRunRefusal image schedule n l =
+    lengthsRefusal schedule n (room 7 (length (l .constants)) (length (l .registerTags)) (length (l .registerWords)) (length (l .program)) (length (l .dataTags)) (length (l .dataWords)))
+    (length image) (length (l .output)) (length (l .counts)) (length (l .report))
 
 unfoldable pub imageRunAnswer : (image schedule : List ℕ) → Slices → Decoded → Answer Ran
 imageRunAnswer image schedule l (bad e) = refuses e
-imageRunAnswer image schedule l (good i) =
-    unless (orElse (roomRefusal (length image) (sizesOf (stateOf i)) l) (scheduleRefusal schedule)) (run schedule (stateOf i))
+imageRunAnswer image schedule l (good i) = unless (imageRunRefusal image schedule (sizesOf (stateOf i)) l) (run schedule (stateOf i))
 
 -- six numbers: executed, waved, trapped, idle, the lengths of the image and of the report
 unfoldable pub countsListed : Counts → (image report : ℕ) → List ℕ
@@ -121,3 +125,15 @@ imageRunLeft (answers r) l = record {
 pub record ImageRunPromise (image schedule : List ℕ) (before : Slices) (r : ℕ) (after : Slices) : Type 0 where
   pub answer : r ≡ numberAnswered (imageRunAnswer image schedule before (decode image))
   pub leaves : after ≡ imageRunLeft (imageRunAnswer image schedule before (decode image)) before
+
+-- ---- what the calls below it answered
+
+-- no counts where a run was refused
+unfoldable pub countsAnswered : RunAnswer → Counts
+countsAnswered (Refused e) = noCounts
+countsAnswered (Counted c) = c
+
+-- the length of the image that was written, 0 where none was
+unfoldable pub lengthWritten : Writing → ℕ
+lengthWritten (RefusedWrite e) = 0
+lengthWritten (Wrote k) = k

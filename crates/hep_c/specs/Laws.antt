@@ -2,3 +2,6 @@
 pub mod Numbers
 pub mod Grown
 pub mod Runs
+pub mod Fitting
+pub mod Promised
+pub mod Results

@@ -1,6 +1,7 @@
 -- What a check finds is what decoding gives; numbers put to the front of a slice.
 use Prim.Native.Nat.{ℕ, suc, _+_, _≤_, _<_}
 use mathlib.Core.Path.{_≡_, refl, sym, ap, _∙_}
+use mathlib.Core.Option.{Option, none, some}
 use mathlib.Core.List.{List, _++_}
 use native.Mathlib.Numerals.{add-one}
 use native.Mathlib.Omega.{arith}
@@ -8,7 +9,9 @@ use lib.ListN.{length, getD, take, drop, set, length-append, length-take, length
 use lib.Seq.{length-take-le, take-suc, drop-cons, set-at, append-snoc, take-all}
 use borrow.Author.Tests.{lt-ltb, le-ltb}
 use Rattle.refusal.specs.declared.Refusal.{Refusal}
-use Rattle.refusal.specs.declared.Refusal.the-variants.{ShortBuffer}
+use Rattle.refusal.specs.declared.Refusal.the-variants.{InputEnds, CountOverLimit, TaskField, ProcessField, CellField, BytesLeftOver, WindowPastMemory, ProcessesClash, ShortBuffer, UnsoundState, ListTooLong, ItemOutOfRange, InputTooLong}
+use Rattle.refusal.specs.Numbers.{numberOf}
+use Rattle.run.specs.Run.{Ran}
 use Rattle.image.specs.Image.{Image, Decoded, bad, good, stateOf}
 use Rattle.image.specs.Fields.{over}
 use Rattle.image_check.specs.declared.Counted.{Counted}
@@ -19,7 +22,8 @@ use Rattle.calls.specs.Buffers.{sizesOf}
 use Rattle.calls.specs.Calls.{refuses, answers, unless}
 use Rattle.buffered.specs.Left.{sizesCounted}
 use Rattle.buffered.specs.Laws.Read.{image-sizes}
-use Rattle.hep_c.specs.Answers.{listedAnswer}
+use Rattle.calls.specs.Trials.{numbered}
+use Rattle.hep_c.specs.Answers.{numberAnswered, checkAnswer, sizesListed, listedAnswer, sizesAnswer, sizesLeft, Slices, imageRunLeft}
 
 -- ---- what a check finds
 
@@ -39,6 +43,48 @@ unfolding checkedOf
 found-good (bad x) z h = let n : _≡_ {A = ℕ} 0 1 = cc in absurd (omega arith)
 found-good (good i) z h = let q : countsOf i ≡ z = cc in record { image = i; is = refl; sizes = image-sizes i ∙ ap sizesCounted q }
 
+-- ---- the numbers
+
+pub check-refused : (d : Decoded) (e : Refusal) → checkedOf d ≡ Refused e → numberOf e ≡ numberAnswered (checkAnswer d)
+unfolding checkAnswer numberAnswered
+check-refused d e h = rw (found-bad d e h)
+
+pub check-fine : (d : Decoded) (z : Counted) → checkedOf d ≡ Sound z → 0 ≡ numberAnswered (checkAnswer d)
+unfolding checkAnswer numberAnswered
+check-fine d z h = rw (found-good d z h .is)
+
+pub numbered-unless : {A : Type 0} (o : Option Refusal) (a : A) → numbered o ≡ numberAnswered (unless o a)
+unfolding numbered numberAnswered unless
+numbered-unless none a = refl
+numbered-unless (some e) a = refl
+
+-- every refusal has a number above 0
+above-0 : (e : Refusal) → numberOf e ≡ 0 → ⊥
+unfolding numberOf
+above-0 InputEnds h = omega arith
+above-0 CountOverLimit h = omega arith
+above-0 TaskField h = omega arith
+above-0 ProcessField h = omega arith
+above-0 CellField h = omega arith
+above-0 BytesLeftOver h = omega arith
+above-0 WindowPastMemory h = omega arith
+above-0 ProcessesClash h = omega arith
+above-0 ShortBuffer h = omega arith
+above-0 UnsoundState h = omega arith
+above-0 ListTooLong h = omega arith
+above-0 ItemOutOfRange h = omega arith
+above-0 InputTooLong h = omega arith
+
+pub none-numbered : (o : Option Refusal) → numbered o ≡ 0 → o ≡ none
+unfolding numbered
+none-numbered none h = refl
+none-numbered (some e) h = absurd (above-0 e h)
+
+pub refused-stays : (o : Option Refusal) (r : Ran) (l : Slices) → (numbered o ≡ 0 → ⊥) → l ≡ imageRunLeft (unless o r) l
+unfolding numbered imageRunLeft unless
+refused-stays none r l h = absurd (h refl)
+refused-stays (some e) r l h = refl
+
 -- ---- five sizes
 
 pub sizes-short : (slots : ℕ) (n : Sizes) → slots < 5 → listedAnswer slots n ≡ refuses ShortBuffer
@@ -48,6 +94,29 @@ sizes-short slots n h = rw (lt-ltb slots 5 h)
 pub sizes-fit : (slots : ℕ) (n : Sizes) → 5 ≤ slots → listedAnswer slots n ≡ answers n
 unfolding listedAnswer unless
 sizes-fit slots n h = rw (le-ltb slots 5 h)
+
+module _ (sizes : List ℕ) where
+  -- no room: 7, and all stays
+  pub put-short : (n : Sizes) (r : ℕ) → length sizes < 5 → r ≡ numberOf ShortBuffer
+      → (r ≡ numberAnswered (listedAnswer (length sizes) n)) × (sizes ≡ sizesLeft (listedAnswer (length sizes) n) sizes)
+  unfolding numberAnswered sizesLeft
+  put-short n r h k = rw (sizes-short (length sizes) n h) (k, refl)
+
+  pub put-all : (n : Sizes) (out : List ℕ) → 5 ≤ length sizes → out ≡ over (sizesListed n) sizes
+      → (0 ≡ numberAnswered (listedAnswer (length sizes) n)) × (out ≡ sizesLeft (listedAnswer (length sizes) n) sizes)
+  unfolding numberAnswered sizesLeft
+  put-all n out h k = rw (sizes-fit (length sizes) n h) (refl, k)
+
+  pub sizes-refused : (d : Decoded) (e : Refusal) (r : ℕ) → checkedOf d ≡ Refused e → r ≡ numberOf e
+      → (r ≡ numberAnswered (sizesAnswer (length sizes) d)) × (sizes ≡ sizesLeft (sizesAnswer (length sizes) d) sizes)
+  unfolding sizesAnswer numberAnswered sizesLeft
+  sizes-refused d e r h k = rw (found-bad d e h) (k, refl)
+
+  pub sizes-found : (d : Decoded) (z : Counted) (r : ℕ) (out : List ℕ) → checkedOf d ≡ Sound z
+      → (r ≡ numberAnswered (listedAnswer (length sizes) (sizesCounted z))) × (out ≡ sizesLeft (listedAnswer (length sizes) (sizesCounted z)) sizes)
+      → (r ≡ numberAnswered (sizesAnswer (length sizes) d)) × (out ≡ sizesLeft (sizesAnswer (length sizes) d) sizes)
+  unfolding sizesAnswer
+  sizes-found d z r out h k = let f = found-good d z h in rw (f .is, f .sizes) k
 
 -- ---- numbers put to the front of a slice
 

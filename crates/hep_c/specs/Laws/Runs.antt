@@ -26,7 +26,7 @@ use Rattle.image_write.specs.declared.Writing.{Writing}
 use Rattle.image_write.specs.declared.Writing.the-variants.{Wrote}
 use Rattle.calls.specs.declared.Sizes.{Sizes}
 use Rattle.calls.specs.Buffers.{Buffers, roomOf, fits, sizesOf, fieldsIn, holding}
-use Rattle.calls.specs.Calls.{unless, leaving, orElse, decodedRefusal, readRefusal, stateRefusal, runRefusal, runAnswer, runLeaves, outputRefusal, writeRefusal, writeAnswer, writeLeaves}
+use Rattle.calls.specs.Calls.{unless, leaving, orElse, decodedRefusal, readRefusal, readLeaves, stateRefusal, runRefusal, runAnswer, runLeaves, outputRefusal, writeRefusal, writeAnswer, writeLeaves}
 use Rattle.calls.specs.InPlace.{read-in-place, run-in-place}
 use Rattle.calls.specs.Laws.InPlace.{Sized, held-by-read, read-sized, lengths-sized}
 use Rattle.buffered.specs.declared.SizesRead.{SizesRead}
@@ -107,7 +107,7 @@ module _ (image schedule : List ℕ) (i : Image) (n : Sizes) (bytes : Bytes imag
   fields₁ : fieldsIn n b₁ ≡ stateOf i
   fields₁ =
       ap (fieldsIn n) (reads .leaves)
-      ∙ subst (λ (m : Sizes). fieldsIn m _ ≡ stateOf i) sizes (read-in-place b₀ image i d read-fine)
+      ∙ subst (λ (m : Sizes). fieldsIn m (readLeaves b₀ image) ≡ stateOf i) sizes (read-in-place b₀ image i d read-fine)
 
   fits₁ : fits n (roomOf b₁) ≡ true
   fits₁ = ap (λ (b : Buffers). fits n (roomOf b)) held₁ ∙ ap (fits n) (room-kept n (stateOf i) b₀ before-sized fit) ∙ fit
