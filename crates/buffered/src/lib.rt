@@ -51,7 +51,7 @@ fn row_count(n: usize) -> usize
 }
 
 // Whether each count is at most the length of its buffers.
-fn fits(
+pub fn fits(
     n: Sizes,
     rows: usize,
     constants: usize,

@@ -165,7 +165,7 @@ pub fn report_text(rows: [Row; 7], n: usize, table: ProcessTable, counts: Counts
     push_counts(push_rows(empty(), rows, n, table), counts, table.flag)
 }
 
-fn number(e: Refusal) -> u8
+pub fn number(e: Refusal) -> u8
     ensures { λ r. ⌜ r ≡ numberOf e ⌝ }
 {
     match e {

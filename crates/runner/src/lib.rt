@@ -187,7 +187,7 @@ fn item_sound(t: u8) -> bool
 }
 
 // Whether every item is a task number 1 to 7.
-fn items_sound(schedule: &[u8]) -> bool
+pub fn items_sound(schedule: &[u8]) -> bool
     ensures { λ r. ⌜ r ≡ every itemSound (now (schedule .entry)) ⌝ }
 {
     let mut i = 0;

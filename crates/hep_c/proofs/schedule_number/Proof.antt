@@ -1,0 +1,22 @@
+-- `hep_c::schedule_number` meets its contract.
+use mathlib.Core.Path.{sym, _∙_}
+use borrow.Author.Tests.{not-true, not-false}
+use Rattle.hep_c.specs.Laws.Fitting.{too-long, out-of-range, schedule-fine}
+use borrow.Author.Needs.{needs}
+use Rattle.hep_c.proofs.schedule_number.Statement.{statement}
+use Rattle.hep_c.proofs.schedule_number.Tie as tie
+
+returns : tie.Need-returns
+returns c = too-long _ (c .if1 .taken)
+
+items-sound-requires : tie.Need-items-sound-requires
+items-sound-requires c κs = search needs
+
+returns-2 : tie.Need-returns-2
+returns-2 c = out-of-range _ (c .before .before .if1 .left) (sym (c .before .items-sound .ensures) ∙ not-true _ (c .if2 .taken))
+
+returns-3 : tie.Need-returns-3
+returns-3 c = schedule-fine _ (c .before .before .if1 .left) (sym (c .before .items-sound .ensures) ∙ not-false _ (c .if2 .left))
+
+pub schedule-number-spec : {M : Type 1} → statement M
+schedule-number-spec = tie.close (tie.spec returns items-sound-requires returns-2 returns-3)

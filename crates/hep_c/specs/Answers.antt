@@ -1,0 +1,139 @@
+-- What the calls for C and Rust answer, and what they leave in the lent slices. A call answers the number of its refusal, 0 where there is
+-- none; on a refusal every lent number stays.
+use Prim.Native.Nat.{ℕ, _+_}
+use mathlib.Core.Path.{_≡_}
+use mathlib.Core.Bool.{Bool, cond, not, _&&_}
+use mathlib.Core.Option.{Option, none, some}
+use mathlib.Core.List.{List, [], _∷_}
+use lib.Dec.{leb, ltb}
+use lib.ListN.{length}
+use Rattle.refusal.specs.declared.Refusal.{Refusal}
+use Rattle.refusal.specs.declared.Refusal.the-variants.{ShortBuffer}
+use Rattle.refusal.specs.Numbers.{numberOf}
+use Rattle.run.specs.declared.Counts.{Counts}
+use Rattle.run.specs.Schedule.{scheduleRefusal}
+use Rattle.run.specs.Run.{Ran, noCounts, run}
+use Rattle.runner.specs.declared.RunAnswer.{RunAnswer}
+use Rattle.runner.specs.declared.RunAnswer.the-variants.{Refused, Counted}
+use Rattle.image.specs.Image.{Image, stateOf, Decoded, bad, good, decode, encode}
+use Rattle.image.specs.Fields.{over}
+use Rattle.image_write.specs.declared.Writing.{Writing}
+use Rattle.image_write.specs.declared.Writing.the-variants.{Refused as RefusedWrite, Wrote}
+use Rattle.calls.specs.declared.Sizes.{Sizes}
+use Rattle.calls.specs.Buffers.{Room, fits, sizesOf}
+use Rattle.calls.specs.Calls.{Answer, refuses, answers, unless, orElse}
+use Rattle.buffered.specs.Held.{room}
+use Rattle.report.specs.Report.{reportOf}
+
+-- the refusal's number, or 0
+unfoldable pub numberAnswered : {A : Type 0} → Answer A → ℕ
+numberAnswered (refuses e) = numberOf e
+numberAnswered (answers a) = 0
+
+-- ---- hep_check: 1 to 6
+
+unfoldable pub checkAnswer : Decoded → Answer Image
+checkAnswer (bad e) = refuses e
+checkAnswer (good i) = answers i
+
+-- ---- hep_sizes: 1 to 6, then 7 where the slice of sizes is too short
+
+-- five numbers: rows, constants, registers, program, data words
+unfoldable pub sizesListed : Sizes → List ℕ
+sizesListed n = n .rows ∷ n .constants ∷ n .registers ∷ n .program ∷ n .data_words ∷ []
+
+unfoldable pub listedAnswer : (slots : ℕ) → Sizes → Answer Sizes
+listedAnswer slots n = unless (cond (ltb slots 5) (some ShortBuffer) none) n
+
+unfoldable pub sizesAnswer : (slots : ℕ) → Decoded → Answer Sizes
+sizesAnswer slots (bad e) = refuses e
+sizesAnswer slots (good i) = listedAnswer slots (sizesOf (stateOf i))
+
+unfoldable pub sizesLeft : Answer Sizes → (sizes : List ℕ) → List ℕ
+sizesLeft (refuses e) sizes = sizes
+sizesLeft (answers n) sizes = over (sizesListed n) sizes
+
+-- ---- hep_run: 1 to 6, then 7, then 9 and 10
+
+-- the slices that are lent: the memories of the state, and what the results go to
+pub record Slices : Type 0 where
+  pub constants : List ℕ
+  pub registerTags : List ℕ
+  pub registerWords : List ℕ
+  pub program : List ℕ
+  pub dataTags : List ℕ
+  pub dataWords : List ℕ
+  pub output : List ℕ
+  pub counts : List ℕ
+  pub report : List ℕ
+
+abbrev pub slices : (constants registerTags registerWords program dataTags dataWords output counts report : List ℕ) → Slices
+slices constants registerTags registerWords program dataTags dataWords output counts report = record {
+  constants = constants;
+  registerTags = registerTags;
+  registerWords = registerWords;
+  program = program;
+  dataTags = dataTags;
+  dataWords = dataWords;
+  output = output;
+  counts = counts;
+  report = report;
+}
+
+-- how much longer an image may get: 64 processes of 10 bytes
+abbrev pub growth : ℕ
+growth = 640
+
+-- the output has room for the image and its growth, the counts for six numbers, the report for 512 bytes
+unfoldable pub resultsFit : (image output counts report : ℕ) → Bool
+resultsFit image output counts report = leb (image + growth) output && (leb 6 counts && leb 512 report)
+
+-- 7: a memory is too short for the state, or a slice for its result; then 9 and 10. The call has places for seven rows itself
+unfoldable pub lengthsRefusal : (schedule : List ℕ) → Sizes → Room → (image output counts report : ℕ) → Option Refusal
+lengthsRefusal schedule n memories image output counts report =
+    orElse (cond (fits n memories && resultsFit image output counts report) none (some ShortBuffer)) (scheduleRefusal schedule)
+
+unfoldable pub imageRunRefusal : (image schedule : List ℕ) → Sizes → Slices → Option Refusal
+imageRunRefusal image schedule n l =
+    lengthsRefusal schedule n (room 7 (length (l .constants)) (length (l .registerTags)) (length (l .registerWords)) (length (l .program)) (length (l .dataTags)) (length (l .dataWords)))
+    (length image) (length (l .output)) (length (l .counts)) (length (l .report))
+
+unfoldable pub imageRunAnswer : (image schedule : List ℕ) → Slices → Decoded → Answer Ran
+imageRunAnswer image schedule l (bad e) = refuses e
+imageRunAnswer image schedule l (good i) = unless (imageRunRefusal image schedule (sizesOf (stateOf i)) l) (run schedule (stateOf i))
+
+-- six numbers: executed, waved, trapped, idle, the lengths of the image and of the report
+unfoldable pub countsListed : Counts → (image report : ℕ) → List ℕ
+countsListed c image report = c .executed ∷ c .waved ∷ c .trapped ∷ c .idle ∷ image ∷ report ∷ []
+
+-- the state after the run in the memories, its image in the output, the counts, the report
+unfoldable pub imageRunLeft : Answer Ran → Slices → Slices
+imageRunLeft (refuses e) l = l
+imageRunLeft (answers r) l = record {
+  constants = over (r .state .constants) (l .constants);
+  registerTags = over (r .state .registers .tags) (l .registerTags);
+  registerWords = over (r .state .registers .words) (l .registerWords);
+  program = over (r .state .program) (l .program);
+  dataTags = over (r .state .dataWords .tags) (l .dataTags);
+  dataWords = over (r .state .dataWords .words) (l .dataWords);
+  output = over (encode (r .state)) (l .output);
+  counts = over (countsListed (r .counts) (length (encode (r .state))) (length (reportOf r))) (l .counts);
+  report = over (reportOf r) (l .report);
+}
+
+-- the promise of hep_run: its answer, and every lent number
+pub record ImageRunPromise (image schedule : List ℕ) (before : Slices) (r : ℕ) (after : Slices) : Type 0 where
+  pub answer : r ≡ numberAnswered (imageRunAnswer image schedule before (decode image))
+  pub leaves : after ≡ imageRunLeft (imageRunAnswer image schedule before (decode image)) before
+
+-- ---- what the calls below it answered
+
+-- no counts where a run was refused
+unfoldable pub countsAnswered : RunAnswer → Counts
+countsAnswered (Refused e) = noCounts
+countsAnswered (Counted c) = c
+
+-- the length of the image that was written, 0 where none was
+unfoldable pub lengthWritten : Writing → ℕ
+lengthWritten (RefusedWrite e) = 0
+lengthWritten (Wrote k) = k

@@ -1,0 +1,7 @@
+-- The laws behind the promises.
+pub mod Numbers
+pub mod Grown
+pub mod Runs
+pub mod Fitting
+pub mod Promised
+pub mod Results

@@ -1,0 +1,71 @@
+-- The lengths that a run asks for, and the numbers of its refusals.
+use Prim.Native.Nat.{ℕ, _+_, _≤_, _<_}
+use mathlib.Core.Path.{_≡_, refl, sym, ap, _∙_}
+use mathlib.Core.Bool.{Bool, true, false, cond, not, _&&_}
+use mathlib.Core.Option.{Option, none, some}
+use mathlib.Core.List.{List}
+use lib.ListN.{length}
+use borrow.Author.Tests.{lt-ltb, le-ltb, le-leb, lt-leb, leb-true}
+use Rattle.word.specs.Laws.Conjunctions.{both}
+use Rattle.refusal.specs.declared.Refusal.{Refusal}
+use Rattle.refusal.specs.declared.Refusal.the-variants.{ShortBuffer}
+use Rattle.refusal.specs.Numbers.{numberOf}
+use Rattle.step.specs.Soundness.{every}
+use Rattle.step.specs.Laws.Rows.{none-some}
+use Rattle.run.specs.Schedule.{itemSound, scheduleRefusal}
+use Rattle.calls.specs.declared.Sizes.{Sizes}
+use Rattle.calls.specs.Buffers.{Room, fits}
+use Rattle.calls.specs.Calls.{orElse}
+use Rattle.calls.specs.Trials.{numbered}
+use Rattle.hep_c.specs.Answers.{growth, resultsFit, lengthsRefusal}
+
+-- ---- a schedule
+
+module _ (schedule : List ℕ) where
+  pub too-long : 65535 < length schedule → 9 ≡ numbered (scheduleRefusal schedule)
+  unfolding scheduleRefusal numbered numberOf
+  too-long h = rw (lt-ltb 65535 (length schedule) h)
+
+  pub out-of-range : length schedule ≤ 65535 → every itemSound schedule ≡ false → 10 ≡ numbered (scheduleRefusal schedule)
+  unfolding scheduleRefusal numbered numberOf
+  out-of-range h e = rw (le-ltb 65535 (length schedule) h, e)
+
+  pub schedule-fine : length schedule ≤ 65535 → every itemSound schedule ≡ true → 0 ≡ numbered (scheduleRefusal schedule)
+  unfolding scheduleRefusal numbered
+  schedule-fine h e = rw (le-ltb 65535 (length schedule) h, e)
+
+-- ---- lengths
+
+module _ (schedule : List ℕ) (n : Sizes) (memories : Room) (image output counts report : ℕ) where
+  pub short-memory : fits n memories ≡ false → 7 ≡ numbered (lengthsRefusal schedule n memories image output counts report)
+  unfolding lengthsRefusal orElse numbered numberOf
+  short-memory e = rw e
+
+  pub short-result : fits n memories ≡ true → resultsFit image output counts report ≡ false → 7 ≡ numbered (lengthsRefusal schedule n memories image output counts report)
+  unfolding lengthsRefusal orElse numbered numberOf
+  short-result e f = rw (e, f)
+
+  pub roomy : fits n memories ≡ true → resultsFit image output counts report ≡ true
+      → numbered (scheduleRefusal schedule) ≡ numbered (lengthsRefusal schedule n memories image output counts report)
+  unfolding lengthsRefusal orElse
+  roomy e f = rw (e, f)
+
+  -- where nothing is refused
+  pub record Accepted : Type 0 where
+    pub memories-fit : fits n memories ≡ true
+    pub schedule-taken : scheduleRefusal schedule ≡ none
+    pub output-fits : image + growth ≤ output
+    pub counts-fit : 6 ≤ counts
+    pub report-fits : 512 ≤ report
+
+  pub accepted : lengthsRefusal schedule n memories image output counts report ≡ none → Accepted
+  unfolding lengthsRefusal orElse resultsFit
+  accepted e = go (fits n memories) refl (resultsFit image output counts report) refl e
+    where
+      go : (m : Bool) → fits n memories ≡ m → (r : Bool) → resultsFit image output counts report ≡ r
+          → orElse (cond (m && r) none (some ShortBuffer)) (scheduleRefusal schedule) ≡ none → Accepted
+      go true p true q h =
+          let u = both (leb-true (image + growth) output) (both (leb-true 6 counts) (leb-true 512 report)) q in
+          record { memories-fit = p; schedule-taken = h; output-fits = u .0; counts-fit = u .1 .0; report-fits = u .1 .1 }
+      go true p false q h = absurd (none-some ShortBuffer (sym h))
+      go false p r q h = absurd (none-some ShortBuffer (sym h))

@@ -1,0 +1,59 @@
+-- The promise of a run, from what the check finds and what the lengths and the schedule refuse.
+use Prim.Native.Nat.{ℕ, _≤_}
+use mathlib.Core.Path.{_≡_, refl, sym, ap, _∙_}
+use mathlib.Core.Option.{Option, none, some}
+use mathlib.Core.List.{List}
+use lib.ListN.{length}
+use Rattle.refusal.specs.declared.Refusal.{Refusal}
+use Rattle.refusal.specs.Numbers.{numberOf}
+use Rattle.run.specs.Run.{Ran, run}
+use Rattle.image.specs.Image.{Image, Decoded, good, stateOf, decode}
+use Rattle.image_check.specs.declared.Counted.{Counted}
+use Rattle.image_check.specs.declared.Checked.the-variants.{Refused, Sound}
+use Rattle.image_check.specs.Checked.{checkedOf}
+use Rattle.calls.specs.declared.Sizes.{Sizes}
+use Rattle.calls.specs.Buffers.{sizesOf}
+use Rattle.calls.specs.Calls.{Answer, answers, unless}
+use Rattle.calls.specs.Trials.{numbered}
+use Rattle.buffered.specs.Left.{sizesCounted}
+use Rattle.hep_c.specs.Answers.{numberAnswered, Slices, imageRunRefusal, imageRunAnswer, imageRunLeft, ImageRunPromise}
+use Rattle.hep_c.specs.Laws.Fitting.{accepted}
+use Rattle.hep_c.specs.Laws.Numbers.{FoundGood, found-bad, found-good, numbered-unless, refused-stays}
+
+module _ (image schedule : List ℕ) (l : Slices) where
+  -- 1 to 6
+  pub check-stays : (e : Refusal) (r : ℕ) → checkedOf (decode image) ≡ Refused e → r ≡ numberOf e → ImageRunPromise image schedule l r l
+  unfolding imageRunAnswer imageRunLeft numberAnswered
+  check-stays e r h k = let q = found-bad (decode image) e h in record { answer = rw q k; leaves = rw q }
+
+  -- where the check finds counts
+  answered : (z : Counted) (d : Decoded) (i : Image) → d ≡ good i → sizesOf (stateOf i) ≡ sizesCounted z
+      → imageRunAnswer image schedule l d ≡ unless (imageRunRefusal image schedule (sizesCounted z) l) (run schedule (stateOf i))
+  unfolding imageRunAnswer
+  answered z d i e k = rw (e, k)
+
+  -- 7, 9 and 10
+  pub sound-refused : (z : Counted) (r : ℕ) → checkedOf (decode image) ≡ Sound z → r ≡ numbered (imageRunRefusal image schedule (sizesCounted z) l)
+      → (r ≡ 0 → ⊥) → ImageRunPromise image schedule l r l
+  sound-refused z r h k n =
+      let f = found-good (decode image) z h in
+      let refusal : Option Refusal = imageRunRefusal image schedule (sizesCounted z) l in
+      let ran : Ran = run schedule (stateOf (f .image)) in
+      let a = sym (answered z (decode image) (f .image) (f .is) (f .sizes)) in
+      record {
+        answer = k ∙ numbered-unless refusal ran ∙ ap numberAnswered a;
+        leaves = refused-stays refusal ran l (λ e. n (k ∙ e)) ∙ ap (λ (x : Answer Ran). imageRunLeft x l) a;
+      }
+
+  pub sound-accepted : (z : Counted) (after : Slices) → checkedOf (decode image) ≡ Sound z → imageRunRefusal image schedule (sizesCounted z) l ≡ none
+      → after ≡ imageRunLeft (imageRunAnswer image schedule l (decode image)) l → ImageRunPromise image schedule l 0 after
+  unfolding unless numberAnswered
+  sound-accepted z after h e k =
+      let f = found-good (decode image) z h in
+      let a : imageRunAnswer image schedule l (decode image) ≡ answers (run schedule (stateOf (f .image))) =
+      answered z (decode image) (f .image) (f .is) (f .sizes) ∙ ap (λ (o : Option Refusal). unless o (run schedule (stateOf (f .image)))) e in
+      record { answer = ap numberAnswered (sym a); leaves = k }
+
+  pub counts-roomy : (n : Sizes) → imageRunRefusal image schedule n l ≡ none → 6 ≤ length (l .counts)
+  unfolding imageRunRefusal
+  counts-roomy n e = accepted schedule n _ (length image) (length (l .output)) (length (l .counts)) (length (l .report)) e .counts-fit

@@ -1,0 +1,401 @@
+// The library for programs in other languages: numbers and slices alone. include/hep.h says what each function promises.
+ghost use mathlib.Core.Path.{_≡_};
+ghost use mathlib.Core.Option.{none};
+ghost use mathlib.Core.List.{[]};
+ghost use Prim.Native.Nat.{_≤_};
+ghost use lib.ListN.{length};
+ghost use Rattle.image.specs.Image.{decode};
+ghost use Rattle.image.specs.Fields.{over};
+ghost use Rattle.image_check.specs.declared.Checked.the-variants.{Sound};
+ghost use Rattle.image_check.specs.Checked.{checkedOf};
+ghost use Rattle.image_read.specs.Read.{sevenRows, tableRead};
+ghost use Rattle.run.specs.Schedule.{scheduleRefusal};
+ghost use Rattle.calls.specs.Trials.{numbered};
+ghost use Rattle.buffered.specs.Held.{room};
+ghost use Rattle.buffered.specs.Left.{sizesCounted};
+ghost use Rattle.report.specs.Report.{outputOf};
+ghost use Rattle.reporting.specs.Texts.{copiedInto};
+ghost use Rattle.batch.specs.Output.{bytesCopied};
+ghost use Rattle.hep_c.specs.Answers.{numberAnswered, checkAnswer, listedAnswer, sizesAnswer, sizesLeft, slices, resultsFit, lengthsRefusal, imageRunRefusal, imageRunAnswer, countsListed, imageRunLeft, ImageRunPromise, countsAnswered, lengthWritten};
+use calls::Rows;
+use calls::Sizes;
+use image_check::Checked;
+use image_check::Counted;
+use image_write::Writing;
+use refusal::Refusal;
+use run::Counts;
+use runner::RunAnswer;
+use step::ProcessTable;
+use step::Queue;
+use window::Row;
+
+// ---- numbers
+
+// Puts numbers to the front of a slice that has room for them.
+fn put_numbers(numbers: &[u64], out: &mut [u64])
+    requires { ⌜ length (now numbers) ≤ length (now out) ⌝ }
+    ensures { λ _. ⌜ now (out .exit) ≡ over (now (numbers .entry)) (now (out .entry)) ⌝ }
+{
+    let mut i = 0;
+    while i < numbers.len() {
+        out[i] = numbers[i];
+        i += 1;
+    }
+}
+
+// ---- images
+
+// 0 where the image is accepted, else the refusal's number: 1 to 6.
+#[no_mangle]
+pub extern "C" fn hep_check(image: &[u8]) -> u32
+    ensures { λ r. ⌜ r ≡ numberAnswered (checkAnswer (decode (now (image .entry)))) ⌝ }
+{
+    let found = image_check::check(image);
+    match found {
+        Checked::Refused(e) => reporting::number(e) as u32,
+        Checked::Sound(_) => 0,
+    }
+}
+
+// The counts of an image that was found sound: 7 where they have no room.
+fn put_sizes(z: Counted, sizes: &mut [u64]) -> u32
+    ensures answer { λ r. ⌜ r ≡ numberAnswered (listedAnswer (length (now (sizes .entry))) (sizesCounted z)) ⌝ }
+    ensures left { λ _. ⌜ now (sizes .exit) ≡ sizesLeft (listedAnswer (length (now (sizes .entry))) (sizesCounted z)) (now (sizes .entry)) ⌝ }
+{
+    if sizes.len() < 5 {
+        return reporting::number(Refusal::ShortBuffer) as u32;
+    }
+    let numbers = [
+        z.rows as u64,
+        z.constants as u64,
+        z.registers as u64,
+        z.program as u64,
+        z.data_words as u64,
+    ];
+    put_numbers(&numbers, sizes);
+    0
+}
+
+// The counts of rows, constants, registers, program and data words go to `sizes`: 1 to 6, then 7.
+#[no_mangle]
+pub extern "C" fn hep_sizes(image: &[u8], sizes: &mut [u64]) -> u32
+    ensures answer { λ r. ⌜ r ≡ numberAnswered (sizesAnswer (length (now (sizes .entry))) (decode (now (image .entry)))) ⌝ }
+    ensures left { λ _. ⌜ now (sizes .exit) ≡ sizesLeft (sizesAnswer (length (now (sizes .entry))) (decode (now (image .entry)))) (now (sizes .entry)) ⌝ }
+{
+    let found = image_check::check(image);
+    match found {
+        Checked::Refused(e) => reporting::number(e) as u32,
+        Checked::Sound(z) => put_sizes(z, sizes),
+    }
+}
+
+// ---- a run
+
+// The counts of an image that was found sound.
+fn sizes_counted(z: Counted) -> Sizes
+    ensures { λ r. ⌜ r ≡ sizesCounted z ⌝ }
+{
+    Sizes {
+        rows: z.rows,
+        constants: z.constants,
+        registers: z.registers,
+        program: z.program,
+        data_words: z.data_words,
+    }
+}
+
+fn no_rows() -> Rows
+    ensures { λ r. ⌜ r ≡ record { at = sevenRows []; n = 7 } ⌝ }
+{
+    let empty = Row {
+        task: 0,
+        cb: 0,
+        rb: 0,
+        rl: 0,
+        pb: 0,
+        pl: 0,
+        db: 0,
+        dl: 0,
+        kind: 0xFF,
+        psw: 0,
+    };
+    Rows {
+        at: [empty; 7],
+        n: 7,
+    }
+}
+
+fn no_processes() -> ProcessTable
+    ensures { λ r. ⌜ r ≡ tableRead 0 [] ⌝ }
+{
+    let none = Queue {
+        pts: [0; 64],
+        head: 0,
+        len: 0,
+    };
+    ProcessTable {
+        psw: [0; 64],
+        queues: [none; 7],
+        flag: 0,
+    }
+}
+
+fn counts_answered(answer: RunAnswer) -> Counts
+    ensures { λ r. ⌜ r ≡ countsAnswered answer ⌝ }
+{
+    match answer {
+        RunAnswer::Refused(_) => Counts {
+            executed: 0,
+            waved: 0,
+            trapped: 0,
+            idle: 0,
+        },
+        RunAnswer::Counted(c) => c,
+    }
+}
+
+fn length_written(answer: Writing) -> usize
+    ensures { λ r. ⌜ r ≡ lengthWritten answer ⌝ }
+{
+    match answer {
+        Writing::Refused(_) => 0,
+        Writing::Wrote(k) => k,
+    }
+}
+
+// Whether the slices for the results are long enough.
+fn results_fit(image: usize, output: usize, counts: usize, report: usize) -> bool
+    ensures { λ r. ⌜ r ≡ resultsFit image output counts report ⌝ }
+{
+    if output < 640 {
+        return false;
+    }
+    if output - 640 < image {
+        return false;
+    }
+    if counts < 6 {
+        return false;
+    }
+    512 <= report
+}
+
+// The number of 9 or 10; 0 where the schedule is accepted.
+fn schedule_number(schedule: &[u8]) -> u32
+    ensures { λ r. ⌜ r ≡ numbered (scheduleRefusal (now (schedule .entry))) ⌝ }
+{
+    if 65535 < schedule.len() {
+        return 9;
+    }
+    if !runner::items_sound(schedule) {
+        return 10;
+    }
+    0
+}
+
+// The number of 7, then 9, then 10; 0 where none applies.
+fn lengths_number(
+    schedule: &[u8],
+    n: Sizes,
+    constants: usize,
+    tags: usize,
+    words: usize,
+    program: usize,
+    data_tags: usize,
+    data_words: usize,
+    image: usize,
+    output: usize,
+    counts: usize,
+    report: usize,
+) -> u32
+    ensures { λ r. ⌜ r ≡ numbered (lengthsRefusal (now (schedule .entry)) n (room 7 constants tags words program data_tags data_words) image output counts report) ⌝ }
+{
+    if !buffered::fits(n, 7, constants, tags, words, program, data_tags, data_words) {
+        return 7;
+    }
+    if !results_fit(image, output, counts, report) {
+        return 7;
+    }
+    schedule_number(schedule)
+}
+
+// The counts of a run and the lengths of its image and report.
+fn put_counts(c: Counts, image: usize, report: usize, counts: &mut [u64])
+    requires { ⌜ 6 ≤ length (now counts) ⌝ }
+    ensures { λ _. ⌜ now (counts .exit) ≡ over (countsListed c image report) (now (counts .entry)) ⌝ }
+{
+    let numbers = [
+        c.executed,
+        c.waved,
+        c.trapped,
+        c.idle,
+        image as u64,
+        report as u64,
+    ];
+    put_numbers(&numbers, counts);
+}
+
+// Reads, runs, writes and reports, where nothing is refused.
+fn run_accepted(
+    image: &[u8],
+    z: Counted,
+    schedule: &[u8],
+    constants: &mut [u64],
+    tags: &mut [u8],
+    words: &mut [u64],
+    program: &mut [u64],
+    data_tags: &mut [u8],
+    data_words: &mut [u64],
+    output: &mut [u8],
+    counts: &mut [u64],
+    report: &mut [u8],
+)
+    requires found { ⌜ checkedOf (decode (now image)) ≡ Sound z ⌝ }
+    requires fine { ⌜ imageRunRefusal (now image) (now schedule) (sizesCounted z) (slices (now constants) (now tags) (now words) (now program) (now data_tags) (now data_words) (now output) (now counts) (now report)) ≡ none ⌝ }
+    ensures { λ _. ⌜ slices (now (constants .exit)) (now (tags .exit)) (now (words .exit)) (now (program .exit)) (now (data_tags .exit)) (now (data_words .exit)) (now (output .exit)) (now (counts .exit)) (now (report .exit)) ≡ imageRunLeft (imageRunAnswer (now (image .entry)) (now (schedule .entry)) (slices (now (constants .entry)) (now (tags .entry)) (now (words .entry)) (now (program .entry)) (now (data_tags .entry)) (now (data_words .entry)) (now (output .entry)) (now (counts .entry)) (now (report .entry))) (decode (now (image .entry)))) (slices (now (constants .entry)) (now (tags .entry)) (now (words .entry)) (now (program .entry)) (now (data_tags .entry)) (now (data_words .entry)) (now (output .entry)) (now (counts .entry)) (now (report .entry))) ⌝ }
+{
+    let n = sizes_counted(z);
+    let x = buffered::read(
+        no_rows(),
+        no_processes(),
+        constants,
+        tags,
+        words,
+        program,
+        data_tags,
+        data_words,
+        image,
+    );
+    let rows = x.rows;
+    let table = x.table;
+    let y = buffered::run(
+        rows,
+        table,
+        constants,
+        tags,
+        words,
+        program,
+        data_tags,
+        data_words,
+        schedule,
+        n,
+    );
+    let rows = y.rows;
+    let table = y.table;
+    let answer = y.answer;
+    let c = counts_answered(answer);
+    let w = buffered::write(
+        rows,
+        table,
+        constants,
+        tags,
+        words,
+        program,
+        data_tags,
+        data_words,
+        output,
+        n,
+    );
+    let at = rows.at;
+    let text = reporting::report_text(at, n.rows, table, c);
+    let k = reporting::copy_text(text, report);
+    put_counts(c, length_written(w), k, counts);
+}
+
+// A run of an image that was found sound: 7, then 9, then 10.
+fn run_sound(
+    image: &[u8],
+    z: Counted,
+    schedule: &[u8],
+    constants: &mut [u64],
+    tags: &mut [u8],
+    words: &mut [u64],
+    program: &mut [u64],
+    data_tags: &mut [u8],
+    data_words: &mut [u64],
+    output: &mut [u8],
+    counts: &mut [u64],
+    report: &mut [u8],
+) -> u32
+    requires { ⌜ checkedOf (decode (now image)) ≡ Sound z ⌝ }
+    ensures { λ r. ⌜ ImageRunPromise (now (image .entry)) (now (schedule .entry)) (slices (now (constants .entry)) (now (tags .entry)) (now (words .entry)) (now (program .entry)) (now (data_tags .entry)) (now (data_words .entry)) (now (output .entry)) (now (counts .entry)) (now (report .entry))) r (slices (now (constants .exit)) (now (tags .exit)) (now (words .exit)) (now (program .exit)) (now (data_tags .exit)) (now (data_words .exit)) (now (output .exit)) (now (counts .exit)) (now (report .exit))) ⌝ }
+{
+    let number = lengths_number(
+        schedule,
+        sizes_counted(z),
+        constants.len(),
+        tags.len(),
+        words.len(),
+        program.len(),
+        data_tags.len(),
+        data_words.len(),
+        image.len(),
+        output.len(),
+        counts.len(),
+        report.len(),
+    );
+    if number != 0 {
+        return number;
+    }
+    run_accepted(
+        image,
+        z,
+        schedule,
+        constants,
+        tags,
+        words,
+        program,
+        data_tags,
+        data_words,
+        output,
+        counts,
+        report,
+    );
+    0
+}
+
+// Reads the image into the memories, runs the schedule, and writes the image after the run, the counts and the report: 1 to 6, then 7,
+// then 9 and 10.
+#[no_mangle]
+pub extern "C" fn hep_run(
+    image: &[u8],
+    schedule: &[u8],
+    constants: &mut [u64],
+    tags: &mut [u8],
+    words: &mut [u64],
+    program: &mut [u64],
+    data_tags: &mut [u8],
+    data_words: &mut [u64],
+    output: &mut [u8],
+    counts: &mut [u64],
+    report: &mut [u8],
+) -> u32
+    ensures { λ r. ⌜ ImageRunPromise (now (image .entry)) (now (schedule .entry)) (slices (now (constants .entry)) (now (tags .entry)) (now (words .entry)) (now (program .entry)) (now (data_tags .entry)) (now (data_words .entry)) (now (output .entry)) (now (counts .entry)) (now (report .entry))) r (slices (now (constants .exit)) (now (tags .exit)) (now (words .exit)) (now (program .exit)) (now (data_tags .exit)) (now (data_words .exit)) (now (output .exit)) (now (counts .exit)) (now (report .exit))) ⌝ }
+{
+    let found = image_check::check(image);
+    match found {
+        Checked::Refused(e) => reporting::number(e) as u32,
+        Checked::Sound(z) => run_sound(
+            image,
+            z,
+            schedule,
+            constants,
+            tags,
+            words,
+            program,
+            data_tags,
+            data_words,
+            output,
+            counts,
+            report,
+        ),
+    }
+}
+
+// The batch program: its output goes to the front of a buffer that is long enough. The answer is how many bytes were copied.
+#[no_mangle]
+pub extern "C" fn hep_batch(input: &[u8], output: &mut [u8]) -> usize
+    ensures answer { λ r. ⌜ r ≡ bytesCopied (outputOf (now (input .entry))) (now (output .entry)) ⌝ }
+    ensures left { λ _. ⌜ now (output .exit) ≡ copiedInto (outputOf (now (input .entry))) (now (output .entry)) ⌝ }
+{
+    batch::batch(input, output)
+}

@@ -1,0 +1,179 @@
+//! Safe calls of the proved emulator of a HEP process execution module: whole images in, whole images out.
+//!
+//! What `crates/hep_c` promises is proved; this crate is not. It makes the buffers, lends them, and cuts the results to their lengths.
+//!
+//! ```
+//! let image = hep::example_image();
+//! let outcome = hep::run(&image, &[1]).unwrap();
+//! assert_eq!(outcome.counts.trapped, 1);
+//! assert_eq!(outcome.report, "1 1 14 00000\nE0 W0 T1 I0 CF0\n");
+//! assert_eq!(hep::check(&outcome.image), Ok(()));
+//! assert_eq!(hep::run(&image, &[8]).unwrap_err().number(), 10);
+//! ```
+
+mod sys;
+
+use std::{error, fmt};
+
+/// Why a call is refused. Each has a number of document 01.
+#[derive(Clone, Copy, Debug, PartialEq, Eq)]
+#[repr(u32)]
+pub enum Refusal {
+    /// The image ends before its last section is whole.
+    InputEnds = 1,
+    /// A count is over its limit.
+    CountOverLimit = 2,
+    /// A field is out of its range.
+    FieldOutOfRange = 3,
+    /// Bytes stand after the last section.
+    BytesLeftOver = 4,
+    /// A window that isn't empty ends past its memory.
+    WindowPastMemory = 5,
+    /// A process number stands twice, or 64 processes with flag 0.
+    ProcessesClash = 6,
+    /// A schedule of over 65,535 items.
+    ListTooLong = 9,
+    /// An item of the schedule is not 1 to 7.
+    ItemOutOfRange = 10,
+}
+
+impl Refusal {
+    /// The number of document 01.
+    pub fn number(self) -> u32 {
+        self as u32
+    }
+
+    // 7 cannot come: the buffers are as long as the calls ask.
+    fn of(number: u32) -> Result<(), Refusal> {
+        Err(match number {
+            0 => return Ok(()),
+            1 => Refusal::InputEnds,
+            2 => Refusal::CountOverLimit,
+            3 => Refusal::FieldOutOfRange,
+            4 => Refusal::BytesLeftOver,
+            5 => Refusal::WindowPastMemory,
+            6 => Refusal::ProcessesClash,
+            9 => Refusal::ListTooLong,
+            10 => Refusal::ItemOutOfRange,
+            n => unreachable!("refusal {n}"),
+        })
+    }
+}
+
+impl fmt::Display for Refusal {
+    fn fmt(&self, f: &mut fmt::Formatter<'_>) -> fmt::Result {
+        write!(f, "refused: R{}", self.number())
+    }
+}
+
+impl error::Error for Refusal {}
+
+/// How many of each an image has.
+#[derive(Clone, Copy, Debug, PartialEq, Eq)]
+pub struct Sizes {
+    pub rows: usize,
+    pub constants: usize,
+    pub registers: usize,
+    pub program: usize,
+    pub data_words: usize,
+}
+
+/// How the steps of a run ended.
+#[derive(Clone, Copy, Debug, PartialEq, Eq)]
+pub struct Counts {
+    pub executed: u64,
+    pub waved: u64,
+    pub trapped: u64,
+    pub idle: u64,
+}
+
+/// What a run gives.
+#[derive(Clone, Debug, PartialEq, Eq)]
+pub struct Outcome {
+    /// The image after the run.
+    pub image: Vec<u8>,
+    pub counts: Counts,
+    /// The report of the batch program.
+    pub report: String,
+}
+
+/// Whether an image is accepted.
+///
+/// ```
+/// assert_eq!(hep::check(&hep::example_image()), Ok(()));
+/// assert_eq!(hep::check(&[]), Err(hep::Refusal::InputEnds));
+/// ```
+pub fn check(image: &[u8]) -> Result<(), Refusal> {
+    Refusal::of(sys::check(image))
+}
+
+/// How many rows, constants, registers, program words and data words an image has.
+///
+/// ```
+/// assert_eq!(hep::sizes(&hep::example_image()).unwrap().rows, 1);
+/// ```
+pub fn sizes(image: &[u8]) -> Result<Sizes, Refusal> {
+    let mut n = [0; 5];
+    Refusal::of(sys::sizes(image, &mut n))?;
+    let [rows, constants, registers, program, data_words] = n.map(|x| x as usize);
+    Ok(Sizes { rows, constants, registers, program, data_words })
+}
+
+/// Runs a schedule, a list of task numbers, on an image.
+///
+/// ```
+/// let outcome = hep::run(&hep::example_image(), &[1, 1])?;
+/// assert_eq!((outcome.counts.trapped, outcome.counts.idle), (1, 1));
+/// # Ok::<(), hep::Refusal>(())
+/// ```
+pub fn run(image: &[u8], schedule: &[u8]) -> Result<Outcome, Refusal> {
+    let n = sizes(image)?;
+    let mut output = vec![0; image.len() + 640];
+    let mut counts = [0; 6];
+    let mut report = [0; 512];
+    Refusal::of(sys::run(
+        image,
+        schedule,
+        &mut vec![0; n.constants],
+        &mut vec![0; n.registers],
+        &mut vec![0; n.registers],
+        &mut vec![0; n.program],
+        &mut vec![0; n.data_words],
+        &mut vec![0; n.data_words],
+        &mut output,
+        &mut counts,
+        &mut report,
+    ))?;
+    let [executed, waved, trapped, idle, image_len, report_len] = counts;
+    output.truncate(image_len as usize);
+    Ok(Outcome {
+        image: output,
+        counts: Counts { executed, waved, trapped, idle },
+        report: text(&report[..report_len as usize]),
+    })
+}
+
+/// The batch program: from its input to its output, which is a report or the line of a refusal.
+///
+/// ```
+/// assert_eq!(hep::batch(&[]), "R1\n");
+/// ```
+pub fn batch(input: &[u8]) -> String {
+    let mut output = [0; 512];
+    let n = sys::batch(input, &mut output);
+    text(&output[..n])
+}
+
+// Reports and lines of refusals are ASCII.
+fn text(bytes: &[u8]) -> String {
+    bytes.iter().map(|&b| b as char).collect()
+}
+
+/// The image of document 01's printed case: one task with empty windows, and one process.
+pub fn example_image() -> Vec<u8> {
+    let mut image = vec![1, 1, 0, 0, 0, 1, 0, 0, 0, 1, 0, 0, 0, 0, 0, 1, 0, 0, 0, 0, 0xFF];
+    image.extend([0; 8]);
+    image.extend([1, 0, 0, 1]);
+    image.extend([0; 8 + 2 + 2 + 4 + 4]);
+    image
+}

@@ -1,0 +1,93 @@
+/*
+ * The emulator of a HEP process execution module, from whole images to whole images.
+ *
+ * Each function below is proved to do what is said at it (crates/hep_c; link target/staticlib/libhep_c.a, which `rt staticlib hep_c`
+ * writes). None keeps anything between calls, allocates, or calls anything.
+ *
+ * A slice is lent as its address and its length, in elements. The proof takes for granted, and so the caller sees to it, that
+ *   - an address is not null, is aligned for its elements, and that many elements are there, even where the length is 0;
+ *   - no slice that is written (not const) overlaps another slice of the same call.
+ * Nothing else is asked: every function answers any bytes and any lengths.
+ *
+ * An answer of 0 means that the call did what it says. Any other is the number of a refusal, the first that applies in the order below;
+ * then every lent element is as it was.
+ */
+#ifndef HEP_H
+#define HEP_H
+
+#include <stddef.h>
+#include <stdint.h>
+
+#ifdef __cplusplus
+extern "C" {
+#endif
+
+enum hep_refusal {
+    HEP_ACCEPTED = 0,
+    HEP_INPUT_ENDS = 1,          /* the image ends before its last section is whole */
+    HEP_COUNT_OVER_LIMIT = 2,    /* a count is over its limit */
+    HEP_FIELD_OUT_OF_RANGE = 3,  /* a field is out of its range */
+    HEP_BYTES_LEFT_OVER = 4,     /* bytes stand after the last section */
+    HEP_WINDOW_PAST_MEMORY = 5,  /* a window that isn't empty ends past its memory */
+    HEP_PROCESSES_CLASH = 6,     /* a process number stands twice, or 64 processes with flag 0 */
+    HEP_SHORT_BUFFER = 7,        /* a slice to be filled is too short */
+    HEP_LIST_TOO_LONG = 9,       /* a schedule of over 65,535 items */
+    HEP_ITEM_OUT_OF_RANGE = 10   /* an item of the schedule is not 1 to 7 */
+};
+
+/* Lengths that hep_sizes and hep_run ask for. */
+#define HEP_SIZES 5
+#define HEP_COUNTS 6
+#define HEP_REPORT_ROOM 512
+#define HEP_OUTPUT_ROOM(image_len) ((image_len) + 640)
+
+/* Places in `sizes`. */
+enum { HEP_ROWS, HEP_CONSTANTS, HEP_REGISTERS, HEP_PROGRAM, HEP_DATA_WORDS };
+
+/* Places in `counts`. */
+enum { HEP_EXECUTED, HEP_WAVED, HEP_TRAPPED, HEP_IDLE, HEP_IMAGE_LEN, HEP_REPORT_LEN };
+
+/* 0 if the image is accepted, else 1 to 6. */
+uint32_t hep_check(const uint8_t *image, size_t image_len);
+
+/*
+ * The counts of the image's rows, constants, registers, program words and data words go to the first five of `sizes`; the others stay.
+ * Refused: 1 to 6, then 7 if `sizes` is shorter than HEP_SIZES.
+ */
+uint32_t hep_sizes(const uint8_t *image, size_t image_len, uint64_t *sizes, size_t sizes_len);
+
+/*
+ * Reads the image, runs the schedule on it, one step of a task for each item, and writes the image after the run.
+ *
+ * The memories of the state are lent, each at least as long as its count by hep_sizes: tags and words of registers have one count, and so
+ * have those of data words. After the run they hold the state, in as many first places as the counts say; the places beyond stay.
+ *
+ * `output`, of at least HEP_OUTPUT_ROOM(image_len) bytes, starts with the image after the run. `report`, of at least HEP_REPORT_ROOM bytes,
+ * starts with the report of the batch program. `counts`, of at least HEP_COUNTS, starts with how many steps were executed, waved, trapped
+ * and idle, then the lengths of that image and of that report. What lies beyond stays.
+ *
+ * Refused: 1 to 6, then 7 if a slice is shorter than said, then 9, then 10.
+ */
+uint32_t hep_run(const uint8_t *image, size_t image_len,
+                 const uint8_t *schedule, size_t schedule_len,
+                 uint64_t *constants, size_t constants_len,
+                 uint8_t *register_tags, size_t register_tags_len,
+                 uint64_t *register_words, size_t register_words_len,
+                 uint64_t *program, size_t program_len,
+                 uint8_t *data_tags, size_t data_tags_len,
+                 uint64_t *data_words, size_t data_words_len,
+                 uint8_t *output, size_t output_len,
+                 uint64_t *counts, size_t counts_len,
+                 uint8_t *report, size_t report_len);
+
+/*
+ * The batch program: the bytes of its standard input to those of its standard output, a refusal being a line such as `R3`. They go to the
+ * front of `output`, and their number is the answer. If `output` is too short, all of it stays and the answer is 0; 512 bytes are enough.
+ */
+size_t hep_batch(const uint8_t *input, size_t input_len, uint8_t *output, size_t output_len);
+
+#ifdef __cplusplus
+}
+#endif
+
+#endif
