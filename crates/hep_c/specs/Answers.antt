@@ -17,8 +17,6 @@ use Rattle.runner.specs.declared.RunAnswer.{RunAnswer}
 use Rattle.runner.specs.declared.RunAnswer.the-variants.{Refused, Counted}
 use Rattle.image.specs.Image.{Image, stateOf, Decoded, bad, good, decode, encode}
 use Rattle.image.specs.Fields.{over}
-use Rattle.image_write.specs.declared.Writing.{Writing}
-use Rattle.image_write.specs.declared.Writing.the-variants.{Refused as RefusedWrite, Wrote}
 use Rattle.calls.specs.declared.Sizes.{Sizes}
 use Rattle.calls.specs.Buffers.{Room, fits, sizesOf}
 use Rattle.calls.specs.Calls.{Answer, refuses, answers, unless, orElse}
@@ -132,8 +130,3 @@ pub record ImageRunPromise (image schedule : List ℕ) (before : Slices) (r : �
 unfoldable pub countsAnswered : RunAnswer → Counts
 countsAnswered (Refused e) = noCounts
 countsAnswered (Counted c) = c
-
--- the length of the image that was written, 0 where none was
-unfoldable pub lengthWritten : Writing → ℕ
-lengthWritten (RefusedWrite e) = 0
-lengthWritten (Wrote k) = k

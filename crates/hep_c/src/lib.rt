@@ -16,12 +16,11 @@ ghost use Rattle.buffered.specs.Left.{sizesCounted};
 ghost use Rattle.report.specs.Report.{outputOf};
 ghost use Rattle.reporting.specs.Texts.{copiedInto};
 ghost use Rattle.batch.specs.Output.{bytesCopied};
-ghost use Rattle.hep_c.specs.Answers.{numberAnswered, checkAnswer, listedAnswer, sizesAnswer, sizesLeft, slices, resultsFit, lengthsRefusal, imageRunRefusal, imageRunAnswer, countsListed, imageRunLeft, ImageRunPromise, countsAnswered, lengthWritten};
+ghost use Rattle.hep_c.specs.Answers.{numberAnswered, checkAnswer, listedAnswer, sizesAnswer, sizesLeft, slices, resultsFit, lengthsRefusal, imageRunRefusal, imageRunAnswer, countsListed, imageRunLeft, ImageRunPromise, countsAnswered};
 use calls::Rows;
 use calls::Sizes;
 use image_check::Checked;
 use image_check::Counted;
-use image_write::Writing;
 use refusal::Refusal;
 use run::Counts;
 use runner::RunAnswer;
@@ -151,15 +150,6 @@ fn counts_answered(answer: RunAnswer) -> Counts
             idle: 0,
         },
         RunAnswer::Counted(c) => c,
-    }
-}
-
-fn length_written(answer: Writing) -> usize
-    ensures { λ r. ⌜ r ≡ lengthWritten answer ⌝ }
-{
-    match answer {
-        Writing::Refused(_) => 0,
-        Writing::Wrote(k) => k,
     }
 }
 
@@ -298,7 +288,7 @@ fn run_accepted(
     let at = rows.at;
     let text = reporting::report_text(at, n.rows, table, c);
     let k = reporting::copy_text(text, report);
-    put_counts(c, length_written(w), k, counts);
+    put_counts(c, image_write::length_written(w), k, counts);
 }
 
 // A run of an image that was found sound: 7, then 9, then 10.

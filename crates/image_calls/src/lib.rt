@@ -3,10 +3,9 @@ ghost use mathlib.Core.Path.{_≡_};
 ghost use lib.ListN.{length};
 ghost use Rattle.image.specs.Image.{encode};
 ghost use Rattle.image_read.specs.Read.{buffers, readOf};
-ghost use Rattle.image_write.specs.Writing.{answer, leaves};
-ghost use Rattle.image_calls.specs.Calls.{isRead, lengthWritten, memoriesOnly};
+ghost use Rattle.image_write.specs.Writing.{answer, leaves, lengthWritten};
+ghost use Rattle.image_calls.specs.Calls.{isRead, memoriesOnly};
 use image_read::ReadAnswer;
-use image_write::Writing;
 use step::ProcessTable;
 use step::Queue;
 use window::Row;
@@ -17,15 +16,6 @@ fn is_read(x: ReadAnswer) -> bool
     match x {
         ReadAnswer::Refused(_) => false,
         ReadAnswer::Counts(_) => true,
-    }
-}
-
-fn length_written(x: Writing) -> usize
-    ensures { λ r. ⌜ r ≡ lengthWritten x ⌝ }
-{
-    match x {
-        Writing::Refused(_) => 0,
-        Writing::Wrote(n) => n,
     }
 }
 
@@ -96,5 +86,5 @@ pub extern "C" fn image_calls_write(
         data_tags,
         data_words,
     );
-    length_written(x)
+    image_write::length_written(x)
 }

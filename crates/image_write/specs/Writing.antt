@@ -29,3 +29,8 @@ leaves (Wrote k) image output = over image output
 pub record Written (n : ℕ) (s : State) (r : Writing) (before after : List ℕ) : Type 0 where
   pub answers : r ≡ answer n s (length before)
   pub output : after ≡ leaves r (encode s) before
+
+-- the length of the image that was written; 0 where it was refused
+unfoldable pub lengthWritten : Writing → ℕ
+lengthWritten (Refused e) = 0
+lengthWritten (Wrote k) = k

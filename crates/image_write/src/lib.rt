@@ -7,7 +7,7 @@ ghost use Rattle.image.specs.Image.{toProcess, processesIn, processesFrom};
 ghost use Rattle.image_words.specs.Writing.{putAt};
 ghost use Rattle.soundness.specs.Held.{stateIn};
 ghost use Rattle.image_write.specs.Bytes.{rowFirst, rowSecond, rowRecord, rowBytes, processBytes, rowsBytes, processesBytes, tasksSection, processesSection, wordsSection, cellsSection, imageBytes};
-ghost use Rattle.image_write.specs.Writing.{Written};
+ghost use Rattle.image_write.specs.Writing.{Written, lengthWritten};
 use refusal::Refusal;
 use step::ProcessTable;
 use step::Queue;
@@ -281,4 +281,14 @@ pub fn write(
         data_words,
     );
     Writing::Wrote(end)
+}
+
+// The length of the image that was written, 0 where it was refused.
+pub fn length_written(answer: Writing) -> usize
+    ensures { λ r. ⌜ r ≡ lengthWritten answer ⌝ }
+{
+    match answer {
+        Writing::Refused(_) => 0,
+        Writing::Wrote(k) => k,
+    }
 }

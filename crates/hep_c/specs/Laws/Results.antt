@@ -19,6 +19,7 @@ use Rattle.image.specs.Codec.{Bytes}
 use Rattle.image.specs.Image.{Image, Decoded, good, stateOf, decode, encode}
 use Rattle.image.specs.Fields.{over}
 use Rattle.image_write.specs.declared.Writing.{Writing}
+use Rattle.image_write.specs.Writing.{lengthWritten}
 use Rattle.calls.specs.declared.Sizes.{Sizes}
 use Rattle.calls.specs.declared.Rows.{Rows}
 use Rattle.calls.specs.Buffers.{Buffers, roomOf, fits, sizesOf, fieldsIn, holding}
@@ -29,7 +30,7 @@ use Rattle.buffered.specs.Promises.{ReadPromise, RunPromise, WritePromise}
 use Rattle.buffered.specs.Laws.Cut.{room-held}
 use Rattle.report.specs.Report.{rowLines, countsLine, reportOf}
 use Rattle.reporting.specs.Texts.{copiedInto}
-use Rattle.hep_c.specs.Answers.{Slices, slices, growth, imageRunRefusal, imageRunAnswer, countsListed, imageRunLeft, countsAnswered, lengthWritten}
+use Rattle.hep_c.specs.Answers.{Slices, slices, growth, imageRunRefusal, imageRunAnswer, countsListed, imageRunLeft, countsAnswered}
 use Rattle.hep_c.specs.Laws.Fitting.{Accepted, accepted}
 use Rattle.hep_c.specs.Laws.Runs.{counted, fields₂, held₂, wrote, image-written}
 

@@ -4,8 +4,8 @@ use Rattle.soundness.specs.Held.{stateIn}
 use Rattle.image.specs.Image.{ptsOf, queueOf, queuesOf, pswTable, encode}
 use Rattle.image_read.specs.Read.{tableRead}
 use Rattle.image_write.specs.declared.Writing.{Writing}
-use Rattle.image_write.specs.Writing.{leaves}
-use Rattle.image_calls.specs.Calls.{lengthWritten, memoriesOnly}
+use Rattle.image_write.specs.Writing.{leaves, lengthWritten}
+use Rattle.image_calls.specs.Calls.{memoriesOnly}
 use borrow.Author.Needs.{needs}
 use Rattle.image_calls.proofs.image_calls_write.Statement.{statement}
 use Rattle.image_calls.proofs.image_calls_write.Tie as tie

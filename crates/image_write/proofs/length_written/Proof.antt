@@ -1,8 +1,8 @@
--- `hep_c::length_written` meets its contract.
-use Rattle.hep_c.specs.Answers.{lengthWritten}
+-- `image_write::length_written` meets its contract.
+use Rattle.image_write.specs.Writing.{lengthWritten}
 use borrow.Author.Needs.{needs}
-use Rattle.hep_c.proofs.length_written.Statement.{statement}
-use Rattle.hep_c.proofs.length_written.Tie as tie
+use Rattle.image_write.proofs.length_written.Statement.{statement}
+use Rattle.image_write.proofs.length_written.Tie as tie
 
 enum-told : tie.Need-enum-told
 enum-told c = search needs
