@@ -1,7 +1,6 @@
 // Operations whose result goes to a register: bit vectors, bits, integers, as decisions. Each stands twice: the public function tests the fields and looks the operands up,
 // and the function `_found` decides over the cells there. The operands of the three fields are d, a, b, their cells t, x, y.
 ghost use mathlib.Core.Path.{_≡_};
-ghost use mathlib.Core.Bool.{cond};
 ghost use mathlib.Core.List.{List};
 ghost use lib.Dec.{eqb};
 ghost use Prim.Native.Nat.{ℕ};
@@ -11,7 +10,7 @@ ghost use Rattle.operand.specs.declared.Role.the-variants.{Unused, Destination,
 ghost use Rattle.operand.specs.declared.Operand.the-variants.{Absent};
 ghost use Rattle.operation.specs.declared.Operation.the-variants as operation;
 ghost use Rattle.operation.specs.declared.Fate.the-variants.{Continues};
-ghost use Rattle.operation.specs.Roles.{roles, vectorRoles, bitRoles, integerRoles};
+ghost use Rattle.operation.specs.Roles.{roles, vectorRoles, bitRoles, integerRoles, sourcesIn};
 ghost use Rattle.operation.specs.Environment.{Environment, environmentOf};
 ghost use Rattle.operation.specs.FoundOperands.{instruction, allFoundAt};
 ghost use Rattle.operation.specs.Decide.{decideFound, decideListed};
@@ -32,7 +31,7 @@ use word::Vector;
 
 // How many sources a bit vector operation has.
 pub fn vector_sources(op: Vector) -> u8
-    ensures { λ r. ⌜ vectorRoles op ≡ roles Destination (cond (eqb r 0) Unused Source) (cond (eqb r 2) Source Unused) ⌝ }
+    ensures { λ r. ⌜ r ≡ sourcesIn (vectorRoles op) ⌝ }
 {
     match op {
         Vector::Mov => 1,
@@ -225,9 +224,9 @@ pub fn vector_three(
     )
 }
 
-// Whether an operation on bits has S2; it always has D and S1.
+// Whether an operation on bits has S1 and S2, not S1 alone.
 pub fn bit_pair(op: Bit) -> bool
-    ensures { λ r. ⌜ bitRoles op ≡ roles Destination Source (cond r Source Unused) ⌝ }
+    ensures { λ r. ⌜ r ≡ eqb (sourcesIn (bitRoles op)) 2 ⌝ }
 {
     match op {
         Bit::Bitclr => true,
@@ -366,9 +365,9 @@ pub fn bit_three(
     )
 }
 
-// Whether an integer operation has S2; it always has D and S1.
+// Whether an integer operation has S1 and S2, not S1 alone.
 pub fn integer_pair(op: Integer) -> bool
-    ensures { λ r. ⌜ integerRoles op ≡ roles Destination Source (cond r Source Unused) ⌝ }
+    ensures { λ r. ⌜ r ≡ eqb (sourcesIn (integerRoles op)) 2 ⌝ }
 {
     match op {
         Integer::Add => true,

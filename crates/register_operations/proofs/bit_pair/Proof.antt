@@ -1,4 +1,4 @@
-use Rattle.operation.specs.Roles.{bitRoles}
+use Rattle.operation.specs.Roles.{bitRoles, sourceIn, sourcesIn}
 use borrow.Author.Needs.{needs}
 use Rattle.register_operations.proofs.bit_pair.Statement.{statement}
 use Rattle.register_operations.proofs.bit_pair.Tie as tie
@@ -16,19 +16,19 @@ enum-told-4 : tie.Need-enum-told-4
 enum-told-4 c = search needs
 
 returns : tie.Need-returns
-unfolding bitRoles
+unfolding bitRoles sourceIn sourcesIn
 returns c = simp (c .enum-told .given .1)
 
 returns-2 : tie.Need-returns-2
-unfolding bitRoles
+unfolding bitRoles sourceIn sourcesIn
 returns-2 c = simp (c .enum-told2 .given .1)
 
 returns-3 : tie.Need-returns-3
-unfolding bitRoles
+unfolding bitRoles sourceIn sourcesIn
 returns-3 c = simp (c .enum-told3 .given .1)
 
 returns-4 : tie.Need-returns-4
-unfolding bitRoles
+unfolding bitRoles sourceIn sourcesIn
 returns-4 c = simp (c .enum-told4 .given .1)
 
 pub bit-pair-spec : {M : Type 1} → statement M

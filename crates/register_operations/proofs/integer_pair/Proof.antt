@@ -1,4 +1,4 @@
-use Rattle.operation.specs.Roles.{integerRoles}
+use Rattle.operation.specs.Roles.{integerRoles, sourceIn, sourcesIn}
 use borrow.Author.Needs.{needs}
 use Rattle.register_operations.proofs.integer_pair.Statement.{statement}
 use Rattle.register_operations.proofs.integer_pair.Tie as tie
@@ -19,23 +19,23 @@ enum-told-5 : tie.Need-enum-told-5
 enum-told-5 c = search needs
 
 returns : tie.Need-returns
-unfolding integerRoles
+unfolding integerRoles sourceIn sourcesIn
 returns c = simp (c .enum-told .given .1)
 
 returns-2 : tie.Need-returns-2
-unfolding integerRoles
+unfolding integerRoles sourceIn sourcesIn
 returns-2 c = simp (c .enum-told2 .given .1)
 
 returns-3 : tie.Need-returns-3
-unfolding integerRoles
+unfolding integerRoles sourceIn sourcesIn
 returns-3 c = simp (c .enum-told3 .given .1)
 
 returns-4 : tie.Need-returns-4
-unfolding integerRoles
+unfolding integerRoles sourceIn sourcesIn
 returns-4 c = simp (c .enum-told4 .given .1)
 
 returns-5 : tie.Need-returns-5
-unfolding integerRoles
+unfolding integerRoles sourceIn sourcesIn
 returns-5 c = simp (c .enum-told5 .given .1)
 
 pub integer-pair-spec : {M : Type 1} → statement M

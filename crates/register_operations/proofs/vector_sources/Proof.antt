@@ -1,4 +1,4 @@
-use Rattle.operation.specs.Roles.{vectorRoles}
+use Rattle.operation.specs.Roles.{vectorRoles, sourceIn, sourcesIn}
 use borrow.Author.Needs.{needs}
 use Rattle.register_operations.proofs.vector_sources.Statement.{statement}
 use Rattle.register_operations.proofs.vector_sources.Tie as tie
@@ -31,39 +31,39 @@ enum-told-9 : tie.Need-enum-told-9
 enum-told-9 c = search needs
 
 returns : tie.Need-returns
-unfolding vectorRoles
+unfolding vectorRoles sourceIn sourcesIn
 returns c = simp (c .enum-told .given .1)
 
 returns-2 : tie.Need-returns-2
-unfolding vectorRoles
+unfolding vectorRoles sourceIn sourcesIn
 returns-2 c = simp (c .enum-told2 .given .1)
 
 returns-3 : tie.Need-returns-3
-unfolding vectorRoles
+unfolding vectorRoles sourceIn sourcesIn
 returns-3 c = simp (c .enum-told3 .given .1)
 
 returns-4 : tie.Need-returns-4
-unfolding vectorRoles
+unfolding vectorRoles sourceIn sourcesIn
 returns-4 c = simp (c .enum-told4 .given .1)
 
 returns-5 : tie.Need-returns-5
-unfolding vectorRoles
+unfolding vectorRoles sourceIn sourcesIn
 returns-5 c = simp (c .enum-told5 .given .1)
 
 returns-6 : tie.Need-returns-6
-unfolding vectorRoles
+unfolding vectorRoles sourceIn sourcesIn
 returns-6 c = simp (c .enum-told6 .given .1)
 
 returns-7 : tie.Need-returns-7
-unfolding vectorRoles
+unfolding vectorRoles sourceIn sourcesIn
 returns-7 c = simp (c .enum-told7 .given .1)
 
 returns-8 : tie.Need-returns-8
-unfolding vectorRoles
+unfolding vectorRoles sourceIn sourcesIn
 returns-8 c = simp (c .enum-told8 .given .1)
 
 returns-9 : tie.Need-returns-9
-unfolding vectorRoles
+unfolding vectorRoles sourceIn sourcesIn
 returns-9 c = simp (c .enum-told9 .given .1)
 
 pub vector-sources-spec : {M : Type 1} → statement M
