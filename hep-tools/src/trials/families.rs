@@ -281,41 +281,30 @@ fn tests(lines: &mut Vec<String>) {
 
 /// The four operations with a test that holds or doesn't; c9 is zero, c1 has PC 5.
 fn test_lines(lines: &mut Vec<String>, test: usize, before: &str, holds: bool) {
-    let before = format!("c1=5, {before}");
+    // The index that a created process and CALL's D have from the running PSW.
+    let index = if before.starts_with("r1") { "" } else { before };
+    let joins = format!("joins=1 {index} pc=5");
+    let link = format!("r0=psw {index} pc=1, ");
     let cases = [
-        ("B", format!("38{test:X}0000940090001"), "pc=9", ""),
-        ("CALL", format!("79{test:X}1000040010001"), "pc=5", "r0="),
-        ("CREATE", format!("39{test:X}1000040010001"), "joins=1", ""),
-        ("QT", format!("19{test:X}0000000000001"), "leaves", ""),
+        ("B", format!("38{test:X}0000940090001"), "", "pc=9"),
+        ("CALL", format!("79{test:X}1000040010001"), &link[..], "pc=5"),
+        ("CREATE", format!("39{test:X}1000040010001"), "", &joins),
+        ("QT", format!("19{test:X}0000000000001"), "", "leaves"),
     ];
-    for (name, word, change, link) in cases {
-        let psw = [("ri=1", "psw ri=1 pc=1"), ("ci=1", "psw ci=1 pc=1")];
-        let psw = psw.iter().find(|(field, _)| before.ends_with(field)).map_or("1", |(_, psw)| psw);
-        let fields =
-            psw.strip_prefix("psw ").and_then(|psw| psw.strip_suffix(" pc=1")).unwrap_or("");
-        let mut after = match change {
-            "joins=1" => format!("joins=1 {fields} pc=5"),
-            change => change.to_string(),
-        };
-        if !holds {
-            after.clear();
-        }
-        if !link.is_empty() {
-            after = format!("{link}{psw}, {after}");
-        }
-        lines.push(format!(
-            "{name} test {test:X} with {before} | {before} | word 0x{word} | E | {after}"
-        ));
+    for (name, word, always, change) in cases {
+        let change = if holds { change } else { "" };
+        let name = format!("{name} test {test:X} with {before}");
+        lines.push(format!("{name} | c1=5, {before} | word 0x{word} | E | {always}{change}"));
     }
 }
 
 /// The codes of check 2 by document 01 and the pages, under any fields.
 fn codes(lines: &mut Vec<String>) {
-    let privileged =
-        "0700 3601 3700 3B7F 3C00 4A00 5700 5800 7600 8700 8701 9900 9901 9902 9903 B700 C900 \
-                      D700 E10E E11F E705 E706 E707 E97F EC00 F101 F10D";
-    let unlisted = "0001 0901 1901 197F 4112 4C00 5C00 610F 6111 6C01 6C02 6C03 6C0C 6C20 6C40 6C80 711E 7900 7902 \
-                    797F 7C02 7C0C 7CE0 9C00 BC01 BC03 BC04 BC08 BC20 FC03 FC0C FC80 FFFF 0800 3A00 7201 7321";
+    let privileged = "0700 3601 3700 3B7F 3C00 4A00 5700 5800 7600 8700 8701 9900 9901 9902 \
+                      9903 B700 C900 D700 E10E E11F E705 E706 E707 E97F EC00 F101 F10D";
+    let unlisted = "0001 0800 0901 1901 197F 3A00 4112 4C00 5C00 610F 6111 6C01 6C02 6C03 6C0C \
+                    6C20 6C40 6C80 711E 7201 7321 7900 7902 797F 7C02 7C0C 7CE0 9C00 BC01 BC03 \
+                    BC04 BC08 BC20 FC03 FC0C FC80 FFFF";
     let kinds = [(privileged, "16"), ("7200 7F00 610A 6108", "1C"), (unlisted, "12")];
     for (codes, kind) in kinds {
         for code in codes.split_whitespace() {

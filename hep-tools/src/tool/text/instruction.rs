@@ -1,7 +1,7 @@
 //! One instruction: word to text and back, by the table of operations.
 
-use super::assemble::Names;
 use super::line::{Error, Line};
+use super::names::Names;
 use crate::emulator::assemble::{CONSTANT, INDEXED};
 use crate::emulator::codes::{listed, Low, Operation, Role, OPERATIONS};
 

@@ -4,13 +4,14 @@ mod assemble;
 mod dump;
 pub(crate) mod instruction;
 mod line;
+mod names;
 
 pub use assemble::assemble;
-pub(crate) use assemble::Names;
 pub use dump::{data, dump, psw_fields, register};
 pub use instruction::show;
 pub use line::Error;
 pub(crate) use line::Line;
+pub(crate) use names::Names;
 
 use crate::emulator::draft::{batch_input, Draft};
 
