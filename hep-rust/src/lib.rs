@@ -11,7 +11,7 @@
 //! assert_eq!(hep::run(&image, &[8]).unwrap_err().number(), 10);
 //! ```
 
-mod sys;
+pub mod sys;
 
 use std::{error, fmt};
 

@@ -24,16 +24,19 @@ mod c {
     }
 }
 
+/// `hep_check`.
 pub fn check(image: &[u8]) -> u32 {
     // SAFETY: the borrow of the slice.
     unsafe { c::hep_check(image.as_ptr(), image.len()) }
 }
 
+/// `hep_sizes`.
 pub fn sizes(image: &[u8], sizes: &mut [u64]) -> u32 {
     // SAFETY: the borrows of the slices.
     unsafe { c::hep_sizes(image.as_ptr(), image.len(), sizes.as_mut_ptr(), sizes.len()) }
 }
 
+/// `hep_run`.
 #[rustfmt::skip]
 pub fn run(
     image: &[u8], schedule: &[u8],
@@ -59,6 +62,7 @@ pub fn run(
     }
 }
 
+/// `hep_batch`.
 pub fn batch(input: &[u8], output: &mut [u8]) -> usize {
     // SAFETY: the borrows of the slices.
     unsafe { c::hep_batch(input.as_ptr(), input.len(), output.as_mut_ptr(), output.len()) }

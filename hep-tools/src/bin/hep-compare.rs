@@ -1,12 +1,10 @@
 //! Holds an implementation of the batch program to the trials and to the emulator.
 
-use hep_tools::compare::isolation::{self, PREMISES};
-use hep_tools::compare::{self, Difference, Emulator, Implementation, Lines, Program};
-use hep_tools::tool;
-use hep_tools::tool::text;
+use hep_tools::compare::{self, isolation, shown};
+use hep_tools::compare::{Difference, Emulator, Implementation, Lines, Program};
 use hep_tools::trials;
-use std::path::{Path, PathBuf};
-use std::{env, fs, process};
+use std::path::PathBuf;
+use std::{env, process};
 
 const HELP: &str = "\
 usage: hep-compare [OPTION..] [PROGRAM [ARGUMENT..]]
@@ -105,62 +103,15 @@ fn run_random(tried: &mut dyn Implementation, arguments: &Arguments) {
 
 /// Prints and saves what differs, and ends.
 fn told(difference: &Difference, arguments: &Arguments) -> ! {
-    let Difference { name, input, expected, found } = difference;
-    println!("differs: {name}");
-    println!("expected:\n{}", String::from_utf8_lossy(&expected.output));
-    match found {
-        Ok(found) => println!("found:\n{}", String::from_utf8_lossy(&found.output)),
-        Err(reason) => println!("found: {reason}"),
-    }
-    if let (Some(expected), Ok(found)) = (&expected.image, found) {
-        if let Some(found) = &found.image {
-            images(expected, found);
-        }
-    }
-    if let Ok(source) = tool::load(input) {
-        println!("the input:\n{}", text::dump(&source));
-    }
-    save(&arguments.save, "differs.hex", input);
+    shown::difference(difference, &arguments.save).unwrap_or_else(|reason| fail(2, &reason));
     process::exit(1)
-}
-
-/// Prints the lines of two images' texts that differ.
-fn images(expected: &[u8], found: &[u8]) {
-    let text = |image| tool::dumped(image, false).unwrap_or_else(|reason| reason);
-    let (expected, found) = (text(expected), text(found));
-    for (expected, found) in expected.lines().zip(found.lines()).filter(|(a, b)| a != b) {
-        println!("image, expected: {expected}\nimage, found:    {found}");
-    }
-}
-
-fn save(folder: &Path, name: &str, input: &[u8]) {
-    let path = folder.join(name);
-    println!("hex, also in {}:\n{}", path.display(), tool::to_hex(input));
-    let saved = fs::create_dir_all(folder).and_then(|()| fs::write(&path, tool::to_hex(input)));
-    if let Err(error) = saved {
-        fail(2, &format!("{}: {error}", path.display()));
-    }
 }
 
 fn run_isolation(tried: &mut dyn Implementation, arguments: &Arguments) {
     let tally = isolation::tried(tried, arguments.seed, arguments.pairs);
     let tally = tally.unwrap_or_else(|reason| fail(1, &reason));
-    let differed = u8::from(tally.failure.is_some());
-    println!(
-        "isolation: {} pairs met the premises ({} changed the task), {differed} differed",
-        tally.met, tally.met_changed
-    );
-    let counted = PREMISES.iter().zip(tally.broken).filter(|(_, count)| *count > 0);
-    let counted = counted.map(|((_, name), count)| format!("{name} {count}")).collect::<Vec<_>>();
-    println!(
-        "isolation, a premise broken: {}; {} differed",
-        counted.join(", "),
-        tally.broken_differed
-    );
-    if let Some((first, second, task)) = tally.failure {
-        println!("task {task} differs");
-        save(&arguments.save, "first.hex", &first);
-        save(&arguments.save, "second.hex", &second);
+    shown::pairs(&tally, &arguments.save).unwrap_or_else(|reason| fail(2, &reason));
+    if tally.failure.is_some() {
         process::exit(1);
     }
 }

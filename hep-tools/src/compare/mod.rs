@@ -3,6 +3,7 @@
 
 mod implementation;
 pub mod isolation;
+pub mod shown;
 mod shrink;
 
 pub use implementation::{Emulator, Implementation, Lines, Program};

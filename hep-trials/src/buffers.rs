@@ -1,0 +1,128 @@
+//! What a run is lent.
+
+use hep::sys;
+
+/// Lengths that `hep_sizes` and `hep_run` ask for (include/hep.h).
+pub const SIZES: usize = 5;
+const COUNTS: usize = 6;
+const REPORT_ROOM: usize = 512;
+const OUTPUT_ROOM: usize = 640;
+
+/// What every element holds before a call, and how many are there beyond the lent ones.
+const BYTE: u8 = 0xA5;
+const WORD: u64 = 0xA5A5_A5A5_A5A5_A5A5;
+const SPARE: usize = 2;
+
+/// A length for each buffer, in the order of `hep_run`'s parameters.
+pub type Lengths = [usize; 9];
+
+/// The buffers of a run, in the order of its parameters.
+pub struct Buffers {
+    pub constants: Vec<u64>,
+    pub register_tags: Vec<u8>,
+    pub register_words: Vec<u64>,
+    pub program: Vec<u64>,
+    pub data_tags: Vec<u8>,
+    pub data_words: Vec<u64>,
+    pub output: Vec<u8>,
+    pub counts: Vec<u64>,
+    pub report: Vec<u8>,
+}
+
+/// The lengths that a run of this image asks for, or the number of its refusal.
+pub fn asked(image: &[u8]) -> Result<Lengths, u32> {
+    let mut sizes = [0; SIZES];
+    match sys::sizes(image, &mut sizes) {
+        0 => {
+            let [_, constants, registers, program, data] = sizes.map(|n| n as usize);
+            let output = image.len() + OUTPUT_ROOM;
+            Ok([constants, registers, registers, program, data, data, output, COUNTS, REPORT_ROOM])
+        }
+        number => Err(number),
+    }
+}
+
+/// Marked bytes.
+pub fn bytes(length: usize) -> Vec<u8> {
+    vec![BYTE; length]
+}
+
+/// Marked words.
+pub fn words(length: usize) -> Vec<u64> {
+    vec![WORD; length]
+}
+
+/// Whether all of these are as they were before the call.
+pub fn bytes_stay(bytes: &[u8]) -> bool {
+    bytes.iter().all(|&byte| byte == BYTE)
+}
+
+/// Whether all of these are as they were before the call.
+pub fn words_stay(words: &[u64]) -> bool {
+    words.iter().all(|&word| word == WORD)
+}
+
+impl Buffers {
+    /// Marked buffers, each a little longer than that.
+    pub fn new(lengths: &Lengths) -> Self {
+        let [c, rt, rw, p, dt, dw, o, n, r] = lengths.map(|length| length + SPARE);
+        Buffers {
+            constants: words(c),
+            register_tags: bytes(rt),
+            register_words: words(rw),
+            program: words(p),
+            data_tags: bytes(dt),
+            data_words: words(dw),
+            output: bytes(o),
+            counts: words(n),
+            report: bytes(r),
+        }
+    }
+
+    /// `hep_run` with as much of each buffer as that.
+    pub fn run(&mut self, image: &[u8], schedule: &[u8], lengths: &Lengths) -> u32 {
+        let [c, rt, rw, p, dt, dw, o, n, r] = *lengths;
+        sys::run(
+            image,
+            schedule,
+            &mut self.constants[..c],
+            &mut self.register_tags[..rt],
+            &mut self.register_words[..rw],
+            &mut self.program[..p],
+            &mut self.data_tags[..dt],
+            &mut self.data_words[..dw],
+            &mut self.output[..o],
+            &mut self.counts[..n],
+            &mut self.report[..r],
+        )
+    }
+
+    /// Whether every buffer is from there on as it was before the call.
+    pub fn stays_from(&self, places: &Lengths) -> bool {
+        let [c, rt, rw, p, dt, dw, o, n, r] = *places;
+        words_stay(&self.constants[c..])
+            && bytes_stay(&self.register_tags[rt..])
+            && words_stay(&self.register_words[rw..])
+            && words_stay(&self.program[p..])
+            && bytes_stay(&self.data_tags[dt..])
+            && words_stay(&self.data_words[dw..])
+            && bytes_stay(&self.output[o..])
+            && words_stay(&self.counts[n..])
+            && bytes_stay(&self.report[r..])
+    }
+
+    /// How many steps were executed, waved, trapped and idle.
+    pub fn endings(&self) -> [u64; 4] {
+        [self.counts[0], self.counts[1], self.counts[2], self.counts[3]]
+    }
+
+    /// The image after the run.
+    pub fn image(&self) -> &[u8] {
+        &self.output[..self.counts[4] as usize]
+    }
+
+    /// The report of the batch program.
+    pub fn report(&self) -> &[u8] {
+        &self.report[..self.counts[5] as usize]
+    }
+}
