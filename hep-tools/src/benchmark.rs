@@ -97,6 +97,26 @@ pub fn loadstore() -> (Vec<u8>, Vec<u8>) {
     (draft.bytes(), in_turn(1))
 }
 
+/// Straight arithmetic in an image with so many data words, which no window shows.
+pub fn arithmetic_beside(data_words: usize) -> (Vec<u8>, Vec<u8>) {
+    let mut draft = draft(&[looped(arithmetic_operation)]);
+    (draft.tasks[0].db, draft.tasks[0].dl) = (1, 0);
+    draft.data = vec![(1, 0); data_words];
+    start(&mut draft, 1, 0);
+    (draft.bytes(), in_turn(1))
+}
+
+/// Loads and stores all over so many data words, at least 32.
+pub fn loadstore_over(data_words: usize) -> (Vec<u8>, Vec<u8>) {
+    let mut draft = draft(&[looped(data_operation)]);
+    draft.tasks[0].dl = (data_words / 32 - 1) as u32;
+    // An eighth of the memory apart: the sum of two is inside it.
+    (4..8).for_each(|i| draft.constants[i] = (i as u64 - 4) * data_words as u64);
+    draft.data = vec![(1, 0); data_words];
+    start(&mut draft, 1, 0);
+    (draft.bytes(), in_turn(1))
+}
+
 /// A process that waits on an empty register.
 pub fn waved() -> (Vec<u8>, Vec<u8>) {
     let mut draft = draft(&[vec![word(MOV, register(0), accessed(1, 1), 0)]]);

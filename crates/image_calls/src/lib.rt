@@ -1,4 +1,4 @@
-// Reading and writing of images for programs in other languages, of the memories alone: tests/image_speed.rs measures them.
+// Reading and writing of images for programs in other languages, of the memories alone: hep-bench of hep-trials measures them.
 ghost use mathlib.Core.Path.{_≡_};
 ghost use lib.ListN.{length};
 ghost use Rattle.image.specs.Image.{encode};

@@ -53,10 +53,15 @@ pub fn accepted(input: &[u8]) -> Result<(&[u8], Machine), u8> {
     }
     let (schedule, image) = split(input).ok_or(SHORT)?;
     let machine = image::read(image)?;
-    if !schedule.iter().all(|item| (1..=7).contains(item)) {
+    if !items_accepted(schedule) {
         return Err(BAD_ITEM);
     }
     Ok((schedule, machine))
+}
+
+/// Whether every item is the number of a task.
+pub fn items_accepted(schedule: &[u8]) -> bool {
+    schedule.iter().all(|item| (1..=7).contains(item))
 }
 
 /// Splits the input into schedule and image.

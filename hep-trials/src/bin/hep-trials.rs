@@ -81,9 +81,10 @@ fn told(difference: Option<Difference>, arguments: &Arguments) {
 /// How many inputs were tried.
 fn run_random(arguments: &Arguments) -> u64 {
     let count = arguments.count.unwrap_or(50_000);
-    let progress = |done: u64| match arguments.count {
-        Some(count) => eprint!("\r{done} of {count}{}", if done == count { "\n" } else { "" }),
-        None => {}
+    let progress = |done: u64| {
+        if arguments.count.is_some() {
+            eprint!("\r{done} of {count}{}", if done == count { "\n" } else { "" });
+        }
     };
     told(random::random(arguments.seed, count, &progress), arguments);
     count

@@ -1,0 +1,23 @@
+#!/usr/bin/env bash
+# The proved library timed beside the emulator of hep-tools and beside a plain copy, all built for release, in one run. What is measured is
+# the archives of the proved crates.
+#
+#     bash tests/bench.sh [--write]    --write: the tables go to docs/BENCHMARKS.md, below its line "## Measured"
+set -euo pipefail
+cd "$(dirname "$0")/.."
+for crate in hep_c image_calls; do rt staticlib "$crate" | tail -1; done
+cargo build --quiet --release --offline --manifest-path hep-trials/Cargo.toml --bin hep-bench
+measured() {
+    echo "$(date +%F), commit $(git rev-parse --short HEAD), $(lscpu | sed -n 's/^Model name: *//p'), $(nproc) processors, load $(cut -d ' ' -f 1-2 /proc/loadavg) (1 and 5 minutes)."
+    echo
+    hep-trials/target/release/hep-bench
+    echo
+    hep-trials/target/release/hep-bench --instructions
+}
+if [ "${1:-}" = --write ]; then
+    tables=$(measured)
+    { sed '/^## Measured$/q' docs/BENCHMARKS.md; printf '\n%s\n' "$tables"; } > target/BENCHMARKS.md
+    mv target/BENCHMARKS.md docs/BENCHMARKS.md
+else
+    measured
+fi
