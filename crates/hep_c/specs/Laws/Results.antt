@@ -23,7 +23,7 @@ use Rattle.calls.specs.declared.Rows.{Rows}
 use Rattle.calls.specs.Buffers.{Buffers, roomOf, fits, sizesOf, fieldsIn, holding}
 use Rattle.calls.specs.Calls.{answers, unless}
 use Rattle.buffered.specs.declared.SizesRead.{SizesRead}
-use Rattle.buffered.specs.Held.{lentBuffers, room, heldRows, SamePlaces}
+use Rattle.buffered.specs.Held.{lentBuffers, roomFrom, heldRows, SamePlaces}
 use Rattle.buffered.specs.Promises.{ReadPromise, RunPromise, WritePromise}
 use Rattle.buffered.specs.Laws.Cut.{room-held}
 use Rattle.report.specs.Report.{rowLines, countsLine, reportOf}
@@ -50,7 +50,7 @@ module _ (image schedule : List ℕ) (i : Image) (n : Sizes) (bytes : Bytes imag
   abbrev buffers₀ : Buffers
   buffers₀ = lentBuffers (heldRows v₀) t₀ constants tags words program dataTags dataWords
 
-  taken : Accepted schedule n (room 7 (length constants) (length tags) (length words) (length program) (length dataTags) (length dataWords)) (length image) (length output) (length counts) (length report)
+  taken : Accepted schedule n (roomFrom 7 (length constants) (length tags) (length words) (length program) (length dataTags) (length dataWords)) (length image) (length output) (length counts) (length report)
   unfolding imageRunRefusal
   taken = accepted schedule n _ (length image) (length output) (length counts) (length report) fine
 
