@@ -5,7 +5,7 @@ ghost use Rattle.window.specs.Memories.{memory, written};
 ghost use Rattle.operation.specs.declared.Decision.the-variants.{Executes};
 ghost use Rattle.operation.specs.Environment.{kindOf};
 ghost use Rattle.step.specs.Act.{registerWrites, dataWrites, trappedRow};
-ghost use Rattle.step.specs.Parts.{fateCreates, creates, result, fateResult, fatePsws, headLeaves, headTurns, ptJoins, raised, rowAfter, traps, Acts};
+ghost use Rattle.step.specs.Parts.{fateCreates, creates, result, fateResult, fatePsws, headLeaves, headTurns, ptJoins, flagAfter, rowAfter, traps, Acts};
 use operation::Decision;
 use operation::Effects;
 use operation::Fate;
@@ -191,7 +191,7 @@ pub fn pt_joins(m: Motion) -> bool
 
 // The create that makes the last process raises the flag.
 pub fn raised(m: Motion, flag: u8) -> u8
-    ensures { λ r. ⌜ r ≡ raised m flag ⌝ }
+    ensures { λ r. ⌜ r ≡ flagAfter m flag ⌝ }
 {
     match m {
         Motion::Stays => flag,

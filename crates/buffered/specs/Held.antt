@@ -20,8 +20,8 @@ lentBuffers rows table constants tags words program dataTags dataWords = record 
   dataWords = dataWords;
 }
 
-abbrev pub room : (rows constants tags words program dataTags dataWords : ℕ) → Room
-room rows constants tags words program dataTags dataWords = record {
+abbrev pub roomFrom : (rows constants tags words program dataTags dataWords : ℕ) → Room
+roomFrom rows constants tags words program dataTags dataWords = record {
   rows = rows;
   constants = constants;
   registerTags = tags;

@@ -26,13 +26,13 @@ unfoldable pub sizesCounted : Counted → Sizes
 sizesCounted z = record { rows = z .rows; constants = z .constants; registers = z .registers; program = z .program; data_words = z .data_words }
 
 -- a refusal leaves rows and table; else the image's rows are put over the first places
-unfoldable pub leftBy : ReadAnswer → (new : List Row) → (newTable : ProcessTable) → Rows → ProcessTable → AfterRead
-leftBy (RefusedReading e) new newTable v table = record { rows = v; table = table; answer = Refused e }
-leftBy (Counts z) new newTable v table = record {
+unfoldable pub rowsLeftBy : ReadAnswer → (new : List Row) → (newTable : ProcessTable) → Rows → ProcessTable → AfterRead
+rowsLeftBy (RefusedReading e) new newTable v table = record { rows = v; table = table; answer = Refused e }
+rowsLeftBy (Counts z) new newTable v table = record {
   rows = record { at = take (z .rows) new ++ drop (z .rows) (v .at); n = v .n };
   table = newTable;
   answer = Read (sizesCounted z);
 }
 
 unfoldable pub readLeft : Reading → Rows → ProcessTable → AfterRead
-readLeft x v table = leftBy (x .answer) (x .rows) (x .table) v table
+readLeft x v table = rowsLeftBy (x .answer) (x .rows) (x .table) v table

@@ -7,7 +7,7 @@ ghost use lib.ListN.{length, take, drop};
 ghost use Rattle.runner.specs.declared.RunAnswer.the-variants.{Refused};
 ghost use Rattle.calls.specs.Buffers.{fits};
 ghost use Rattle.buffered.specs.declared.SizesRead.the-variants.{Refused as RefusedRead};
-ghost use Rattle.buffered.specs.Held.{room, heldRows, lentBuffers, SamePlaces};
+ghost use Rattle.buffered.specs.Held.{roomFrom, heldRows, lentBuffers, SamePlaces};
 ghost use Rattle.buffered.specs.Promises.{ReadPromise, RunPromise, WritePromise};
 ghost use Rattle.buffered.specs.Left.{shortOfRows, readLeft};
 use calls::Rows;
@@ -61,7 +61,7 @@ pub fn fits(
     data_tags: usize,
     data_words: usize,
 ) -> bool
-    ensures { λ r. ⌜ r ≡ fits n (room rows constants tags words program data_tags data_words) ⌝ }
+    ensures { λ r. ⌜ r ≡ fits n (roomFrom rows constants tags words program data_tags data_words) ⌝ }
 {
     if rows < n.rows {
         return false;
@@ -109,7 +109,7 @@ fn run_cut(
     schedule: &[u8],
     n: Sizes,
 ) -> AfterRun
-    requires { ⌜ fits n (room (min (rows .n) 7) (length (now constants)) (length (now tags)) (length (now words)) (length (now program)) (length (now data_tags)) (length (now data_words))) ≡ true ⌝ }
+    requires { ⌜ fits n (roomFrom (min (rows .n) 7) (length (now constants)) (length (now tags)) (length (now words)) (length (now program)) (length (now data_tags)) (length (now data_words))) ≡ true ⌝ }
     ensures { λ r. ⌜ RunPromise n (lentBuffers (heldRows rows) table (now (constants .entry)) (now (tags .entry)) (now (words .entry)) (now (program .entry)) (now (data_tags .entry)) (now (data_words .entry))) (now (schedule .entry)) (r .answer) (lentBuffers (heldRows (r .rows)) (r .table) (now (constants .entry)) (now (tags .exit)) (now (words .exit)) (now (program .entry)) (now (data_tags .exit)) (now (data_words .exit))) × SamePlaces rows (r .rows) ⌝ }
 {
     let at = rows.at;
@@ -195,7 +195,7 @@ fn write_cut(
     out: &mut [u8],
     n: Sizes,
 ) -> Writing
-    requires { ⌜ fits n (room (min (rows .n) 7) (length (now constants)) (length (now tags)) (length (now words)) (length (now program)) (length (now data_tags)) (length (now data_words))) ≡ true ⌝ }
+    requires { ⌜ fits n (roomFrom (min (rows .n) 7) (length (now constants)) (length (now tags)) (length (now words)) (length (now program)) (length (now data_tags)) (length (now data_words))) ≡ true ⌝ }
     ensures { λ r. ⌜ WritePromise n (lentBuffers (heldRows rows) table (now (constants .entry)) (now (tags .entry)) (now (words .entry)) (now (program .entry)) (now (data_tags .entry)) (now (data_words .entry))) r (now (out .entry)) (now (out .exit)) ⌝ }
 {
     let at = rows.at;

@@ -2,7 +2,7 @@
 -- none; on a refusal every lent number stays.
 use Prim.Native.Nat.{ℕ, _+_}
 use mathlib.Core.Path.{_≡_}
-use mathlib.Core.Bool.{Bool, cond, not, _&&_}
+use mathlib.Core.Bool.{Bool, cond, _&&_}
 use mathlib.Core.Option.{Option, none, some}
 use mathlib.Core.List.{List, [], _∷_}
 use lib.Dec.{leb, ltb}
@@ -20,7 +20,7 @@ use Rattle.image.specs.Fields.{over}
 use Rattle.calls.specs.declared.Sizes.{Sizes}
 use Rattle.calls.specs.Buffers.{Room, fits, sizesOf}
 use Rattle.calls.specs.Calls.{Answer, refuses, answers, unless, orElse}
-use Rattle.buffered.specs.Held.{room}
+use Rattle.buffered.specs.Held.{roomFrom}
 use Rattle.report.specs.Report.{reportOf}
 
 -- the refusal's number, or 0
@@ -93,7 +93,7 @@ lengthsRefusal schedule n memories image output counts report =
 
 unfoldable pub imageRunRefusal : (image schedule : List ℕ) → Sizes → Slices → Option Refusal
 imageRunRefusal image schedule n l =
-    lengthsRefusal schedule n (room 7 (length (l .constants)) (length (l .registerTags)) (length (l .registerWords)) (length (l .program)) (length (l .dataTags)) (length (l .dataWords)))
+    lengthsRefusal schedule n (roomFrom 7 (length (l .constants)) (length (l .registerTags)) (length (l .registerWords)) (length (l .program)) (length (l .dataTags)) (length (l .dataWords)))
     (length image) (length (l .output)) (length (l .counts)) (length (l .report))
 
 unfoldable pub imageRunAnswer : (image schedule : List ℕ) → Slices → Decoded → Answer Ran

@@ -11,7 +11,7 @@ ghost use Rattle.image_check.specs.Checked.{checkedOf};
 ghost use Rattle.image_read.specs.Read.{sevenRows, tableRead};
 ghost use Rattle.run.specs.Schedule.{scheduleRefusal};
 ghost use Rattle.calls.specs.Trials.{numbered};
-ghost use Rattle.buffered.specs.Held.{room};
+ghost use Rattle.buffered.specs.Held.{roomFrom};
 ghost use Rattle.buffered.specs.Left.{sizesCounted};
 ghost use Rattle.report.specs.Report.{outputOf};
 ghost use Rattle.reporting.specs.Texts.{copiedInto};
@@ -21,7 +21,6 @@ use calls::Rows;
 use calls::Sizes;
 use image_check::Checked;
 use image_check::Counted;
-use refusal::Refusal;
 use run::Counts;
 use runner::RunAnswer;
 use step::ProcessTable;
@@ -62,7 +61,7 @@ fn put_sizes(z: Counted, sizes: &mut [u64]) -> u32
     ensures left { λ _. ⌜ now (sizes .exit) ≡ sizesLeft (listedAnswer (length (now (sizes .entry))) (sizesCounted z)) (now (sizes .entry)) ⌝ }
 {
     if sizes.len() < 5 {
-        return reporting::number(Refusal::ShortBuffer) as u32;
+        return 7;
     }
     let numbers = [
         z.rows as u64,
@@ -197,7 +196,7 @@ fn lengths_number(
     counts: usize,
     report: usize,
 ) -> u32
-    ensures { λ r. ⌜ r ≡ numbered (lengthsRefusal (now (schedule .entry)) n (room 7 constants tags words program data_tags data_words) image output counts report) ⌝ }
+    ensures { λ r. ⌜ r ≡ numbered (lengthsRefusal (now (schedule .entry)) n (roomFrom 7 constants tags words program data_tags data_words) image output counts report) ⌝ }
 {
     if !buffered::fits(n, 7, constants, tags, words, program, data_tags, data_words) {
         return 7;

@@ -22,12 +22,12 @@ abbrev pub rowOr : Rows → ℕ → Row → Row
 rowOr v i old = cond (leb 7 i) old (getD (v .at) i noRow)
 
 -- the rows from index i on, into v
-unfoldable pub loadFrom : List Row → ℕ → Rows → Rows
-loadFrom [] i v = v
-loadFrom (r ∷ rs) i v = loadFrom rs (suc i) (withRow v i r)
+unfoldable pub loadedFrom : List Row → ℕ → Rows → Rows
+loadedFrom [] i v = v
+loadedFrom (r ∷ rs) i v = loadedFrom rs (suc i) (withRow v i r)
 
 abbrev pub loadedRows : List Row → Rows
-loadedRows rows = loadFrom rows 0 noRows
+loadedRows rows = loadedFrom rows 0 noRows
 
 -- the rows of v over those of a slice, from index i on
 unfoldable pub storeFrom : List Row → ℕ → Rows → List Row

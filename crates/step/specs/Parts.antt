@@ -124,12 +124,12 @@ ptJoins (TurnsAndJoins p) = true
 ptJoins (Joins p) = true
 
 -- the flag: the create that makes the last process raises it
-unfoldable pub raised : Motion → (flag : ℕ) → ℕ
-raised Stays flag = flag
-raised Turns flag = flag
-raised Leaves flag = flag
-raised (TurnsAndJoins p) flag = flag
-raised (Joins p) flag = 1
+unfoldable pub flagAfter : Motion → (flag : ℕ) → ℕ
+flagAfter Stays flag = flag
+flagAfter Turns flag = flag
+flagAfter Leaves flag = flag
+flagAfter (TurnsAndJoins p) flag = flag
+flagAfter (Joins p) flag = 1
 
 -- the row: only a trap changes it
 unfoldable pub rowAfter : Ending → Row → Row

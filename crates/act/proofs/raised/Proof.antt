@@ -1,4 +1,4 @@
-use Rattle.step.specs.Parts.{raised}
+use Rattle.step.specs.Parts.{flagAfter}
 use borrow.Author.Needs.{needs}
 use Rattle.act.proofs.raised.Statement.{statement}
 use Rattle.act.proofs.raised.Tie as tie
@@ -19,23 +19,23 @@ enum-told-5 : tie.Need-enum-told-5
 enum-told-5 c = search needs
 
 returns : tie.Need-returns
-unfolding raised
+unfolding flagAfter
 returns c = simp (c .enum-told .given .1)
 
 returns-2 : tie.Need-returns-2
-unfolding raised
+unfolding flagAfter
 returns-2 c = simp (c .enum-told2 .given .1)
 
 returns-3 : tie.Need-returns-3
-unfolding raised
+unfolding flagAfter
 returns-3 c = simp (c .enum-told3 .given .1)
 
 returns-4 : tie.Need-returns-4
-unfolding raised
+unfolding flagAfter
 returns-4 c = simp (c .enum-told4 .given .1)
 
 returns-5 : tie.Need-returns-5
-unfolding raised
+unfolding flagAfter
 returns-5 c = simp (c .enum-told5 .given .1)
 
 pub raised-spec : {M : Type 1} → statement M

@@ -1,5 +1,5 @@
 -- `buffered::read_left` meets its contract, case by case.
-use Rattle.buffered.specs.Left.{sizesCounted, leftBy, readLeft}
+use Rattle.buffered.specs.Left.{sizesCounted, rowsLeftBy, readLeft}
 use borrow.Author.Needs.{needs}
 use Rattle.buffered.proofs.read_left.Statement.{statement}
 use Rattle.buffered.proofs.read_left.Tie as tie
@@ -17,11 +17,11 @@ rows-over-requires : tie.Need-rows-over-requires
 rows-over-requires c κs = search needs
 
 returns : tie.Need-returns
-unfolding readLeft leftBy
+unfolding readLeft rowsLeftBy
 returns c = rw (c .read-refused .ensures, c .before .before .answer .given .1)
 
 returns-2 : tie.Need-returns-2
-unfolding readLeft leftBy sizesCounted
+unfolding readLeft rowsLeftBy sizesCounted
 returns-2 c = rw (c .before .rows-over .ensures, c .before .before .before .before .before .answer2 .given .1)
 
 pub read-left-spec : {M : Type 1} → statement M

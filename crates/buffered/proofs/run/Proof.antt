@@ -5,7 +5,7 @@ use mathlib.Core.Bool.{false}
 use lib.ListN.{length, length-map}
 use borrow.Author.Tests.{not-true, not-false}
 use Rattle.calls.specs.Buffers.{fits}
-use Rattle.buffered.specs.Held.{room}
+use Rattle.buffered.specs.Held.{roomFrom}
 use Rattle.buffered.specs.Laws.Run.{run-unfit}
 use borrow.Author.Needs.{needs}
 use Rattle.buffered.proofs.run.Statement.{statement}
@@ -25,7 +25,7 @@ returns c =
     let s = c .before .before .before .before .before .before .before .before .before .before .before in
     let a = s .args in
     let seven = sym (length-map (a .rows .at) _) ∙ s .good .0 .1 .1 .0 .1 .0 .1 in
-    let q : fits (a .n) (room (min (a .rows .n) 7) (length (a .constants .now)) (length (a .tags .now)) (length (a .words .now)) (length (a .program .now)) (length (a .data-tags .now)) (length (a .data-words .now))) ≡ false = rw (← c .before .before .before .row-count .ensures) (sym (c .before .before .fits2 .ensures) ∙ not-true _ (c .before .if1 .taken)) in
+    let q : fits (a .n) (roomFrom (min (a .rows .n) 7) (length (a .constants .now)) (length (a .tags .now)) (length (a .words .now)) (length (a .program .now)) (length (a .data-tags .now)) (length (a .data-words .now))) ≡ false = rw (← c .before .before .before .row-count .ensures) (sym (c .before .before .fits2 .ensures) ∙ not-true _ (c .before .if1 .taken)) in
     rw (c .run-refused .ensures)
     (run-unfit (a .rows) (a .table) (a .constants .now) (a .tags .now) (a .words .now) (a .program .now) (a .data-tags .now) (a .data-words .now) (a .n) (a .schedule .now) seven q, record { count = refl; places = seven })
 

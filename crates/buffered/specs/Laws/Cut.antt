@@ -10,7 +10,7 @@ use Rattle.soundness.specs.Held.{stateIn}
 use Rattle.calls.specs.declared.Sizes.{Sizes}
 use Rattle.calls.specs.Buffers.{Buffers, Room, roomOf, fieldsIn}
 use Rattle.calls.specs.declared.Rows.{Rows}
-use Rattle.buffered.specs.Held.{lentBuffers, room, heldRows}
+use Rattle.buffered.specs.Held.{lentBuffers, roomFrom, heldRows}
 
 module _ (v : Rows) (table : ProcessTable) (constants tags words program dataTags dataWords : List ℕ) where
   -- the buffers
@@ -19,7 +19,7 @@ module _ (v : Rows) (table : ProcessTable) (constants tags words program dataTag
 
   -- their lengths, as they are tested
   abbrev pub lengths : Room
-  lengths = room (min (v .n) 7) (length constants) (length tags) (length words) (length program) (length dataTags) (length dataWords)
+  lengths = roomFrom (min (v .n) 7) (length constants) (length tags) (length words) (length program) (length dataTags) (length dataWords)
 
   pub room-held : length (v .at) ≡ 7 → roomOf before ≡ lengths
   unfolding roomOf heldRows

@@ -27,7 +27,7 @@ use Rattle.buffered.specs.declared.SizesRead.{SizesRead}
 use Rattle.buffered.specs.declared.SizesRead.the-variants.{Refused}
 use Rattle.buffered.specs.Held.{lentBuffers, heldRows, SamePlaces}
 use Rattle.buffered.specs.Promises.{readAnswered, ReadPromise}
-use Rattle.buffered.specs.Left.{shortOfRows, sizesCounted, leftBy, readLeft}
+use Rattle.buffered.specs.Left.{shortOfRows, sizesCounted, rowsLeftBy, readLeft}
 use Rattle.buffered.specs.Laws.Cut.{before, room-held}
 use Rattle.buffered.specs.Laws.Places.{over-places}
 
@@ -99,12 +99,12 @@ module _ (v : Rows) (table : ProcessTable) (constants tags words program dataTag
   Placed x = SamePlaces v (readLeft (x .reading) v table .rows)
 
   refused-left : (d : Decoded) → decode bytes ≡ d → (e : Refusal) → length (v .at) ≡ 7 → Kept d (Refused e) held → ReadPromise held bytes (answerLeft (readLeaving (refusal e) lent)) (buffersLeft (readLeaving (refusal e) lent)) × Placed (readLeaving (refusal e) lent)
-  unfolding refusal readLeft leftBy
+  unfolding refusal readLeft rowsLeftBy
   refused-left d q e seven k = (kept-promise d q _ _ k, record { count = refl; places = seven })
 
   image-left : (i : Image) → decode bytes ≡ good i → length (v .at) ≡ 7 → length (i .rows) ≤ min (v .n) 7 → fits (sizesOf (stateOf i)) (roomOf held) ≡ true
       → ReadPromise held bytes (answerLeft (readLeaving (imageReading i) (filledBuffers i lent))) (buffersLeft (readLeaving (imageReading i) (filledBuffers i lent))) × Placed (readLeaving (imageReading i) (filledBuffers i lent))
-  unfolding imageReading readLeft leftBy filledBuffers heldRows sevenRows readAnswered decodedAnswer decodedRefusal decodedLeaves unless leaving holding stateOf memoryOf countsOf
+  unfolding imageReading readLeft rowsLeftBy filledBuffers heldRows sevenRows readAnswered decodedAnswer decodedRefusal decodedLeaves unless leaving holding stateOf memoryOf countsOf
   image-left i q seven h e =
       let k = length (i .rows) in
       let at = i .rows ++ drop k (v .at) in

@@ -1,7 +1,5 @@
 -- `hep_c::hep_check` meets its contract: what the check finds is what decoding gives.
-use mathlib.Core.Path.{sym, ap, _∙_}
-use Rattle.image.specs.Image.{Decoded}
-use Rattle.hep_c.specs.Answers.{numberAnswered, checkAnswer}
+use mathlib.Core.Path.{sym, _∙_}
 use Rattle.hep_c.specs.Laws.Numbers.{check-refused, check-fine}
 use borrow.Author.Needs.{needs}
 use Rattle.hep_c.proofs.hep_check.Statement.{statement}

@@ -1,6 +1,5 @@
 -- `hep_c::run_accepted` meets its contract: by the promises of the calls, one after another.
-use mathlib.Core.Path.{_≡_, refl, sym, ap, _∙_}
-use mathlib.Core.Option.{none}
+use mathlib.Core.Path.{sym, ap, _∙_}
 use native.Mathlib.Omega.{arith}
 use lib.ListN.{length}
 use Rattle.image_words.specs.Laws.Fields.{all-bytes}

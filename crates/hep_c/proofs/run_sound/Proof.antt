@@ -1,6 +1,5 @@
 -- `hep_c::run_sound` meets its contract: refused where a number is found, else as the run leaves it.
-use mathlib.Core.Path.{_≡_, sym, ap, _∙_}
-use mathlib.Core.Option.{none}
+use mathlib.Core.Path.{sym, _∙_}
 use Rattle.hep_c.specs.Answers.{imageRunRefusal}
 use Rattle.hep_c.specs.Laws.Numbers.{none-numbered}
 use Rattle.hep_c.specs.Laws.Promised.{sound-refused, sound-accepted}

@@ -1,7 +1,7 @@
 -- The promise of a run, from what the check finds and what the lengths and the schedule refuse.
 use Prim.Native.Nat.{ℕ, _≤_}
-use mathlib.Core.Path.{_≡_, refl, sym, ap, _∙_}
-use mathlib.Core.Option.{Option, none, some}
+use mathlib.Core.Path.{_≡_, sym, ap, _∙_}
+use mathlib.Core.Option.{Option, none}
 use mathlib.Core.List.{List}
 use lib.ListN.{length}
 use Rattle.refusal.specs.declared.Refusal.{Refusal}
@@ -18,7 +18,7 @@ use Rattle.calls.specs.Trials.{numbered}
 use Rattle.buffered.specs.Left.{sizesCounted}
 use Rattle.hep_c.specs.Answers.{numberAnswered, Slices, imageRunRefusal, imageRunAnswer, imageRunLeft, ImageRunPromise}
 use Rattle.hep_c.specs.Laws.Fitting.{accepted}
-use Rattle.hep_c.specs.Laws.Numbers.{FoundGood, found-bad, found-good, numbered-unless, refused-stays}
+use Rattle.hep_c.specs.Laws.Numbers.{found-bad, found-good, numbered-unless, refused-stays}
 
 module _ (image schedule : List ℕ) (l : Slices) where
   -- 1 to 6

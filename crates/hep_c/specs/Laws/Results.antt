@@ -1,6 +1,6 @@
 -- What a run leaves in every lent slice, from what each of its calls promises.
 use Prim.Native.Nat.{ℕ, _+_, _≤_}
-use mathlib.Core.Path.{_≡_, refl, sym, ap, _∙_}
+use mathlib.Core.Path.{_≡_, sym, ap, _∙_}
 use mathlib.Core.Bool.{true}
 use mathlib.Core.Option.{none}
 use mathlib.Core.List.{List, _++_}
@@ -8,15 +8,13 @@ use native.Mathlib.Omega.{arith}
 use lib.ListN.{length, take}
 use lib.Seq.{take-all}
 use borrow.Author.Tests.{le-ltb}
-use Rattle.window.specs.declared.Row.{Row}
 use Rattle.step.specs.declared.ProcessTable.{ProcessTable}
 use Rattle.step.specs.State.{State}
 use Rattle.run.specs.declared.Counts.{Counts}
 use Rattle.run.specs.Run.{Ran, run}
-use Rattle.run.specs.Schedule.{scheduleRefusal}
 use Rattle.runner.specs.declared.RunAnswer.{RunAnswer}
 use Rattle.image.specs.Codec.{Bytes}
-use Rattle.image.specs.Image.{Image, Decoded, good, stateOf, decode, encode}
+use Rattle.image.specs.Image.{Image, good, stateOf, decode, encode}
 use Rattle.image.specs.Fields.{over}
 use Rattle.image_write.specs.declared.Writing.{Writing}
 use Rattle.image_write.specs.Writing.{lengthWritten}
@@ -25,12 +23,12 @@ use Rattle.calls.specs.declared.Rows.{Rows}
 use Rattle.calls.specs.Buffers.{Buffers, roomOf, fits, sizesOf, fieldsIn, holding}
 use Rattle.calls.specs.Calls.{answers, unless}
 use Rattle.buffered.specs.declared.SizesRead.{SizesRead}
-use Rattle.buffered.specs.Held.{lentBuffers, room, heldRows, SamePlaces}
+use Rattle.buffered.specs.Held.{lentBuffers, roomFrom, heldRows, SamePlaces}
 use Rattle.buffered.specs.Promises.{ReadPromise, RunPromise, WritePromise}
 use Rattle.buffered.specs.Laws.Cut.{room-held}
 use Rattle.report.specs.Report.{rowLines, countsLine, reportOf}
 use Rattle.reporting.specs.Texts.{copiedInto}
-use Rattle.hep_c.specs.Answers.{Slices, slices, growth, imageRunRefusal, imageRunAnswer, countsListed, imageRunLeft, countsAnswered}
+use Rattle.hep_c.specs.Answers.{Slices, slices, imageRunRefusal, imageRunAnswer, countsListed, imageRunLeft, countsAnswered}
 use Rattle.hep_c.specs.Laws.Fitting.{Accepted, accepted}
 use Rattle.hep_c.specs.Laws.Runs.{counted, fields₂, held₂, wrote, image-written}
 
@@ -52,7 +50,7 @@ module _ (image schedule : List ℕ) (i : Image) (n : Sizes) (bytes : Bytes imag
   abbrev buffers₀ : Buffers
   buffers₀ = lentBuffers (heldRows v₀) t₀ constants tags words program dataTags dataWords
 
-  taken : Accepted schedule n (room 7 (length constants) (length tags) (length words) (length program) (length dataTags) (length dataWords)) (length image) (length output) (length counts) (length report)
+  taken : Accepted schedule n (roomFrom 7 (length constants) (length tags) (length words) (length program) (length dataTags) (length dataWords)) (length image) (length output) (length counts) (length report)
   unfolding imageRunRefusal
   taken = accepted schedule n _ (length image) (length output) (length counts) (length report) fine
 

@@ -1,17 +1,15 @@
 -- Read, run and written, one after another: what the three calls promise is a run of the state that the image is.
 use Prim.Native.Nat.{ℕ, _+_, _≤_}
-use mathlib.Core.Path.{_≡_, refl, sym, ap, _∙_, subst}
-use mathlib.Core.Bool.{Bool, true, false, cond, not}
-use mathlib.Core.Option.{Option, none, some}
+use mathlib.Core.Path.{_≡_, sym, ap, _∙_, subst}
+use mathlib.Core.Bool.{true}
+use mathlib.Core.Option.{none}
 use mathlib.Core.List.{List, _++_}
 use native.Mathlib.Omega.{arith}
-use lib.ListN.{length, take, drop, length-append, length-drop}
+use lib.ListN.{length, drop, length-append, length-drop}
 use lib.Seq.{drop-append-seam}
 use borrow.Author.Tests.{le-ltb}
-use Rattle.refusal.specs.declared.Refusal.{Refusal}
 use Rattle.step.specs.State.{State}
 use Rattle.step.specs.Soundness.{sound}
-use Rattle.step.specs.Laws.Lengths.{SameLengths}
 use Rattle.run.specs.Run.{run}
 use Rattle.run.specs.Laws.Run.{run-lengths}
 use Rattle.run.specs.Kept.{run-keeps-sound}
@@ -31,7 +29,7 @@ use Rattle.calls.specs.InPlace.{read-in-place, run-in-place}
 use Rattle.calls.specs.Laws.InPlace.{Sized, held-by-read, read-sized, lengths-sized}
 use Rattle.buffered.specs.declared.SizesRead.{SizesRead}
 use Rattle.buffered.specs.Promises.{ReadPromise, runAnswered, RunPromise, writeAnswered, WritePromise}
-use Rattle.buffered.specs.Laws.Places.{Fitting, fitting}
+use Rattle.buffered.specs.Laws.Places.{fitting}
 use Rattle.hep_c.specs.Answers.{growth}
 use Rattle.hep_c.specs.Laws.Grown.{grown}
 

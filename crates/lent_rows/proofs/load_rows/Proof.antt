@@ -52,7 +52,7 @@ use denote.Triple.Walked.{says, Stays, stay-none-slice, walkOf, goes-none-slice,
 use denote.Exit.{yes}
 use Rattle.window.specs.declared.Row.{Row}
 use Rattle.calls.specs.declared.Rows.{Rows}
-use Rattle.lent_rows.specs.Rows.{noRow, noRows, withRow, loadFrom, loadedRows}
+use Rattle.lent_rows.specs.Rows.{noRow, noRows, withRow, loadedFrom, loadedRows}
 use Rattle.window.proofs.Row as T
 use Rattle.window.proofs.Row.Laws as T′
 use Rattle.calls.proofs.Rows as S
@@ -72,12 +72,12 @@ use Rattle.lent_rows.proofs.load_rows.Code as code
 use Rattle.lent_rows.proofs.load_rows.Code.Mir as mirs
 
 -- ---- the load from i on
-from-step : (ys : List Row) (i : ℕ) (v : Rows) → i < length ys → loadFrom (dropN i ys) i v ≡ loadFrom (dropN (i + 1) ys) (i + 1) (withRow v i (getD ys i noRow))
-unfolding loadFrom
-from-step ys i v l = rw (drop-cons ys i noRow) (ap (λ (k : ℕ). loadFrom (dropN k ys) k (withRow v i (getD ys i noRow))) (sym (add-one i)))
+from-step : (ys : List Row) (i : ℕ) (v : Rows) → i < length ys → loadedFrom (dropN i ys) i v ≡ loadedFrom (dropN (i + 1) ys) (i + 1) (withRow v i (getD ys i noRow))
+unfolding loadedFrom
+from-step ys i v l = rw (drop-cons ys i noRow) (ap (λ (k : ℕ). loadedFrom (dropN k ys) k (withRow v i (getD ys i noRow))) (sym (add-one i)))
 
-from-end : (ys : List Row) (i : ℕ) (v : Rows) → i ≡ length ys → loadFrom (dropN i ys) i v ≡ v
-unfolding loadFrom
+from-end : (ys : List Row) (i : ℕ) (v : Rows) → i ≡ length ys → loadedFrom (dropN i ys) i v ≡ v
+unfolding loadedFrom
 from-end ys i v e = rw (e, drop-length)
 
 abbrev stayed : Stays (load-rows.ended .signature .params) (load-rows.ended .kept)
@@ -163,7 +163,7 @@ module _ {M : Type 1} (𝓤 : URA M) (H : Heap 𝓤) (A : Atoms 𝓤) (W : Given
 
   -- the variant: an index and the rows so far, with what holds of them
   abbrev Facts : ℕ → Rows → Type 0
-  Facts i v = (i ≤ n) × (loadFrom (dropN i ys) i v ≡ loadedRows ys) × Is S.the-row v (rows-val v ∷ [])
+  Facts i v = (i ≤ n) × (loadedFrom (dropN i ys) i v ≡ loadedRows ys) × Is S.the-row v (rows-val v ∷ [])
 
   abbrev X : Type 0
   X = (i : ℕ) × ((v : Rows) × Facts i v)
@@ -211,7 +211,7 @@ module _ {M : Type 1} (𝓤 : URA M) (H : Heap 𝓤) (A : Atoms 𝓤) (W : Given
         rewrite ! 12 (λ (z : Val). ‵ (fat fullShare rows-ty l₂ 0 z)) (ap only (LL.tells S.the-type S′.the-laws r _ is)) refl $
         assigns-last ! (bin ! (load ! (from ! (stop !)) (look ! 10 refl)) (lit ! tt) (record { fits = next-fits })) (from ! (stop !)) (store ! 10 refl (tt, record { fits = next-fits })) $
         forget ! 2 refl $ forget ! 4 refl $ forget ! 6 refl $ forget ! 8 refl $
-        again ! Less Inv t (i + 1, (r, (omega (arith, l), ap (loadFrom (dropN (i + 1) ys) (i + 1)) e₁ ∙ sym (from-step ys i v l) ∙ t .1 .1 .1, spelled r w is))) (omega (arith, l))))))))
+        again ! Less Inv t (i + 1, (r, (omega (arith, l), ap (loadedFrom (dropN (i + 1) ys) (i + 1)) e₁ ∙ sym (from-step ys i v l) ∙ t .1 .1 .1, spelled r w is))) (omega (arith, l))))))))
       where
         i : ℕ
         i = t .0
@@ -270,7 +270,7 @@ module _ {M : Type 1} (𝓤 : URA M) (H : Heap 𝓤) (A : Atoms 𝓤) (W : Given
       rewrite ! 10 (λ (z : Val). ‵ (fat fullShare rows-ty l₂ 0 z)) (ap only (LL.tells S.the-type S′.the-laws r _ is)) refl $
       assigns ! (of-opd ! (lit ! tt)) (from ! (stop !)) (init ! 8 refl (tt, record { fits = lit< tt })) $
       move ! (16 ∷ 17 ∷ []) $
-      first ! $ blocks ! $ looping 𝓣 known-with room l₀ l₁ l₂ l₃ l₄ l₅ l₆ l₇ (0, (r, (least, ap (loadFrom ys 0) e, spelled r w is)))))))))))))))
+      first ! $ blocks ! $ looping 𝓣 known-with room l₀ l₁ l₂ l₃ l₄ l₅ l₆ l₇ (0, (r, (least, ap (loadedFrom ys 0) e, spelled r w is)))))))))))))))
 
 module _ {M : Type 1} (𝓤 : URA M) (H : Heap 𝓤) (A : Atoms 𝓤) (W : Given 𝓤 H A) (mem : Memory → SProp 𝓤) (run : Routine → Fun 𝓤) where
   load-rows-walks : (𝓣 : Tables 𝓤 H) → Triple 𝓤 (𝓣 .C #lent-rows·no-rows) (None 𝓤 H A mem run) → Triple 𝓤 (𝓣 .C #lent-rows·row-in) (WithRow 𝓤 H A mem run) → Walks 𝓤 H A load-rows.ended stayed (WpFn 𝓤 H (𝓣 .C) (𝓣 .Λ) code.function) (load-rows.clauses 𝓤 H A mem run)

@@ -11,7 +11,7 @@ use lib.Seq.{take-all, take-append-le, take-suc-set, drop-cons, drop-nil, take-n
 use borrow.Author.Tests.{leb-true, leb-false}
 use Rattle.window.specs.declared.Row.{Row}
 use Rattle.calls.specs.declared.Rows.{Rows}
-use Rattle.lent_rows.specs.Rows.{noRow, noRows, withRow, loadFrom, loadedRows, storeFrom, storedRows}
+use Rattle.lent_rows.specs.Rows.{noRow, noRows, withRow, loadedFrom, loadedRows, storeFrom, storedRows}
 
 -- these rows were loaded
 pub record Loaded (rows : List Row) (v : Rows) : Type 0 where
@@ -42,14 +42,14 @@ one-more rows r v l = go (leb 7 (length rows)) refl
               ∙ sym (take-all 7 (rows ++ (r ∷ [])) (omega (arith, n, h)));
         }
 
-load-more : (rs rows : List Row) (v : Rows) → Loaded rows v → Loaded (rows ++ rs) (loadFrom rs (length rows) v)
-unfolding loadFrom
+load-more : (rs rows : List Row) (v : Rows) → Loaded rows v → Loaded (rows ++ rs) (loadedFrom rs (length rows) v)
+unfolding loadedFrom
 load-more [] rows v l = subst (λ (y : List Row). Loaded y v) (sym (append-nil rows)) l
 load-more (r ∷ rs) rows v l =
     let n : length (rows ++ (r ∷ [])) ≡ suc (length rows) = length-append rows (r ∷ []) ∙ add-one (length rows) in
     let m = load-more rs (rows ++ (r ∷ [])) (withRow v (length rows) r) (one-more rows r v l) in
-    subst (λ (y : List Row). Loaded y (loadFrom rs (suc (length rows)) (withRow v (length rows) r))) (append-assoc rows (r ∷ []) rs)
-    (subst (λ (k : ℕ). Loaded ((rows ++ (r ∷ [])) ++ rs) (loadFrom rs k (withRow v (length rows) r))) n m)
+    subst (λ (y : List Row). Loaded y (loadedFrom rs (suc (length rows)) (withRow v (length rows) r))) (append-assoc rows (r ∷ []) rs)
+    (subst (λ (k : ℕ). Loaded ((rows ++ (r ∷ [])) ++ rs) (loadedFrom rs k (withRow v (length rows) r))) n m)
 
 pub loaded : (rows : List Row) → Loaded rows (loadedRows rows)
 loaded rows = load-more rows [] noRows (record { count = refl; places = refl; held = refl })

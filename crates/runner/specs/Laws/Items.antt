@@ -22,7 +22,7 @@ use Rattle.step.specs.declared.Decided.{Decided}
 use Rattle.step.specs.declared.StepResult.{StepResult}
 use Rattle.step.specs.State.{State, state, findRow, putRow, taskQueue, withQueue}
 use Rattle.step.specs.Act.{Stepped, tableOf}
-use Rattle.step.specs.Parts.{movedQueue, raised, rowAfter, traps}
+use Rattle.step.specs.Parts.{movedQueue, flagAfter, rowAfter, traps}
 use Rattle.step.specs.Laws.Parts.{Parts, step-made, untrapped}
 use Rattle.step.specs.Step.{stepRow, stepBy, step}
 use Rattle.step.specs.Soundness.{every}
@@ -102,7 +102,7 @@ module _ {l : List ℕ} {i n j : ℕ} {rows₀ rows rows′ : List Row} {s₀ : 
       → Parts (getD l i 0) (state (take n rows) table constants r program k) (getD rows j noRow) decided x psw r′ k′
       → rows′ ≡ set rows j (rowAfter (x .ending) (getD rows j noRow))
       → queues ≡ withQueue (table .queues) (getD l i 0) (movedQueue (x .motion) (taskQueue table (getD l i 0)))
-      → flag ≡ raised (x .motion) (table .flag)
+      → flag ≡ flagAfter (x .motion) (table .flag)
       → c′ ≡ counted (x .ending) c
       → Running l (i + 1) n rows₀ rows′ s₀ (state (take n rows′) (tableOf psw queues flag) constants r′ program k′) c′
   turn g h at p e q f u =

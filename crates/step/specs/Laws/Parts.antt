@@ -31,7 +31,7 @@ use Rattle.step.specs.Queues.{ring, listOf, headOf, turned, shifted, joi
 use Rattle.step.specs.State.{State, state, findRow, putRow, noQueue, queueIn, taskQueue, withQueue, pswsOf, processesOf, environment}
 use Rattle.step.specs.Act.{registerWrites, dataWrites, trappedRow, tableOf, Change, Stepped, changeOf, fateIn, createdIn, faultIn, createdPsw, headPsw, act}
 use Rattle.step.specs.Step.{noTrap, headDecides, rowDecides, acted, stepRow, stepBy, step}
-use Rattle.step.specs.Parts.{decidedAs, hasRoom, fateCreates, creates, fateResult, decisionResult, resultOf, fatePsws, decisionPsws, pswsAfter, registersWritten, dataWritten, movedQueue, headLeaves, headTurns, ptJoins, raised, rowAfter, traps, Acts}
+use Rattle.step.specs.Parts.{decidedAs, hasRoom, fateCreates, creates, fateResult, decisionResult, resultOf, fatePsws, decisionPsws, pswsAfter, registersWritten, dataWritten, movedQueue, headLeaves, headTurns, ptJoins, flagAfter, rowAfter, traps, Acts}
 use Rattle.step.specs.Laws.Occurrences.{Heads}
 use Rattle.step.specs.Laws.Queues.{heads}
 use Rattle.step.specs.Laws.Step.{none-live}
@@ -114,8 +114,8 @@ queues-moved qs qs₁ qs₂ qs₃ t k free room d m e h a b c =
     third ∙ ap (set qs k) (sym made) ∙ ap (λ (i : ℕ). set qs i (movedQueue m (getD qs i noQueue))) e
 
 -- the flag stays where none joins
-pub unraised : (m : Motion) (flag : ℕ) → ptJoins m ≡ false → raised m flag ≡ flag
-unfolding ptJoins raised
+pub unraised : (m : Motion) (flag : ℕ) → ptJoins m ≡ false → flagAfter m flag ≡ flag
+unfolding ptJoins flagAfter
 unraised Stays flag e = refl
 unraised Turns flag e = refl
 unraised Leaves flag e = refl
@@ -153,14 +153,14 @@ changed table r x psw = record {
   table =
       tableOf psw
       (withQueue (table .queues) (r .task) (movedQueue (x .motion) (taskQueue table (r .task))))
-      (raised (x .motion) (table .flag));
+      (flagAfter (x .motion) (table .flag));
   ending = x .ending;
 }
 
 module _ (table : ProcessTable) (r : Row) (free : ℕ) (room : Bool) where
   fate-parts : (f : Fate) → (fateCreates f ≡ true → free ≡ lowestFree (table .queues)) → (fateCreates f ≡ true → room ≡ hasRoom (table .queues))
       → fateIn table r f ≡ changed table r (fateResult free room f) (fatePsws (headOf (taskQueue table (r .task))) free f (table .psw))
-  unfolding fateIn fateCreates fateResult fatePsws headPsw createdIn createdPsw faultIn rowAfter movedQueue raised
+  unfolding fateIn fateCreates fateResult fatePsws headPsw createdIn createdPsw faultIn rowAfter movedQueue flagAfter
   fate-parts (Continues p) g h = refl
   fate-parts Quits g h = refl
   fate-parts (Creates p new) g h = rw (g refl, h refl) (go (hasRoom (table .queues)))
@@ -173,7 +173,7 @@ module _ (table : ProcessTable) (r : Row) (free : ℕ) (room : Bool) where
   change-parts : (d : Decision) → (creates (decidedAs (some d)) ≡ true → free ≡ lowestFree (table .queues))
       → (creates (decidedAs (some d)) ≡ true → room ≡ hasRoom (table .queues))
       → changeOf table r d ≡ changed table r (decisionResult free room d) (decisionPsws (headOf (taskQueue table (r .task))) free d (table .psw))
-  unfolding changeOf creates decidedAs decisionResult decisionPsws headPsw rowAfter movedQueue raised
+  unfolding changeOf creates decidedAs decisionResult decisionPsws headPsw rowAfter movedQueue flagAfter
   change-parts (Waits w) g h = refl
   change-parts (Traps k p) g h =
       ap (λ (qs : List Queue). record { row = trappedRow r k p; table = tableOf (headPsw table (r .task) p) qs (table .flag); ending = Trapped k p })
@@ -193,7 +193,7 @@ module _ (s : State) (r : Row) (head free : ℕ) (room : Bool) (x : StepResult) 
   acted-parts : (o : Option Decision) → (creates (decidedAs o) ≡ true → free ≡ lowestFree (s .table .queues))
       → (creates (decidedAs o) ≡ true → room ≡ hasRoom (s .table .queues)) → Acts r (decidedAs o) head free room x (s .table .psw) psw (s .registers) m (s .dataWords) n
       → acted decide s r o ≡ steppedBy s r x psw m n
-  unfolding acted act steppedBy decidedAs resultOf pswsAfter registersWritten dataWritten written storedAll rowAfter movedQueue raised
+  unfolding acted act steppedBy decidedAs resultOf pswsAfter registersWritten dataWritten written storedAll rowAfter movedQueue flagAfter
   acted-parts none g h a =
       rw (a .ends, a .psws, a .registers, a .dataWords)
       (ap₂ {C = Stepped} (λ rs qs. after s rs (tableOf (s .table .psw) qs (s .table .flag)) (s .registers) (s .dataWords) ending.Idle)
@@ -238,7 +238,7 @@ step-parts t s r d x psw m n p =
 pub step-made : (t : ℕ) (s : State) (r r′ : Row) (d : Decided) (x : StepResult) (psw : List ℕ) (m n : Memory) (queues : List Queue) (flag : ℕ) → Parts t s r d x psw m n
     → r′ ≡ rowAfter (x .ending) r
     → queues ≡ withQueue (s .table .queues) t (movedQueue (x .motion) (taskQueue (s .table) t))
-    → flag ≡ raised (x .motion) (s .table .flag)
+    → flag ≡ flagAfter (x .motion) (s .table .flag)
     → step t s ≡ after s (putRow t r′ (s .rows)) (tableOf psw queues flag) m n (x .ending)
 unfolding steppedBy
 step-made t s r r′ d x psw m n queues flag p a b c =
