@@ -1,4 +1,5 @@
 -- The laws of the definitions: nothing here need be believed.
 pub mod Input
 pub mod Texts
+pub mod Room
 pub mod Readings

@@ -1,18 +1,17 @@
 // The batch program as a function: from the bytes of its input to the bytes of its output.
 ghost use mathlib.Core.Path.{_≡_};
-ghost use mathlib.Core.Bool.{true};
 ghost use Prim.Native.Nat.{_≤_};
-ghost use lib.ListN.{length, take, replicate};
+ghost use lib.ListN.{length, replicate};
 ghost use Rattle.run.specs.Run.{run};
-ghost use Rattle.run.specs.Schedule.{scheduleRefusal};
 ghost use Rattle.image.specs.Image.{decode};
-ghost use Rattle.soundness.specs.Held.{stateIn, soundIn};
+ghost use Rattle.calls.specs.Buffers.{fieldsIn};
+ghost use Rattle.calls.specs.Calls.{runRefusal};
+ghost use Rattle.buffered.specs.Held.{lentBuffers};
 ghost use Rattle.report.specs.Report.{outputRead, outputOf};
 ghost use Rattle.reporting.specs.Texts.{room, shown, copiedInto};
 ghost use Rattle.batch.specs.Output.{runText, bytesCopied};
-use image_check::Counted;
-use image_read::ReadAnswer;
-use image_read::Reading;
+use buffered::SizesRead;
+use calls::Sizes;
 use refusal::Refusal;
 use reporting::Text;
 use runner::RunAnswer;
@@ -22,77 +21,40 @@ use window::Row;
 // No output is longer.
 pub const OUTPUT_ROOM: usize = 512;
 
-// The text of a run on a sound state: its report, or the line of 9 or 10.
+// The text of a run on the state in buffers: its report, or the line of its refusal.
 fn run_text(
     rows: [Row; 7],
-    n: usize,
     table: ProcessTable,
-    schedule: &[u8],
-    program: &[u64],
     constants: &[u64],
     tags: &mut [u8],
     words: &mut [u64],
+    program: &[u64],
     data_tags: &mut [u8],
     data_words: &mut [u64],
+    schedule: &[u8],
+    n: Sizes,
 ) -> Text
-    requires { ⌜ soundIn n (stateIn rows n table (now constants) (now tags) (now words) (now program) (now data_tags) (now data_words)) ≡ true ⌝ }
-    ensures { λ r. ⌜ shown r ≡ runText (scheduleRefusal (now (schedule .entry))) (run (now (schedule .entry)) (stateIn rows n table (now (constants .entry)) (now (tags .entry)) (now (words .entry)) (now (program .entry)) (now (data_tags .entry)) (now (data_words .entry)))) ⌝ }
+    ensures { λ r. ⌜ shown r ≡ runText (runRefusal n (lentBuffers rows table (now (constants .entry)) (now (tags .entry)) (now (words .entry)) (now (program .entry)) (now (data_tags .entry)) (now (data_words .entry))) (now (schedule .entry))) (run (now (schedule .entry)) (fieldsIn n (lentBuffers rows table (now (constants .entry)) (now (tags .entry)) (now (words .entry)) (now (program .entry)) (now (data_tags .entry)) (now (data_words .entry))))) ⌝ }
 {
-    let x = runner::run(
+    let x = hep_owner::run(
         rows,
-        n,
         table,
-        schedule,
-        program,
         constants,
         tags,
         words,
+        program,
         data_tags,
         data_words,
+        schedule,
+        n,
     );
     let answer = x.answer;
     let rows_left = x.rows;
     let table_left = x.table;
     match answer {
         RunAnswer::Refused(e) => reporting::refusal_text(e),
-        RunAnswer::Counted(counts) => reporting::report_text(rows_left, n, table_left, counts),
+        RunAnswer::Counted(counts) => reporting::report_text(rows_left, n.rows, table_left, counts),
     }
-}
-
-// The same for what was read into buffers, cut to the counts.
-fn state_text(
-    x: Reading,
-    z: Counted,
-    schedule: &[u8],
-    constants: &[u64],
-    tags: &mut [u8],
-    words: &mut [u64],
-    program: &[u64],
-    data_tags: &mut [u8],
-    data_words: &mut [u64],
-) -> Text
-    requires room { ⌜ (z .constants ≤ length (now constants)) × (z .registers ≤ length (now tags)) × (z .registers ≤ length (now words)) × (z .program ≤ length (now program)) × (z .data_words ≤ length (now data_tags)) × (z .data_words ≤ length (now data_words)) ⌝ }
-    requires sound { ⌜ soundIn (z .rows) (stateIn (x .rows) (z .rows) (x .table) (take (z .constants) (now constants)) (take (z .registers) (now tags)) (take (z .registers) (now words)) (take (z .program) (now program)) (take (z .data_words) (now data_tags)) (take (z .data_words) (now data_words))) ≡ true ⌝ }
-    ensures { λ r. ⌜ shown r ≡ runText (scheduleRefusal (now (schedule .entry))) (run (now (schedule .entry)) (stateIn (x .rows) (z .rows) (x .table) (take (z .constants) (now (constants .entry))) (take (z .registers) (now (tags .entry))) (take (z .registers) (now (words .entry))) (take (z .program) (now (program .entry))) (take (z .data_words) (now (data_tags .entry))) (take (z .data_words) (now (data_words .entry))))) ⌝ }
-{
-    let rows = x.rows;
-    let table = x.table;
-    let constant_count = z.constants;
-    let registers = z.registers;
-    let program_count = z.program;
-    let data_count = z.data_words;
-    run_text(
-        rows,
-        z.rows,
-        table,
-        schedule,
-        &program[..program_count],
-        &constants[..constant_count],
-        &mut tags[..registers],
-        &mut words[..registers],
-        &mut data_tags[..data_count],
-        &mut data_words[..data_count],
-    )
 }
 
 // Reads the image, and runs the schedule. No section of so short an image has more than 8,192 values.
@@ -106,28 +68,33 @@ fn image_text(schedule: &[u8], image: &[u8]) -> Text
     let mut program = [0; 8192];
     let mut data_tags = [0; 8192];
     let mut data_words = [0; 8192];
-    let x = image_read::read(
-        image,
+    let x = hep_owner::read(
+        hep_owner::no_rows(),
+        hep_owner::no_processes(),
         &mut constants,
         &mut tags,
         &mut words,
         &mut program,
         &mut data_tags,
         &mut data_words,
+        image,
     );
     let answer = x.answer;
+    let rows = x.rows;
+    let table = x.table;
     match answer {
-        ReadAnswer::Refused(e) => reporting::refusal_text(e),
-        ReadAnswer::Counts(z) => state_text(
-            x,
-            z,
-            schedule,
+        SizesRead::Refused(e) => reporting::refusal_text(e),
+        SizesRead::Read(n) => run_text(
+            rows,
+            table,
             &constants,
             &mut tags,
             &mut words,
             &program,
             &mut data_tags,
             &mut data_words,
+            schedule,
+            n,
         ),
     }
 }

@@ -1,14 +1,20 @@
+-- `batch::image_text` meets its contract: by what reading and run promise.
 use Prim.Native.Nat.{ℕ}
-use lib.ListN.{length-replicate}
+use mathlib.Core.Path.{ap, _∙_}
 use native.Mathlib.Omega.{arith}
-use Rattle.batch.specs.Laws.Readings.{Roomy, read-refused, ready-held, text-held}
-use Rattle.image_read.specs.Laws.Held.{held}
-use Rattle.image_read.specs.Read.{buffers}
+use lib.ListN.{length, length-replicate}
 use Rattle.image_words.specs.Laws.Fields.{all-bytes}
-use mathlib.Core.Path.{_∙_}
+use Rattle.image_read.specs.Read.{sevenRows}
+use Rattle.batch.specs.Laws.Readings.{read-refused, read-text}
 use borrow.Author.Needs.{needs}
 use Rattle.batch.proofs.image_text.Statement.{statement}
 use Rattle.batch.proofs.image_text.Tie as tie
+
+no-rows-requires : tie.Need-no-rows-requires
+no-rows-requires c κs = search needs
+
+no-processes-requires : tie.Need-no-processes-requires
+no-processes-requires c κs = search needs
 
 slice-aggregate-read : tie.Need-slice-aggregate-read
 slice-aggregate-read c = search needs
@@ -40,41 +46,45 @@ refusal-text-requires c κs = search needs
 enum-known-answer-2 : tie.Need-enum-known-answer-2
 enum-known-answer-2 c = search needs
 
-slice-aggregate-state-text : tie.Need-slice-aggregate-state-text
-slice-aggregate-state-text c = search needs
+slice-aggregate-run-text : tie.Need-slice-aggregate-run-text
+slice-aggregate-run-text c = search needs
 
-slice-aggregate-state-text-2 : tie.Need-slice-aggregate-state-text-2
-slice-aggregate-state-text-2 c = search needs
+slice-aggregate-run-text-2 : tie.Need-slice-aggregate-run-text-2
+slice-aggregate-run-text-2 c = search needs
 
-slice-aggregate-state-text-3 : tie.Need-slice-aggregate-state-text-3
-slice-aggregate-state-text-3 c = search needs
+slice-aggregate-run-text-3 : tie.Need-slice-aggregate-run-text-3
+slice-aggregate-run-text-3 c = search needs
 
-slice-aggregate-state-text-4 : tie.Need-slice-aggregate-state-text-4
-slice-aggregate-state-text-4 c = search needs
+slice-aggregate-run-text-4 : tie.Need-slice-aggregate-run-text-4
+slice-aggregate-run-text-4 c = search needs
 
-slice-aggregate-state-text-5 : tie.Need-slice-aggregate-state-text-5
-slice-aggregate-state-text-5 c = search needs
+slice-aggregate-run-text-5 : tie.Need-slice-aggregate-run-text-5
+slice-aggregate-run-text-5 c = search needs
 
-slice-aggregate-state-text-6 : tie.Need-slice-aggregate-state-text-6
-slice-aggregate-state-text-6 c = search needs
+slice-aggregate-run-text-6 : tie.Need-slice-aggregate-run-text-6
+slice-aggregate-run-text-6 c = search needs
 
-state-text-requires : tie.Need-state-text-requires
-state-text-requires c κs =
-    let w : Roomy (buffers (c .before .before .before .before .before .before .before .before .before .before .before .before .before .before .before .read .last .1 .0) (c .before .before .before .before .before .before .before .before .before .before .before .before .before .before .before .read .last .1 .1 .0) (c .before .before .before .before .before .before .before .before .before .before .before .before .before .before .before .read .last .1 .1 .1 .0) (c .before .before .before .before .before .before .before .before .before .before .before .before .before .before .before .read .last .1 .1 .1 .1 .0) (c .before .before .before .before .before .before .before .before .before .before .before .before .before .before .before .read .last .1 .1 .1 .1 .1 .0) (c .before .before .before .before .before .before .before .before .before .before .before .before .before .before .before .read .last .1 .1 .1 .1 .1 .1 .0)) = record { constants = search needs; tags = search needs; words = search needs; program = search needs; dataTags = search needs; dataWords = search needs } in
-    ready-held _ _ _ (held _ _ _ _ (c .before .before .before .before .before .before .before .before .before .before .before .before .before .before .before .read .ensures) (c .before .before .before .before .before .before .before .answer2 .given .1)) (c .before .before .before .before .before .before .before .before .before .before .before .before .before .before .before .before .before .before .before .before .before .before .before .before .pre) (all-bytes _ (λ i. omega (arith, c .before .before .before .before .before .before .before .before .before .before .before .before .before .before .before .before .before .before .before .before .before .before .shared-slice-known2 .given i))) w
+run-text-requires : tie.Need-run-text-requires
+run-text-requires c κs = search needs
 
 returns : tie.Need-returns
+unfolding sevenRows
 returns c =
     let k = length-replicate {A = ℕ} 8192 0 in
-    c .refusal-text .ensures ∙ read-refused _ _ _ _ _ (c .before .before .before .before .before .before .before .before .before .before .before .before .before .before .before .before .before .before .before .pre) (record { constants = k; tags = k; words = k; program = k; dataTags = k; dataWords = k }) (c .before .before .before .before .before .before .before .before .before .before .read .ensures) (c .before .before .answer .given .1)
+    c .refusal-text .ensures ∙ read-refused _ (c .before .before .before .before .before .before .before .before .before .before .before .before .before .before .before .before .before .before .before .before .before .before .before .pre) _ _ (record { rows = ap length (c .before .before .before .before .before .before .before .before .before .before .before .before .before .before .before .before .before .before .before .before .no-rows .ensures); constants = k; registerTags = k; registerWords = k; program = k; dataTags = k; dataWords = k }) _ (c .before .before .before .before .before .before .before .before .before .before .before .before .read .ensures) _ _ (c .before .before .answer .given .1)
 
 returns-2 : tie.Need-returns-2
-returns-2 c = c .before .before .before .before .state-text .ensures ∙ text-held _ _ _ (held _ _ _ _ (c .before .before .before .before .before .before .before .before .before .before .before .before .before .before .before .before .before .before .before .before .read .ensures) (c .before .before .before .before .before .before .before .before .before .before .before .before .answer2 .given .1)) _
+unfolding sevenRows
+returns-2 c =
+    let k = length-replicate {A = ℕ} 8192 0 in
+    c .before .before .before .before .run-text .ensures ∙ read-text _ (c .before .before .before .before .before .before .before .before .before .before .before .before .before .before .before .before .before .before .before .before .before .before .before .before .before .before .before .before .before .before .before .before .before .pre) _ _ (record { rows = ap length (c .before .before .before .before .before .before .before .before .before .before .before .before .before .before .before .before .before .before .before .before .before .before .before .before .before .before .before .before .before .before .no-rows .ensures); constants = k; registerTags = k; registerWords = k; program = k; dataTags = k; dataWords = k }) _ (c .before .before .before .before .before .before .before .before .before .before .before .before .before .before .before .before .before .before .before .before .before .before .read .ensures) _ _ (all-bytes _ (λ i. omega (arith, c .before .before .before .before .before .before .before .before .before .before .before .before .before .before .before .before .before .before .before .before .before .before .before .before .before .before .before .before .before .before .before .shared-slice-known2 .given i))) (c .before .before .before .before .before .before .before .before .before .before .before .before .answer2 .given .1)
 
 pub image-text-spec : {M : Type 1} → statement M
 image-text-spec =
     tie.close
     (tie.spec
+    no-rows-requires
+    no-processes-requires
     slice-aggregate-read
     slice-aggregate-read-2
     slice-aggregate-read-3
@@ -85,12 +95,12 @@ image-text-spec =
     enum-known-answer
     refusal-text-requires
     enum-known-answer-2
-    slice-aggregate-state-text
-    slice-aggregate-state-text-2
-    slice-aggregate-state-text-3
-    slice-aggregate-state-text-4
-    slice-aggregate-state-text-5
-    slice-aggregate-state-text-6
-    state-text-requires
+    slice-aggregate-run-text
+    slice-aggregate-run-text-2
+    slice-aggregate-run-text-3
+    slice-aggregate-run-text-4
+    slice-aggregate-run-text-5
+    slice-aggregate-run-text-6
+    run-text-requires
     returns
     returns-2)

@@ -1,5 +1,5 @@
+-- `batch::run_text` meets its contract: by what the run promises.
 use Rattle.batch.specs.Laws.Texts.{run-refused, run-counted}
-use Rattle.soundness.specs.Held.{stateIn}
 use mathlib.Core.Path.{_∙_}
 use borrow.Author.Needs.{needs}
 use Rattle.batch.proofs.run_text.Statement.{statement}
@@ -33,7 +33,7 @@ same-length-4 : tie.Need-same-length-4
 same-length-4 c = search needs
 
 returns : tie.Need-returns
-returns c = c .refusal-text .ensures ∙ run-refused _ _ _ (c .before .before .before .before .before .before .before .before .before .before .before .before .before .before .before .before .before .before .before .before .before .before .before .before .before .before .pre) _ _ (c .before .before .before .before .before .before .before .before .before .before .before .before .before .before .run .ensures .0) (c .before .before .answer .given .1)
+returns c = c .refusal-text .ensures ∙ run-refused _ _ _ _ _ (c .before .before .before .before .before .before .before .before .before .before .before .before .before .before .run .ensures) _ (c .before .before .answer .given .1)
 
 same-length-5 : tie.Need-same-length-5
 same-length-5 c = search needs
@@ -48,8 +48,7 @@ same-length-8 : tie.Need-same-length-8
 same-length-8 c = search needs
 
 returns-2 : tie.Need-returns-2
-unfolding stateIn
-returns-2 c = c .report-text .ensures .0 ∙ run-counted _ _ _ (c .before .before .before .before .before .before .before .before .before .before .before .before .before .before .before .before .before .before .before .before .before .before .before .before .before .before .pre) _ _ _ (c .before .before .before .before .before .before .before .before .before .before .before .before .before .before .run .ensures .0) (c .before .before .before .before .before .before .before .before .before .before .before .before .before .before .run .ensures .1) (c .before .before .answer2 .given .1)
+returns-2 c = c .report-text .ensures .0 ∙ run-counted _ _ _ _ _ (c .before .before .before .before .before .before .before .before .before .before .before .before .before .before .run .ensures) _ (c .before .before .answer2 .given .1)
 
 pub run-text-spec : {M : Type 1} → statement M
 run-text-spec =

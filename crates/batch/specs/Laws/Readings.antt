@@ -1,7 +1,7 @@
 -- An image of at most 65,536 bytes has room in buffers of 8,192 places, so reading it there is refused by 1 to 6 only, or gives a sound state.
 use Prim.Native.Nat.{ℕ, _≤_}
-use mathlib.Core.Path.{_≡_, refl, sym, ap, _∙_}
-use mathlib.Core.Bool.{Bool, true, false, cond, not}
+use mathlib.Core.Path.{_≡_, refl, sym, ap, _∙_, subst}
+use mathlib.Core.Bool.{true}
 use mathlib.Core.Option.{Option, none, some}
 use mathlib.Core.List.{List}
 use native.Mathlib.Omega.{arith}
@@ -9,99 +9,102 @@ use lib.ListN.{length}
 use borrow.Author.Tests.{le-leb}
 use Rattle.word.specs.Laws.Conjunctions.{also}
 use Rattle.refusal.specs.declared.Refusal.{Refusal}
-use Rattle.refusal.specs.declared.Refusal.the-variants.{ShortBuffer}
+use Rattle.step.specs.Soundness.{sound}
 use Rattle.run.specs.Run.{run}
 use Rattle.run.specs.Schedule.{scheduleRefusal}
 use Rattle.image.specs.Codec.{Bytes}
 use Rattle.image.specs.Image.{Image, Decoded, bad, good, stateOf, decode}
 use Rattle.image.specs.RoundTrips.{reads-only-sound}
-use Rattle.soundness.specs.Held.{soundIn}
 use Rattle.image_check.specs.declared.Counted.{Counted}
-use Rattle.image_check.specs.declared.Checked.the-variants.{Sound}
 use Rattle.image_check.specs.Checked.{processesPlace, constantsPlace, registersPlace, programPlace, dataPlace, endPlace, countsOf, checkedOf}
 use Rattle.image_check.specs.Laws.Found.{Found, found}
-use Rattle.image_read.specs.declared.ReadAnswer.the-variants.{Refused}
-use Rattle.image_read.specs.Read.{ReadBuffers, Read, roomFor, roomIn, readLeaving, refusal, imageReading, filledBuffers, decodedRead, readOf}
 use Rattle.image_read.specs.Laws.Few.{found-few}
-use Rattle.image_read.specs.Laws.Held.{Held, stateRead}
+use Rattle.calls.specs.declared.Sizes.{Sizes}
+use Rattle.calls.specs.Buffers.{Buffers, roomOf, fits, sizesOf, fieldsIn}
+use Rattle.calls.specs.Calls.{unless, orElse, decodedRefusal, readRefusal, decodedAnswer, readAnswer, stateRefusal, runRefusal}
+use Rattle.calls.specs.InPlace.{read-in-place}
+use Rattle.calls.specs.Laws.InPlace.{held-by-read, read-sized}
+use Rattle.buffered.specs.declared.SizesRead.{SizesRead}
+use Rattle.buffered.specs.declared.SizesRead.the-variants.{Refused, Read}
+use Rattle.buffered.specs.Left.{sizesCounted}
+use Rattle.buffered.specs.Promises.{readAnswered, ReadPromise}
+use Rattle.buffered.specs.Laws.Read.{image-sizes}
 use Rattle.report.specs.Report.{refusalLine, outputRun, outputRead}
 use Rattle.batch.specs.Output.{runText}
+use Rattle.batch.specs.Laws.Room.{room-kept}
 
--- six buffers of 8,192 places
-pub record Roomy (b : ReadBuffers) : Type 0 where
+-- seven rows, and six buffers of 8,192 places
+pub record Roomy (b : Buffers) : Type 0 where
+  pub rows : length (b .rows) ≡ 7
   pub constants : length (b .constants) ≡ 8192
-  pub tags : length (b .tags) ≡ 8192
-  pub words : length (b .words) ≡ 8192
+  pub registerTags : length (b .registerTags) ≡ 8192
+  pub registerWords : length (b .registerWords) ≡ 8192
   pub program : length (b .program) ≡ 8192
   pub dataTags : length (b .dataTags) ≡ 8192
   pub dataWords : length (b .dataWords) ≡ 8192
 
 -- each value of these sections has 8 or 9 bytes
-few-fit : (z : Counted) (s : List ℕ) (b : ReadBuffers) → Found z s → length s ≤ 65536 → Roomy b
-    → (z .constants ≤ length (b .constants)) × (z .registers ≤ length (b .tags)) × (z .registers ≤ length (b .words))
-    × (z .program ≤ length (b .program)) × (z .data_words ≤ length (b .dataTags)) × (z .data_words ≤ length (b .dataWords))
-unfolding endPlace dataPlace programPlace registersPlace constantsPlace processesPlace
+few-fit : (z : Counted) (s : List ℕ) (b : Buffers) → Found z s → length s ≤ 65536 → Roomy b → fits (sizesCounted z) (roomOf b) ≡ true
+unfolding fits roomOf sizesCounted endPlace dataPlace programPlace registersPlace constantsPlace processesPlace
 few-fit z s b f h r =
     let e = f .ends in
-    (omega (arith, e, r .constants), omega (arith, e, r .tags), omega (arith, e, r .words), omega (arith, e, r .program), omega (arith, e, r .dataTags), omega (arith, e, r .dataWords))
+    also (le-leb (z .rows) _ (omega (arith, found-few z s f .0, r .rows)))
+    (also (le-leb (z .constants) _ (omega (arith, e, r .constants)))
+    (also (le-leb (z .registers) _ (omega (arith, e, r .registerTags)))
+    (also (le-leb (z .registers) _ (omega (arith, e, r .registerWords)))
+    (also (le-leb (z .program) _ (omega (arith, e, r .program)))
+    (also (le-leb (z .data_words) _ (omega (arith, e, r .dataTags))) (le-leb (z .data_words) _ (omega (arith, e, r .dataWords))))))))
 
-room-enough : (z : Counted) (s : List ℕ) (b : ReadBuffers) → Found z s → length s ≤ 65536 → Roomy b → roomIn z b ≡ true
-unfolding roomFor
-room-enough z s b f h r =
-    let w = few-fit z s b f h r in
-    also (le-leb (z .constants) _ (w .0))
-    (also (le-leb (z .registers) _ (w .1))
-    (also (le-leb (z .registers) _ (w .2))
-    (also (le-leb (z .program) _ (w .3))
-    (also (le-leb (z .data_words) _ (w .4)) (le-leb (z .data_words) _ (w .5))))))
+text-of-image : (l : List ℕ) (x : Option Refusal) (i : Image) → runText x (run l (stateOf i)) ≡ outputRun x l i
+unfolding runText outputRun
+text-of-image l none i = refl
+text-of-image l (some e) i = refl
 
-module _ (s : List ℕ) where
-  found-good : (i : Image) → decode s ≡ good i → Found (countsOf i) s
+module _ (s : List ℕ) (short : length s ≤ 65536) where
+  room-enough : (i : Image) (b : Buffers) → decode s ≡ good i → Roomy b → fits (sizesOf (stateOf i)) (roomOf b) ≡ true
   unfolding checkedOf
-  found-good i h = found s (countsOf i) (ap checkedOf h)
+  room-enough i b d w = ap (λ (n : Sizes). fits n (roomOf b)) (image-sizes i) ∙ few-fit (countsOf i) s b (found s (countsOf i) (ap checkedOf d)) short w
 
-  -- a refusal is one of 1 to 6
-  pub read-refused : (l : List ℕ) (b : ReadBuffers) (r : Read) (e : Refusal) → length s ≤ 65536 → Roomy b → r ≡ readOf s b → r .reading .answer ≡ Refused e
-      → refusalLine e ≡ outputRead l (decode s)
-  unfolding readOf decodedRead refusal imageReading outputRead
-  read-refused l b r e h w q a = go (decode s) refl (ap (λ (x : Read). x .reading .answer) (sym q) ∙ a)
-    where
-      fits : (i : Image) → decode s ≡ good i → (room : Bool) → roomIn (countsOf i) b ≡ room
-          → cond (not room) (readLeaving (refusal ShortBuffer) b) (readLeaving (imageReading i) (filledBuffers i b)) .reading .answer ≡ Refused e
-          → refusalLine e ≡ outputRead l (good i)
-      fits i d true m k = let z : _≡_ {A = ℕ} 0 1 = cc in absurd (omega arith)
-      fits i d false m k =
-          let t : roomIn (countsOf i) b ≡ true = room-enough (countsOf i) s b (found-good i d) h w in
-          let z : _≡_ {A = ℕ} 0 1 = cc in
-          absurd (omega arith)
+  module _ (b b′ : Buffers) (roomy : Roomy b) (x : SizesRead) (reads : ReadPromise b s x b′) where
+    read-fine : (i : Image) → decode s ≡ good i → readRefusal (roomOf b) s ≡ none
+    unfolding readRefusal decodedRefusal
+    read-fine i d = rw (d, room-enough i b d roomy)
 
-      go : (d : Decoded) → decode s ≡ d → decodedRead d b .reading .answer ≡ Refused e → refusalLine e ≡ outputRead l d
-      go (bad x) d k = let p : x ≡ e = cc in rw p
-      go (good i) d k = fits i d (roomIn (countsOf i) b) refl k
+    -- an accepted image is read
+    read-good : (i : Image) → decode s ≡ good i → x ≡ Read (sizesOf (stateOf i))
+    unfolding readAnswered readAnswer decodedAnswer decodedRefusal unless
+    read-good i d = reads .answer ∙ rw (d, room-enough i b d roomy)
 
-  text-of-image : (l : List ℕ) (x : Option Refusal) (i : Image) → runText x (run l (stateOf i)) ≡ outputRun x l i
-  unfolding runText outputRun
-  text-of-image l none i = refl
-  text-of-image l (some e) i = refl
+    read-bad : (e : Refusal) → decode s ≡ bad e → x ≡ Refused e
+    unfolding readAnswered readAnswer decodedAnswer
+    read-bad e d = reads .answer ∙ rw d
 
-  -- a state that is held is sound, fits its buffers, and gives the output
-  module _ (z : Counted) (r : Read) (x : Held s z r) where
-    found-held : Found z s
-    unfolding checkedOf
-    found-held = found s z (ap checkedOf (x .accepted) ∙ ap Sound (sym (x .counts)))
-
-    sound-held : Bytes s → soundIn (z .rows) (stateRead z r) ≡ true
-    unfolding soundIn
-    sound-held b =
-        also (le-leb (z .rows) 7 (found-few z s found-held .0))
-        (rw (x .state) (reads-only-sound s b (x .image) (x .accepted)))
-
-    pub ready-held : length s ≤ 65536 → Bytes s → Roomy (r .buffers)
-        → ((z .constants ≤ length (r .buffers .constants)) × (z .registers ≤ length (r .buffers .tags)) × (z .registers ≤ length (r .buffers .words))
-        × (z .program ≤ length (r .buffers .program)) × (z .data_words ≤ length (r .buffers .dataTags)) × (z .data_words ≤ length (r .buffers .dataWords)))
-        × (soundIn (z .rows) (stateRead z r) ≡ true)
-    ready-held h b w = (few-fit z s (r .buffers) found-held h w, sound-held b)
-
-    pub text-held : (l : List ℕ) → runText (scheduleRefusal l) (run l (stateRead z r)) ≡ outputRead l (decode s)
+    -- a refusal is one of 1 to 6
+    pub read-refused : (l : List ℕ) (e : Refusal) → x ≡ Refused e → refusalLine e ≡ outputRead l (decode s)
     unfolding outputRead
-    text-held l = rw (x .state, x .accepted) (text-of-image l (scheduleRefusal l) (x .image))
+    read-refused l e a = go (decode s) refl
+      where
+        go : (d : Decoded) → decode s ≡ d → refusalLine e ≡ outputRead l d
+        go (bad y) d = let k = read-bad y d in let p : y ≡ e = cc in rw p
+        go (good i) d = let k = read-good i d in let z : _≡_ {A = ℕ} 0 1 = cc in absurd (omega arith)
+
+    -- a run of what was read gives the output
+    held-text : (l : List ℕ) (i : Image) → Bytes s → decode s ≡ good i
+        → runText (runRefusal (sizesOf (stateOf i)) b′ l) (run l (fieldsIn (sizesOf (stateOf i)) b′)) ≡ outputRun (scheduleRefusal l) l i
+    unfolding runRefusal stateRefusal orElse
+    held-text l i bytes d =
+        let f : fieldsIn (sizesOf (stateOf i)) b′ ≡ stateOf i = ap (fieldsIn (sizesOf (stateOf i))) (reads .leaves) ∙ read-in-place b s i d (read-fine i d) in
+        let fit = room-enough i b d roomy in
+        let same : roomOf b′ ≡ roomOf b = ap roomOf (reads .leaves ∙ held-by-read b s i d (read-fine i d)) ∙ room-kept (sizesOf (stateOf i)) (stateOf i) b (read-sized i) fit in
+        rw (same, fit, f, reads-only-sound s bytes i d) (text-of-image l (scheduleRefusal l) i)
+
+    pub read-text : (l : List ℕ) (n : Sizes) → Bytes s → x ≡ Read n → runText (runRefusal n b′ l) (run l (fieldsIn n b′)) ≡ outputRead l (decode s)
+    unfolding outputRead
+    read-text l n bytes a = go (decode s) refl
+      where
+        go : (d : Decoded) → decode s ≡ d → runText (runRefusal n b′ l) (run l (fieldsIn n b′)) ≡ outputRead l d
+        go (bad y) d = let k = read-bad y d in let z : _≡_ {A = ℕ} 0 1 = cc in absurd (omega arith)
+        go (good i) d =
+            let k = read-good i d in
+            let p : sizesOf (stateOf i) ≡ n = cc in
+            subst (λ (m : Sizes). runText (runRefusal m b′ l) (run l (fieldsIn m b′)) ≡ outputRun (scheduleRefusal l) l i) p (held-text l i bytes d)

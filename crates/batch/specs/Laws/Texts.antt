@@ -6,49 +6,46 @@ use mathlib.Core.Option.{Option, none, some}
 use mathlib.Core.List.{List, _++_}
 use native.Mathlib.Omega.{arith}
 use lib.Dec.{ltb}
-use lib.ListN.{length}
+use lib.ListN.{length, take}
 use borrow.Author.Tests.{lt-ltb, le-ltb, ltb-false}
 use Rattle.refusal.specs.declared.Refusal.{Refusal}
 use Rattle.step.specs.State.{State}
 use Rattle.run.specs.declared.Counts.{Counts}
 use Rattle.run.specs.Run.{Ran, run}
-use Rattle.run.specs.Schedule.{scheduleRefusal}
-use Rattle.soundness.specs.Held.{soundIn}
 use Rattle.runner.specs.declared.RunAnswer.{RunAnswer}
 use Rattle.runner.specs.declared.RunAnswer.the-variants.{Refused, Counted}
-use Rattle.runner.specs.Answer.{runRefusalIn, answerOf, leftBy, answerIn, stateLeft}
+use Rattle.calls.specs.declared.Sizes.{Sizes}
+use Rattle.calls.specs.Buffers.{Buffers, fieldsIn}
+use Rattle.calls.specs.Calls.{unless, runRefusal, runAnswer}
+use Rattle.calls.specs.InPlace.{run-in-place}
+use Rattle.buffered.specs.Promises.{runAnswered, RunPromise}
 use Rattle.report.specs.Report.{rowLines, countsLine, reportOf, refusalLine}
 use Rattle.batch.specs.Output.{runText, bytesCopied}
 
-refused-text : (x : Option Refusal) (r : Ran) (e : Refusal) → answerOf x r ≡ Refused e → refusalLine e ≡ runText x r
-unfolding answerOf runText
+refused-text : (x : Option Refusal) (r : Ran) (e : Refusal) → runAnswered (unless x (r .counts)) ≡ Refused e → refusalLine e ≡ runText x r
+unfolding runAnswered unless runText
 refused-text none r e h = let z : _≡_ {A = ℕ} 0 1 = cc in absurd (omega arith)
 refused-text (some d) r e h = let q : d ≡ e = cc in rw q
 
-counted-text : (x : Option Refusal) (s s′ : State) (r : Ran) (c : Counts) → answerOf x r ≡ Counted c → s′ ≡ leftBy x s r
-    → rowLines (s′ .table) (s′ .rows) ++ countsLine c (s′ .table .flag) ≡ runText x r
-unfolding answerOf leftBy runText reportOf
-counted-text none s s′ r c h l = let q : r .counts ≡ c = cc in rw (l, q)
-counted-text (some d) s s′ r c h l = let z : _≡_ {A = ℕ} 0 1 = cc in absurd (omega arith)
+counted-text : (x : Option Refusal) (r : Ran) (s : State) (c : Counts) → runAnswered (unless x (r .counts)) ≡ Counted c → (x ≡ none → s ≡ r .state)
+    → rowLines (s .table) (s .rows) ++ countsLine c (s .table .flag) ≡ runText x r
+unfolding runAnswered unless runText reportOf
+counted-text none r s c h l = let q : r .counts ≡ c = cc in rw (l refl, q)
+counted-text (some d) r s c h l = let z : _≡_ {A = ℕ} 0 1 = cc in absurd (omega arith)
 
-module _ (n : ℕ) (s : State) (l : List ℕ) (sound : soundIn n s ≡ true) where
-  refusal-is : runRefusalIn n s l ≡ scheduleRefusal l
-  unfolding runRefusalIn
-  refusal-is = rw sound
-
+module _ (n : Sizes) (b b′ : Buffers) (l : List ℕ) (a : RunAnswer) (runs : RunPromise n b l a b′) where
   -- a refused run
-  pub run-refused : (a : RunAnswer) (e : Refusal) → a ≡ answerIn n s l → a ≡ Refused e → refusalLine e ≡ runText (scheduleRefusal l) (run l s)
-  unfolding answerIn
-  run-refused a e h q =
-      refused-text (scheduleRefusal l) (run l s) e (ap (λ (x : Option Refusal). answerOf x (run l s)) (sym refusal-is) ∙ sym h ∙ q)
+  pub run-refused : (e : Refusal) → a ≡ Refused e → refusalLine e ≡ runText (runRefusal n b l) (run l (fieldsIn n b))
+  unfolding runAnswer
+  run-refused e q = refused-text (runRefusal n b l) (run l (fieldsIn n b)) e (sym (runs .answer) ∙ q)
 
   -- a run that none stops, from what it answers and leaves
-  pub run-counted : (a : RunAnswer) (c : Counts) (s′ : State) → a ≡ answerIn n s l → s′ ≡ stateLeft n s l → a ≡ Counted c
-      → rowLines (s′ .table) (s′ .rows) ++ countsLine c (s′ .table .flag) ≡ runText (scheduleRefusal l) (run l s)
-  unfolding answerIn stateLeft
-  run-counted a c s′ h k q =
-      counted-text (scheduleRefusal l) s s′ (run l s) c (ap (λ (x : Option Refusal). answerOf x (run l s)) (sym refusal-is) ∙ sym h ∙ q)
-      (k ∙ ap (λ (x : Option Refusal). leftBy x s (run l s)) refusal-is)
+  pub run-counted : (c : Counts) → a ≡ Counted c
+      → rowLines (b′ .table) (take (n .rows) (b′ .rows)) ++ countsLine c (b′ .table .flag) ≡ runText (runRefusal n b l) (run l (fieldsIn n b))
+  unfolding runAnswer fieldsIn
+  run-counted c q =
+      counted-text (runRefusal n b l) (run l (fieldsIn n b)) (fieldsIn n b′) c (sym (runs .answer) ∙ q)
+      (λ e. ap (fieldsIn n) (runs .leaves) ∙ run-in-place n b l e)
 
 -- what is copied into a buffer of m bytes
 module _ (text buffer : List ℕ) (m n : ℕ) (is : n ≡ length text) (same : m ≡ length buffer) where

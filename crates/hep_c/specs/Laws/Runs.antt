@@ -5,7 +5,7 @@ use mathlib.Core.Bool.{true}
 use mathlib.Core.Option.{none}
 use mathlib.Core.List.{List, _++_}
 use native.Mathlib.Omega.{arith}
-use lib.ListN.{length, drop, length-append, length-drop}
+use lib.ListN.{length, drop}
 use lib.Seq.{drop-append-seam}
 use borrow.Author.Tests.{le-ltb}
 use Rattle.step.specs.State.{State}
@@ -29,35 +29,17 @@ use Rattle.calls.specs.InPlace.{read-in-place, run-in-place}
 use Rattle.calls.specs.Laws.InPlace.{Sized, held-by-read, read-sized, lengths-sized}
 use Rattle.buffered.specs.declared.SizesRead.{SizesRead}
 use Rattle.buffered.specs.Promises.{ReadPromise, runAnswered, RunPromise, writeAnswered, WritePromise}
-use Rattle.buffered.specs.Laws.Places.{fitting}
+use Rattle.batch.specs.Laws.Room.{room-kept}
 use Rattle.hep_c.specs.Answers.{growth}
 use Rattle.hep_c.specs.Laws.Grown.{grown}
 
 -- ---- buffers that hold a state
 
 module _ {A : Type 0} where
-  over-length : (n : ℕ) (xs l : List A) → length xs ≡ n → n ≤ length l → length (over xs l) ≡ length l
-  over-length n xs l e h = omega (arith, length-append xs (drop (length xs) l), length-drop (length xs) l)
-
   over-twice : (n : ℕ) (xs ys l : List A) → length xs ≡ n → length ys ≡ n → over xs (over ys l) ≡ over xs l
   over-twice n xs ys l e f =
       let k : length xs ≡ length ys = e ∙ sym f in
       ap (λ (j : ℕ). xs ++ drop j (over ys l)) k ∙ ap (λ m. xs ++ m) (drop-append-seam ys (drop (length ys) l)) ∙ ap (λ (j : ℕ). xs ++ drop j l) (sym k)
-
--- they are as long as before
-room-kept : (n : Sizes) (s : State) (b : Buffers) → Sized n s → fits n (roomOf b) ≡ true → roomOf (holding s b) ≡ roomOf b
-unfolding roomOf holding
-room-kept n s b z e =
-    let f = fitting n (roomOf b) e in
-    rw (
-      over-length (n .rows) (s .rows) (b .rows) (z .rows) (f .rows),
-      over-length (n .constants) (s .constants) (b .constants) (z .constants) (f .constants),
-      over-length (n .registers) (s .registers .tags) (b .registerTags) (z .registerTags) (f .registerTags),
-      over-length (n .registers) (s .registers .words) (b .registerWords) (z .registerWords) (f .registerWords),
-      over-length (n .program) (s .program) (b .program) (z .program) (f .program),
-      over-length (n .data_words) (s .dataWords .tags) (b .dataTags) (z .dataTags) (f .dataTags),
-      over-length (n .data_words) (s .dataWords .words) (b .dataWords) (z .dataWords) (f .dataWords),
-    )
 
 -- of two states with the same counts the later is held
 held-twice : (n : Sizes) (s t : State) (b : Buffers) → Sized n s → Sized n t → holding t (holding s b) ≡ holding t b
