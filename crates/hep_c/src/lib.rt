@@ -1,14 +1,12 @@
 // The library for programs in other languages: numbers and slices alone. include/hep.h says what each function promises.
 ghost use mathlib.Core.Path.{_≡_};
 ghost use mathlib.Core.Option.{none};
-ghost use mathlib.Core.List.{[]};
 ghost use Prim.Native.Nat.{_≤_};
 ghost use lib.ListN.{length};
 ghost use Rattle.image.specs.Image.{decode};
 ghost use Rattle.image.specs.Fields.{over};
 ghost use Rattle.image_check.specs.declared.Checked.the-variants.{Sound};
 ghost use Rattle.image_check.specs.Checked.{checkedOf};
-ghost use Rattle.image_read.specs.Read.{sevenRows, tableRead};
 ghost use Rattle.run.specs.Schedule.{scheduleRefusal};
 ghost use Rattle.calls.specs.Trials.{numbered};
 ghost use Rattle.buffered.specs.Held.{roomFrom};
@@ -23,9 +21,6 @@ use image_check::Checked;
 use image_check::Counted;
 use run::Counts;
 use runner::RunAnswer;
-use step::ProcessTable;
-use step::Queue;
-use window::Row;
 
 // ---- numbers
 
@@ -99,42 +94,6 @@ fn sizes_counted(z: Counted) -> Sizes
         registers: z.registers,
         program: z.program,
         data_words: z.data_words,
-    }
-}
-
-fn no_rows() -> Rows
-    ensures { λ r. ⌜ r ≡ record { at = sevenRows []; n = 7 } ⌝ }
-{
-    let empty = Row {
-        task: 0,
-        cb: 0,
-        rb: 0,
-        rl: 0,
-        pb: 0,
-        pl: 0,
-        db: 0,
-        dl: 0,
-        kind: 0xFF,
-        psw: 0,
-    };
-    Rows {
-        at: [empty; 7],
-        n: 7,
-    }
-}
-
-fn no_processes() -> ProcessTable
-    ensures { λ r. ⌜ r ≡ tableRead 0 [] ⌝ }
-{
-    let none = Queue {
-        pts: [0; 64],
-        head: 0,
-        len: 0,
-    };
-    ProcessTable {
-        psw: [0; 64],
-        queues: [none; 7],
-        flag: 0,
     }
 }
 
@@ -243,9 +202,9 @@ fn run_accepted(
     ensures { λ _. ⌜ slices (now (constants .exit)) (now (tags .exit)) (now (words .exit)) (now (program .exit)) (now (data_tags .exit)) (now (data_words .exit)) (now (output .exit)) (now (counts .exit)) (now (report .exit)) ≡ imageRunLeft (imageRunAnswer (now (image .entry)) (now (schedule .entry)) (slices (now (constants .entry)) (now (tags .entry)) (now (words .entry)) (now (program .entry)) (now (data_tags .entry)) (now (data_words .entry)) (now (output .entry)) (now (counts .entry)) (now (report .entry))) (decode (now (image .entry)))) (slices (now (constants .entry)) (now (tags .entry)) (now (words .entry)) (now (program .entry)) (now (data_tags .entry)) (now (data_words .entry)) (now (output .entry)) (now (counts .entry)) (now (report .entry))) ⌝ }
 {
     let n = sizes_counted(z);
-    let x = buffered::read(
-        no_rows(),
-        no_processes(),
+    let x = hep_owner::read(
+        hep_owner::no_rows(),
+        hep_owner::no_processes(),
         constants,
         tags,
         words,
@@ -256,7 +215,7 @@ fn run_accepted(
     );
     let rows = x.rows;
     let table = x.table;
-    let y = buffered::run(
+    let y = hep_owner::run(
         rows,
         table,
         constants,
@@ -268,12 +227,12 @@ fn run_accepted(
         schedule,
         n,
     );
-    let rows = y.rows;
+    let at = y.rows;
     let table = y.table;
     let answer = y.answer;
     let c = counts_answered(answer);
     let w = buffered::write(
-        rows,
+        Rows { at, n: 7 },
         table,
         constants,
         tags,
@@ -284,7 +243,6 @@ fn run_accepted(
         output,
         n,
     );
-    let at = rows.at;
     let text = reporting::report_text(at, n.rows, table, c);
     let k = reporting::copy_text(text, report);
     put_counts(c, image_write::length_written(w), k, counts);

@@ -110,15 +110,15 @@ module _ (image schedule : List ℕ) (i : Image) (n : Sizes) (bytes : Bytes imag
   held₂ =
       runs .leaves ∙ rw (run-fine, fields₁) (ap (holding after) held₁ ∙ held-twice n (stateOf i) after b₀ before-sized after-sized)
 
-  fits₂ : fits n (roomOf b₂) ≡ true
-  fits₂ = ap (λ (b : Buffers). fits n (roomOf b)) held₂ ∙ ap (fits n) (room-kept n after b₀ after-sized fit) ∙ fit
+  pub room₂ : roomOf b₂ ≡ roomOf b₀
+  room₂ = ap roomOf held₂ ∙ room-kept n after b₀ after-sized fit
 
   -- the image after the run has room
   write-fine : (k : ℕ) → length image + growth ≤ k → writeRefusal n b₂ k ≡ none
   unfolding writeRefusal outputRefusal orElse
   write-fine k h =
       let g : length (encode after) ≤ k = omega (arith, grown image i after d after-sound (run-lengths schedule (stateOf i))) in
-      rw (state-fine n b₂ fits₂ (ap sound fields₂ ∙ after-sound), fields₂, le-ltb k (length (encode after)) g)
+      rw (state-fine n b₂ (ap (fits n) room₂ ∙ fit) (ap sound fields₂ ∙ after-sound), fields₂, le-ltb k (length (encode after)) g)
 
   module _ (before written : List ℕ) (w : Writing) (roomy : length image + growth ≤ length before) (writes : WritePromise n b₂ w before written) where
     pub wrote : w ≡ Wrote (length (encode after))
