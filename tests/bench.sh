@@ -5,7 +5,9 @@
 #     bash tests/bench.sh [--write]    --write: the tables go to docs/BENCHMARKS.md, below its line "## Measured"
 set -euo pipefail
 cd "$(dirname "$0")/.."
-for crate in hep_c image_calls; do rt staticlib "$crate" | tail -1; done
+for crate in hep_c image_calls; do
+    rt staticlib "$crate" > target/staticlib.log 2>&1 || { cat target/staticlib.log; exit 1; }
+done
 cargo build --quiet --release --offline --manifest-path hep-trials/Cargo.toml --bin hep-bench
 measured() {
     echo "$(date +%F), commit $(git rev-parse --short HEAD), $(lscpu | sed -n 's/^Model name: *//p'), $(nproc) processors, load $(cut -d ' ' -f 1-2 /proc/loadavg) (1 and 5 minutes)."
