@@ -3,8 +3,8 @@
 # House one's table is taken from the image after the proved run; it must be the same beside both.
 set -euo pipefail
 cd "$(dirname "$0")/.."
-rt check hep_batch | tail -1
-rt staticlib hep_c | tail -1
+rt check hep_batch 2>&1 | tail -1
+rt staticlib hep_c 2>&1 | tail -1
 cargo build --quiet --release --offline --manifest-path hep-tools/Cargo.toml
 cargo build --quiet --release --offline --manifest-path hep-rust/Cargo.toml --example image_after
 tools=hep-tools/target/release
