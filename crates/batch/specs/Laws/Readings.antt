@@ -1,6 +1,6 @@
 -- An image of at most 65,536 bytes has room in buffers of 8,192 places, so reading it there is refused by 1 to 6 only, or gives a sound state.
 use Prim.Native.Nat.{ℕ, _≤_}
-use mathlib.Core.Path.{_≡_, refl, sym, ap, _∙_, subst}
+use mathlib.Core.Path.{_≡_, refl, ap, _∙_, subst}
 use mathlib.Core.Bool.{true}
 use mathlib.Core.Option.{Option, none, some}
 use mathlib.Core.List.{List}
