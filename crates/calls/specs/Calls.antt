@@ -1,7 +1,7 @@
 -- The calls of the library: what each answers, and what it leaves in the lent buffers. The first refusal that applies is returned, with
 -- nothing else, and every lent byte stays.
 use Prim.Native.Nat.{ℕ}
-use mathlib.Core.Bool.{Bool, cond, not, _||_}
+use mathlib.Core.Bool.{cond, not}
 use mathlib.Core.Option.{Option, none, some}
 use mathlib.Core.List.{List}
 use lib.Dec.{ltb}
@@ -13,7 +13,7 @@ use Rattle.step.specs.Soundness.{sound}
 use Rattle.run.specs.declared.Counts.{Counts}
 use Rattle.run.specs.Schedule.{scheduleRefusal}
 use Rattle.run.specs.Run.{run}
-use Rattle.image.specs.Image.{Image, stateOf, Decoded, bad, good, decode, encode}
+use Rattle.image.specs.Image.{stateOf, Decoded, bad, good, decode, encode}
 use Rattle.image.specs.Fields.{over}
 use Rattle.calls.specs.declared.Sizes.{Sizes}
 use Rattle.calls.specs.Buffers.{Buffers, Room, roomOf, fits, sizesOf, fieldsIn, holding}

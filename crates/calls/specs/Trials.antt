@@ -6,12 +6,11 @@ use Prim.Native.Nat.{ℕ, _-_}
 use lib.ListN.{length, take, drop, replicate}
 use Rattle.refusal.specs.declared.Refusal.{Refusal}
 use Rattle.refusal.specs.Numbers.{numberOf}
-use Rattle.window.specs.declared.Row.{Row}
 use Rattle.window.specs.Memories.{cell}
 use Rattle.step.specs.declared.ProcessTable.{ProcessTable}
 use Rattle.image.specs.Image.{Image, imageCodec, queueOf, stateOf}
 use Rattle.calls.specs.declared.Sizes.{Sizes}
-use Rattle.calls.specs.Buffers.{Buffers, Room, roomOf, sizesOf, holding}
+use Rattle.calls.specs.Buffers.{Buffers, Room, holding}
 use Rattle.calls.specs.Calls.{Answer, answers, readRefusal, readAnswer, readLeaves, runRefusal, runLeaves, writeRefusal, writeAnswer, writeLeaves}
 use Rattle.calls.specs.Laws.Opened.{opened}
 

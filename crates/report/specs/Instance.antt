@@ -5,7 +5,6 @@ use mathlib.Core.List.{List, [], _∷_, _++_}
 use Prim.Native.Nat.{ℕ, _-_, _^_}
 use lib.ListN.{getD, replicate}
 use Rattle.window.specs.declared.Row.{Row}
-use Rattle.window.specs.declared.Cell.{Cell}
 use Rattle.window.specs.Memories.{cell}
 use Rattle.window.specs.Windows.{registerWindow}
 use Rattle.operation.specs.Exclusions.{instructionWord}

@@ -3,7 +3,6 @@ use Prim.Native.Nat.{_+_, _-_, _*_, _≤_}
 use mathlib.Core.Path.{refl, sym, _∙_}
 use lib.ListN.{length}
 use Rattle.image_words.specs.Reading.{fieldAt}
-use Rattle.image_words.specs.Laws.Fields.{byte-at}
 use Rattle.image_words.proofs.Filling.{Filling, start, steps, done, cells-unpaired, cells-stay, cells-filled}
 use borrow.Author.Needs.{needs}
 use native.Mathlib.Omega.{arith}

@@ -15,7 +15,7 @@ use Rattle.word.specs.declared.Integer.the-variants.{Add, Sub, Inc, Dec, Mul}
 use Rattle.window.specs.declared.Row.{Row}
 use Rattle.window.specs.declared.Place.{Place}
 use Rattle.window.specs.declared.Place.the-variants.{At, Violation}
-use Rattle.window.specs.Windows.{windowOf, inside, placeIn, registerWindow, programWindow, dataWindow, dataWordWindow, bytePlace}
+use Rattle.window.specs.Windows.{windowOf, inside, placeIn, programWindow, dataWindow, dataWordWindow, bytePlace}
 use Rattle.window.specs.Laws.Windows.{in-of, of-in, placed, word-inside}
 use Rattle.window.specs.Memories.{Memory, cellAt, cellIn, seen}
 use Rattle.window.specs.Laws.Memories.{cell-inside, seen-inside}
@@ -24,15 +24,11 @@ use Rattle.operand.specs.declared.Operand.{Operand}
 use Rattle.operand.specs.declared.Lookup.{Lookup}
 use Rattle.operand.specs.declared.Lookup.the-variants.{Found}
 use Rattle.operand.specs.declared.Lookup.the-variants as lookup
-use Rattle.operand.specs.Field.{accessOf, lookupOf}
-use Rattle.operand.specs.Access.{visibleCell, operandCell}
+use Rattle.operand.specs.Field.{lookupOf}
 use Rattle.operand.specs.Laws.Operands.{Within, lookup-within, visible-within}
 use Rattle.operation.specs.declared.Roles.{Roles}
-use Rattle.operation.specs.declared.FoundOperand.{FoundOperand}
-use Rattle.operation.specs.declared.FoundOperands.{FoundOperands}
 use Rattle.operation.specs.declared.Operation.{Operation}
 use Rattle.operation.specs.declared.Trap.the-variants as trap
-use Rattle.operation.specs.declared.Decision.{Decision}
 use Rattle.operation.specs.declared.Decision.the-variants.{Traps}
 use Rattle.operation.specs.declared.Reach.the-variants.{Reaches, Stops}
 use Rattle.operand.specs.declared.Role.the-variants.{Unused, Destination, Source}
