@@ -99,3 +99,18 @@ pub enum Decision {
     Traps(Trap, u64),
     Executes(Effects),
 }
+
+// A decision without what it carries: how the process goes on, or why it traps. No operation answers the create fault.
+pub enum Course {
+    Continues,
+    Waits,
+    Quits,
+    Creates,
+    CreateFault,
+    IllegalInstruction,
+    ProtectionViolation,
+    PrivilegedInstruction,
+    SupervisorCall,
+    SimulatedInstruction,
+    DataException,
+}
