@@ -1,23 +1,19 @@
 // What operations share, by the roles of their fields: D, S0, S1, S2 or unused.
-// illegal: check 2, an illegal access code or a nonzero unused field. waits: check 5, each field with the tag at its operand.
-// masked: check 6, by the tags of the sources. executed: the effects, each source with its cell before the step.
+// illegal: check 2, an illegal access code or a nonzero unused field. waits: check 5, each source with its tag, D by its address.
+// masked: check 6, by the tags of the sources. release: sources are set empty, each by its address and its tag before the step.
+// write: that, then the destination gets a word of a quality.
 ghost use mathlib.Core.Path.{_≡_};
 ghost use Prim.Native.Nat.{_/_, _%_, _^_};
 ghost use mathlib.Core.Bool.{_&&_, _||_};
 ghost use lib.Dec.{eqb};
-ghost use Rattle.window.specs.declared.Write.the-variants.{Nothing};
+ghost use lib.ListN.{getD, set};
 ghost use Rattle.operand.specs.declared.Role.the-variants.{Unused, Destination, Source};
 ghost use Rattle.operand.specs.Field.{accessOf, illegalField};
-ghost use Rattle.operand.specs.Access.{waitsOf, maskedOf, sourceLeft, destinationLeft};
-ghost use Rattle.operation.specs.declared.Decision.the-variants.{Executes};
-use operand::Operand;
+ghost use Rattle.operand.specs.Access.{waitsOf, maskedOf, destinationTag};
+ghost use Rattle.operand.specs.Spans.{released};
+ghost use Rattle.operation.specs.declared.Course.the-variants.{Continues};
 use operand::Role;
-use operation::Decision;
-use operation::Effects;
-use operation::Fate;
-use window::Cell;
-use window::Write;
-use word::Outcome;
+use operation::Course;
 
 // Two unused fields.
 pub fn illegal_two_unused(a: u16, b: u16) -> bool
@@ -105,146 +101,255 @@ pub fn illegal_s2(first: u16, second: u16, third: u16) -> bool
     operand::illegal_field(Role::Source, third)
 }
 
-// The bits of AC are zero in two fields, so neither has an access test. A constant may have ones there.
-fn untested(a: u16, b: u16) -> bool
-    ensures { λ r. ⌜ r ≡ eqb (a / 2 ^ 11 % 2 ^ 3) 0 && eqb (b / 2 ^ 11 % 2 ^ 3) 0 ⌝ }
+// The bits of AC are zero in a field: no access test, and nothing to set empty. A constant may have ones there.
+fn plain(f: u16) -> bool
+    ensures { λ r. ⌜ r ≡ eqb (f / 2 ^ 11 % 2 ^ 3) 0 ⌝ }
 {
-    if (a >> 11) % 8 != 0 {
-        return false;
+    (f >> 11) % 8 == 0
+}
+
+fn plain_two(f: u16, g: u16) -> bool
+    ensures { λ r. ⌜ r ≡ eqb (f / 2 ^ 11 % 2 ^ 3) 0 && eqb (g / 2 ^ 11 % 2 ^ 3) 0 ⌝ }
+{
+    if plain(f) {
+        return plain(g);
     }
-    (b >> 11) % 8 == 0
+    false
+}
+
+fn plain_three(f: u16, g: u16, h: u16) -> bool
+    ensures { λ r. ⌜ r ≡ eqb (f / 2 ^ 11 % 2 ^ 3) 0 && (eqb (g / 2 ^ 11 % 2 ^ 3) 0 && eqb (h / 2 ^ 11 % 2 ^ 3) 0) ⌝ }
+{
+    if plain(f) {
+        return plain_two(g, h);
+    }
+    false
+}
+
+// D.
+pub fn waits_d(first: u16, d: usize, tags: &[u8]) -> bool
+    ensures { λ r. ⌜ r ≡ waitsOf Destination (accessOf first) (getD (now (tags .entry)) d 0) ⌝ }
+{
+    operand::waits(
+        Role::Destination,
+        operand::access(first),
+        window::tag_at(tags, d),
+    )
 }
 
 // D, S1.
-pub fn waits_d_s1(first: u16, d: u8, second: u16, a: u8) -> bool
-    ensures { λ r. ⌜ r ≡ waitsOf Destination (accessOf first) d || waitsOf Source (accessOf second) a ⌝ }
+pub fn waits_d_s1(first: u16, d: usize, second: u16, x: u8, tags: &[u8]) -> bool
+    ensures { λ r. ⌜ r ≡ waitsOf Destination (accessOf first) (getD (now (tags .entry)) d 0) || waitsOf Source (accessOf second) x ⌝ }
 {
-    if operand::waits(Role::Destination, operand::access(first), d) {
+    if plain_two(first, second) {
+        return false;
+    }
+    if waits_d(first, d, tags) {
         return true;
     }
-    operand::waits(Role::Source, operand::access(second), a)
+    operand::waits(Role::Source, operand::access(second), x)
+}
+
+fn sources_wait(second: u16, x: u8, third: u16, y: u8) -> bool
+    ensures { λ r. ⌜ r ≡ waitsOf Source (accessOf second) x || waitsOf Source (accessOf third) y ⌝ }
+{
+    if operand::waits(Role::Source, operand::access(second), x) {
+        return true;
+    }
+    operand::waits(Role::Source, operand::access(third), y)
 }
 
 // S1, S2.
-pub fn waits_s1_s2(second: u16, a: u8, third: u16, b: u8) -> bool
-    ensures { λ r. ⌜ r ≡ waitsOf Source (accessOf second) a || waitsOf Source (accessOf third) b ⌝ }
+pub fn waits_s1_s2(second: u16, x: u8, third: u16, y: u8) -> bool
+    ensures { λ r. ⌜ r ≡ waitsOf Source (accessOf second) x || waitsOf Source (accessOf third) y ⌝ }
 {
-    if untested(second, third) {
+    if plain_two(second, third) {
         return false;
     }
-    if operand::waits(Role::Source, operand::access(second), a) {
-        return true;
-    }
-    operand::waits(Role::Source, operand::access(third), b)
+    sources_wait(second, x, third, y)
 }
 
 // D, S1, S2.
-pub fn waits_d_s1_s2(first: u16, d: u8, second: u16, a: u8, third: u16, b: u8) -> bool
-    ensures { λ r. ⌜ r ≡ waitsOf Destination (accessOf first) d || (waitsOf Source (accessOf second) a || waitsOf Source (accessOf third) b) ⌝ }
+pub fn waits_d_s1_s2(
+    first: u16,
+    d: usize,
+    second: u16,
+    x: u8,
+    third: u16,
+    y: u8,
+    tags: &[u8],
+) -> bool
+    ensures { λ r. ⌜ r ≡ waitsOf Destination (accessOf first) (getD (now (tags .entry)) d 0) || (waitsOf Source (accessOf second) x || waitsOf Source (accessOf third) y) ⌝ }
 {
-    if operand::waits(Role::Destination, operand::access(first), d) {
+    if plain_three(first, second, third) {
+        return false;
+    }
+    if waits_d(first, d, tags) {
         return true;
     }
-    waits_s1_s2(second, a, third, b)
+    sources_wait(second, x, third, y)
 }
 
 // S0, S1, S2.
-pub fn waits_s0_s1_s2(first: u16, d: u8, second: u16, a: u8, third: u16, b: u8) -> bool
-    ensures { λ r. ⌜ r ≡ waitsOf Source (accessOf first) d || (waitsOf Source (accessOf second) a || waitsOf Source (accessOf third) b) ⌝ }
+pub fn waits_s0_s1_s2(first: u16, t: u8, second: u16, x: u8, third: u16, y: u8) -> bool
+    ensures { λ r. ⌜ r ≡ waitsOf Source (accessOf first) t || (waitsOf Source (accessOf second) x || waitsOf Source (accessOf third) y) ⌝ }
 {
-    if operand::waits(Role::Source, operand::access(first), d) {
+    if plain_three(first, second, third) {
+        return false;
+    }
+    if operand::waits(Role::Source, operand::access(first), t) {
         return true;
     }
-    waits_s1_s2(second, a, third, b)
+    sources_wait(second, x, third, y)
 }
 
 // S1, S2.
-pub fn masked_s1_s2(psw: u64, a: u8, b: u8) -> bool
-    ensures { λ r. ⌜ r ≡ maskedOf Source psw a || maskedOf Source psw b ⌝ }
+pub fn masked_s1_s2(psw: u64, x: u8, y: u8) -> bool
+    ensures { λ r. ⌜ r ≡ maskedOf Source psw x || maskedOf Source psw y ⌝ }
 {
-    if operand::masked(Role::Source, psw, a) {
+    if operand::masked(Role::Source, psw, x) {
         return true;
     }
-    operand::masked(Role::Source, psw, b)
+    operand::masked(Role::Source, psw, y)
 }
 
 // S0, S1, S2.
-pub fn masked_s0_s1_s2(psw: u64, d: u8, a: u8, b: u8) -> bool
-    ensures { λ r. ⌜ r ≡ maskedOf Source psw d || (maskedOf Source psw a || maskedOf Source psw b) ⌝ }
+pub fn masked_s0_s1_s2(psw: u64, t: u8, x: u8, y: u8) -> bool
+    ensures { λ r. ⌜ r ≡ maskedOf Source psw t || (maskedOf Source psw x || maskedOf Source psw y) ⌝ }
 {
-    if operand::masked(Role::Source, psw, d) {
+    if operand::masked(Role::Source, psw, t) {
         return true;
     }
-    masked_s1_s2(psw, a, b)
+    masked_s1_s2(psw, x, y)
+}
+
+// S1, S2.
+pub fn release_s1_s2(second: u16, a: usize, x: u8, third: u16, b: usize, y: u8, tags: &mut [u8])
+    ensures { λ _. ⌜ now (tags .exit) ≡ released third b y (released second a x (now (tags .entry))) ⌝ }
+{
+    if plain_two(second, third) {
+        return;
+    }
+    operand::release(second, a, x, tags);
+    operand::release(third, b, y, tags);
+}
+
+// S0, S1, S2.
+pub fn release_s0_s1_s2(
+    first: u16,
+    c: usize,
+    t: u8,
+    second: u16,
+    a: usize,
+    x: u8,
+    third: u16,
+    b: usize,
+    y: u8,
+    tags: &mut [u8],
+)
+    ensures { λ _. ⌜ now (tags .exit) ≡ released third b y (released second a x (released first c t (now (tags .entry)))) ⌝ }
+{
+    operand::release(first, c, t, tags);
+    release_s1_s2(second, a, x, third, b, y, tags);
+}
+
+// The tag and the word of a register.
+fn put(d: usize, tag: u8, word: u64, tags: &mut [u8], words: &mut [u64])
+    ensures { λ _. ⌜ (now (tags .exit) ≡ set (now (tags .entry)) d tag) × (now (words .exit) ≡ set (now (words .entry)) d word) ⌝ }
+{
+    window::set_tag(tags, d, tag);
+    window::set_word(words, d, word);
+}
+
+// D.
+pub fn write_d(first: u16, d: usize, word: u64, quality: u8, tags: &mut [u8], words: &mut [u64])
+    ensures { λ _. ⌜ (now (tags .exit) ≡ set (now (tags .entry)) d (destinationTag (accessOf first) quality)) × (now (words .exit) ≡ set (now (words .entry)) d word) ⌝ }
+{
+    put(
+        d,
+        operand::destination_tag(operand::access(first), quality),
+        word,
+        tags,
+        words,
+    );
+}
+
+// S1 is let go; the tag that D is left with.
+fn release_d_s1(first: u16, second: u16, a: usize, x: u8, quality: u8, tags: &mut [u8]) -> u8
+    ensures { λ r. ⌜ (r ≡ destinationTag (accessOf first) quality) × (now (tags .exit) ≡ released second a x (now (tags .entry))) ⌝ }
+{
+    if plain_two(first, second) {
+        return quality % 8;
+    }
+    operand::release(second, a, x, tags);
+    operand::destination_tag(operand::access(first), quality)
 }
 
 // D, S1.
-pub fn executed_d_s1(
+pub fn write_d_s1(
     first: u16,
-    d: Operand,
+    d: usize,
     second: u16,
-    a: Operand,
-    x: Cell,
-    out: Outcome,
-    datum: Write,
-    fate: Fate,
-) -> Decision
-    ensures { λ r. ⌜ r ≡ Executes (record { first = Nothing; second = sourceLeft Source (accessOf second) a x; third = Nothing; destination = destinationLeft (accessOf first) d (out .word) (out .quality); datum = datum; fate = fate }) ⌝ }
+    a: usize,
+    x: u8,
+    word: u64,
+    quality: u8,
+    tags: &mut [u8],
+    words: &mut [u64],
+)
+    ensures { λ _. ⌜ (now (tags .exit) ≡ set (released second a x (now (tags .entry))) d (destinationTag (accessOf first) quality)) × (now (words .exit) ≡ set (now (words .entry)) d word) ⌝ }
 {
-    Decision::Executes(Effects {
-        first: Write::Nothing,
-        second: operand::source_left(Role::Source, operand::access(second), a, x),
-        third: Write::Nothing,
-        destination: operand::destination_left(operand::access(first), d, out.word, out.quality),
-        datum,
-        fate,
-    })
+    let tag = release_d_s1(first, second, a, x, quality, tags);
+    put(d, tag, word, tags, words);
+}
+
+// S1 and S2 are let go; the tag that D is left with.
+fn release_d_s1_s2(
+    first: u16,
+    second: u16,
+    a: usize,
+    x: u8,
+    third: u16,
+    b: usize,
+    y: u8,
+    quality: u8,
+    tags: &mut [u8],
+) -> u8
+    ensures { λ r. ⌜ (r ≡ destinationTag (accessOf first) quality) × (now (tags .exit) ≡ released third b y (released second a x (now (tags .entry)))) ⌝ }
+{
+    if plain_three(first, second, third) {
+        return quality % 8;
+    }
+    operand::release(second, a, x, tags);
+    operand::release(third, b, y, tags);
+    operand::destination_tag(operand::access(first), quality)
 }
 
 // D, S1, S2.
-pub fn executed_d_s1_s2(
+pub fn write_d_s1_s2(
     first: u16,
-    d: Operand,
+    d: usize,
     second: u16,
-    a: Operand,
-    x: Cell,
+    a: usize,
+    x: u8,
     third: u16,
-    b: Operand,
-    y: Cell,
-    out: Outcome,
-    datum: Write,
-    fate: Fate,
-) -> Decision
-    ensures { λ r. ⌜ r ≡ Executes (record { first = Nothing; second = sourceLeft Source (accessOf second) a x; third = sourceLeft Source (accessOf third) b y; destination = destinationLeft (accessOf first) d (out .word) (out .quality); datum = datum; fate = fate }) ⌝ }
+    b: usize,
+    y: u8,
+    word: u64,
+    quality: u8,
+    tags: &mut [u8],
+    words: &mut [u64],
+)
+    ensures { λ _. ⌜ (now (tags .exit) ≡ set (released third b y (released second a x (now (tags .entry)))) d (destinationTag (accessOf first) quality)) × (now (words .exit) ≡ set (now (words .entry)) d word) ⌝ }
 {
-    Decision::Executes(Effects {
-        first: Write::Nothing,
-        second: operand::source_left(Role::Source, operand::access(second), a, x),
-        third: operand::source_left(Role::Source, operand::access(third), b, y),
-        destination: operand::destination_left(operand::access(first), d, out.word, out.quality),
-        datum,
-        fate,
-    })
+    let tag = release_d_s1_s2(first, second, a, x, third, b, y, quality, tags);
+    put(d, tag, word, tags, words);
 }
 
-// S1, S2.
-pub fn executed_s1_s2(
-    second: u16,
-    a: Operand,
-    x: Cell,
-    third: u16,
-    b: Operand,
-    y: Cell,
-    fate: Fate,
-) -> Decision
-    ensures { λ r. ⌜ r ≡ Executes (record { first = Nothing; second = sourceLeft Source (accessOf second) a x; third = sourceLeft Source (accessOf third) b y; destination = Nothing; datum = Nothing; fate = fate }) ⌝ }
+// The process goes on with the PSW p.
+pub fn continues(psws: &mut [u64], pt: usize, p: u64) -> Course
+    ensures { λ r. ⌜ (r ≡ Continues) × (now (psws .exit) ≡ set (now (psws .entry)) pt p) ⌝ }
 {
-    Decision::Executes(Effects {
-        first: Write::Nothing,
-        second: operand::source_left(Role::Source, operand::access(second), a, x),
-        third: operand::source_left(Role::Source, operand::access(third), b, y),
-        destination: Write::Nothing,
-        datum: Write::Nothing,
-        fate,
-    })
+    window::set_word(psws, pt, p);
+    Course::Continues
 }
