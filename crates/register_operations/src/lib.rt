@@ -1,502 +1,375 @@
-// Operations whose result goes to a register: bit vectors, bits, integers, as decisions. Each stands twice: the public function tests the fields and looks the operands up,
-// and the function `_found` decides over the cells there. The operands of the three fields are d, a, b, their cells t, x, y.
+// Operations whose result goes to a register: bit vectors, bits, integers. Those with the same operands share a function, told apart by number. Each acts at once: the public function
+// tests the fields and looks the operands up, the function `_found` tests what stands there, then writes. The operands of the three fields are d, a, b, of S1 and S2 the tags x, y and the words s1, s2.
 ghost use mathlib.Core.Path.{_≡_};
 ghost use mathlib.Core.List.{List};
-ghost use lib.Dec.{eqb};
-ghost use Prim.Native.Nat.{ℕ};
+ghost use lib.ListN.{getD};
+ghost use Prim.Native.Nat.{ℕ, _<_, _≤_};
 ghost use Rattle.word.specs.declared.Instruction.{Instruction};
+ghost use Rattle.window.specs.declared.Row.{Row};
 ghost use Rattle.window.specs.Memories.{Memory, memory};
 ghost use Rattle.operand.specs.declared.Role.the-variants.{Unused, Destination, Source};
+ghost use Rattle.operand.specs.declared.Operand.{Operand};
 ghost use Rattle.operand.specs.declared.Operand.the-variants.{Absent};
-ghost use Rattle.operation.specs.declared.Operation.the-variants as operation;
-ghost use Rattle.operation.specs.declared.Fate.the-variants.{Continues};
-ghost use Rattle.operation.specs.Roles.{roles, vectorRoles, bitRoles, integerRoles, sourcesIn};
+ghost use Rattle.operand.specs.Spans.{Spans};
+ghost use Rattle.operation.specs.declared.Operation.{Operation};
+ghost use Rattle.operation.specs.Roles.{roles};
 ghost use Rattle.operation.specs.Environment.{Environment, environmentOf};
 ghost use Rattle.operation.specs.FoundOperands.{instruction, allFoundAt};
+ghost use Rattle.operation.specs.Perform.{quality0};
 ghost use Rattle.operation.specs.Decide.{decideFound, decideListed};
+ghost use Rattle.step.specs.Performs.{Performs};
+ghost use Rattle.checks.specs.Operands.{Destined, Sourced};
+ghost use Rattle.register_operations.specs.Numbers.{vectorNumber, bitNumber, integerNumber, numberOf, outcomeOf, operationAt};
 use operand::Lookup;
-use operand::Operand;
 use operand::Role;
-use operation::Decision;
-use operation::Effects;
-use operation::Fate;
-use operation::Trap;
-use operation::Wait;
-use window::Row;
-use window::Write;
+use operation::Course;
+use operation::Operation;
 use word::Bit;
 use word::Integer;
 use word::Outcome;
 use word::Vector;
 
-// How many sources a bit vector operation has.
-pub fn vector_sources(op: Vector) -> u8
-    ensures { λ r. ⌜ r ≡ sourcesIn (vectorRoles op) ⌝ }
+fn vector_number(op: Vector) -> u8
+    ensures { λ r. ⌜ r ≡ vectorNumber op ⌝ }
 {
     match op {
-        Vector::Mov => 1,
-        Vector::Clr => 0,
-        Vector::One => 0,
-        Vector::Not => 1,
-        Vector::Eor => 2,
-        Vector::Eqv => 2,
+        Vector::Eor => 0,
+        Vector::Eqv => 1,
         Vector::Nand => 2,
-        Vector::Nor => 2,
-        Vector::Or => 2,
+        Vector::Nor => 3,
+        Vector::Or => 4,
+        Vector::Mov => 10,
+        Vector::Not => 11,
+        Vector::Clr => 16,
+        Vector::One => 17,
     }
 }
 
-fn vector_one_found(
-    op: Vector,
+fn bit_number(op: Bit) -> u8
+    ensures { λ r. ⌜ r ≡ bitNumber op ⌝ }
+{
+    match op {
+        Bit::Bitclr => 5,
+        Bit::Bitset => 6,
+        Bit::Encode0 => 12,
+        Bit::Encode1 => 13,
+    }
+}
+
+fn integer_number(op: Integer) -> u8
+    ensures { λ r. ⌜ r ≡ integerNumber op ⌝ }
+{
+    match op {
+        Integer::Add => 7,
+        Integer::Sub => 8,
+        Integer::Mul => 9,
+        Integer::Inc => 14,
+        Integer::Dec => 15,
+    }
+}
+
+// Register operations by number: 0 to 9 have two sources, 10 to 15 one, 16 and 17 none; any other operation is 18.
+pub fn number_of(op: Operation) -> u8
+    ensures { λ r. ⌜ r ≡ numberOf op ⌝ }
+{
+    match op {
+        Operation::Nop => 18,
+        Operation::Vector(o) => vector_number(o),
+        Operation::Bit(o) => bit_number(o),
+        Operation::Integer(o) => integer_number(o),
+        Operation::Branch(_, _) => 18,
+        Operation::Call(_) => 18,
+        Operation::Create(_, _) => 18,
+        Operation::Quit(_) => 18,
+        Operation::LoadIndirect(_) => 18,
+        Operation::LoadIndexed(_) => 18,
+        Operation::StoreIndirect(_) => 18,
+        Operation::StoreIndexed(_) => 18,
+    }
+}
+
+fn plain_result(word: u64) -> Outcome
+    ensures { λ r. ⌜ r ≡ quality0 word ⌝ }
+{
+    Outcome { word, quality: 0 }
+}
+
+// CLR, ONE.
+fn result_one(k: u8) -> Outcome
+    ensures { λ r. ⌜ (16 ≤ k → k < 18 → r ≡ outcomeOf (operationAt k) 0 0) ⌝ }
+{
+    match k {
+        16 => plain_result(word::vector_of(Vector::Clr, 0, 0)),
+        _ => plain_result(word::vector_of(Vector::One, 0, 0)),
+    }
+}
+
+// MOV, NOT, ENCODE0, ENCODE1, INC, DEC.
+fn result_two(k: u8, s1: u64) -> Outcome
+    ensures { λ r. ⌜ (10 ≤ k → k < 16 → r ≡ outcomeOf (operationAt k) s1 0) ⌝ }
+{
+    match k {
+        10 => plain_result(word::vector_of(Vector::Mov, s1, 0)),
+        11 => plain_result(word::vector_of(Vector::Not, s1, 0)),
+        12 => plain_result(word::bit_of(Bit::Encode0, s1, 0)),
+        13 => plain_result(word::bit_of(Bit::Encode1, s1, 0)),
+        14 => word::integer_of(Integer::Inc, s1, 0),
+        _ => word::integer_of(Integer::Dec, s1, 0),
+    }
+}
+
+// EOR, EQV, NAND, NOR, OR, BITCLR, BITSET, ADD, SUB, MUL.
+fn result_three(k: u8, s1: u64, s2: u64) -> Outcome
+    ensures { λ r. ⌜ (k < 10 → r ≡ outcomeOf (operationAt k) s1 s2) ⌝ }
+{
+    match k {
+        0 => plain_result(word::vector_of(Vector::Eor, s1, s2)),
+        1 => plain_result(word::vector_of(Vector::Eqv, s1, s2)),
+        2 => plain_result(word::vector_of(Vector::Nand, s1, s2)),
+        3 => plain_result(word::vector_of(Vector::Nor, s1, s2)),
+        4 => plain_result(word::vector_of(Vector::Or, s1, s2)),
+        5 => plain_result(word::bit_of(Bit::Bitclr, s1, s2)),
+        6 => plain_result(word::bit_of(Bit::Bitset, s1, s2)),
+        7 => word::integer_of(Integer::Add, s1, s2),
+        8 => word::integer_of(Integer::Sub, s1, s2),
+        _ => word::integer_of(Integer::Mul, s1, s2),
+    }
+}
+
+fn one_found(
+    k: u8,
+    psws: &mut [u64],
+    pt: usize,
     psw: u64,
     first: u16,
-    d: Operand,
-    tags: &[u8],
-    words: &[u64],
-    constants: &[u64],
-) -> Decision
-    ensures { λ r. ⌜ ((v : Environment) (i : Instruction) (second third : ℕ) → v .psw ≡ psw → r ≡ decideFound (operation.Vector op) v i (allFoundAt (memory (now (tags .entry)) (now (words .entry))) (now (constants .entry)) (roles Destination Unused Unused) first second third d Absent Absent)) ⌝ }
+    d: usize,
+    register_tags: &mut [u8],
+    register_words: &mut [u64],
+) -> Course
+    ensures { λ r. ⌜ ((op : Operation) (row : Row) (v : Environment) (i : Instruction) (constants : List ℕ) (n : Memory) (fresh second third : ℕ) (od : Operand) → 16 ≤ k → k < 18 → numberOf op ≡ k → v .psw ≡ psw → psw ≡ getD (now (psws .entry)) pt 0 → Destined row od d → Performs row (decideFound op v i (allFoundAt (memory (now («register_tags» .entry)) (now («register_words» .entry))) constants (roles Destination Unused Unused) first second third od Absent Absent)) pt fresh r (now (psws .entry)) (now (psws .exit)) (memory (now («register_tags» .entry)) (now («register_words» .entry))) (memory (now («register_tags» .exit)) (now («register_words» .exit))) n n) ⌝ }
 {
-    let t = operand::cell(tags, words, constants, d);
-    let access = operand::access(first);
-    if operand::waits(Role::Destination, access, t.tag) {
-        return Decision::Waits(Wait::Access);
+    if checks::waits_d(first, d, register_tags) {
+        return Course::Waits;
     }
-    Decision::Executes(Effects {
-        first: Write::Nothing,
-        second: Write::Nothing,
-        third: Write::Nothing,
-        destination: operand::destination_left(access, d, word::vector_of(op, 0, 0), 0),
-        datum: Write::Nothing,
-        fate: Fate::Continues(word::next(psw)),
-    })
+    let out = result_one(k);
+    checks::write_d(
+        first,
+        d,
+        out.word,
+        out.quality,
+        register_tags,
+        register_words,
+    );
+    checks::continues(psws, pt, word::next(psw))
 }
 
-// CLR, ONE: D.
-pub fn vector_one(
-    op: Vector,
-    row: Row,
+// The operation of number k on D.
+pub fn one(
+    k: u8,
+    base: u32,
+    end: u32,
+    psws: &mut [u64],
+    pt: usize,
     psw: u64,
     first: u16,
     second: u16,
     third: u16,
-    tags: &[u8],
-    words: &[u64],
-    constants: &[u64],
-) -> Decision
-    ensures { λ r. ⌜ ((code flag : ℕ) (program : List ℕ) (dataWords : Memory) → r ≡ decideListed (roles Destination Unused Unused) (operation.Vector op) (environmentOf row psw flag program (now (constants .entry)) (memory (now (tags .entry)) (now (words .entry))) dataWords) (instruction code first second third)) ⌝ }
+    register_tags: &mut [u8],
+    register_words: &mut [u64],
+) -> Course
+    ensures { λ r. ⌜ ((op : Operation) (row : Row) (code flag fresh cb : ℕ) (program constants : List ℕ) (n : Memory) → 16 ≤ k → k < 18 → numberOf op ≡ k → Spans row cb base end → psw ≡ getD (now (psws .entry)) pt 0 → Performs row (decideListed (roles Destination Unused Unused) op (environmentOf row psw flag program constants (memory (now («register_tags» .entry)) (now («register_words» .entry))) n) (instruction code first second third)) pt fresh r (now (psws .entry)) (now (psws .exit)) (memory (now («register_tags» .entry)) (now («register_words» .entry))) (memory (now («register_tags» .exit)) (now («register_words» .exit))) n n) ⌝ }
 {
     if checks::illegal_d(first, second, third) {
-        return Decision::Traps(Trap::IllegalInstruction, psw);
+        return Course::IllegalInstruction;
     }
-    let Lookup::Found(d) = operand::lookup_of(Role::Destination, row, psw, first) else {
-        return Decision::Traps(Trap::ProtectionViolation, psw);
+    let Lookup::Found(d) = operand::destination(base, end, psw, first) else {
+        return Course::ProtectionViolation;
     };
-    vector_one_found(op, psw, first, d, tags, words, constants)
-}
-
-fn vector_two_found(
-    op: Vector,
-    psw: u64,
-    first: u16,
-    second: u16,
-    d: Operand,
-    a: Operand,
-    tags: &[u8],
-    words: &[u64],
-    constants: &[u64],
-) -> Decision
-    ensures { λ r. ⌜ ((v : Environment) (i : Instruction) (third : ℕ) → v .psw ≡ psw → r ≡ decideFound (operation.Vector op) v i (allFoundAt (memory (now (tags .entry)) (now (words .entry))) (now (constants .entry)) (roles Destination Source Unused) first second third d a Absent)) ⌝ }
-{
-    let t = operand::cell(tags, words, constants, d);
-    let x = operand::cell(tags, words, constants, a);
-    if checks::waits_d_s1(first, t.tag, second, x.tag) {
-        return Decision::Waits(Wait::Access);
-    }
-    if operand::masked(Role::Source, psw, x.tag) {
-        return Decision::Traps(Trap::DataException, psw);
-    }
-    let out = Outcome {
-        word: word::vector_of(op, x.word, 0),
-        quality: 0,
-    };
-    let fate = Fate::Continues(word::next(psw));
-    checks::executed_d_s1(first, d, second, a, x, out, Write::Nothing, fate)
-}
-
-// MOV, NOT: D, S1.
-pub fn vector_two(
-    op: Vector,
-    row: Row,
-    psw: u64,
-    first: u16,
-    second: u16,
-    third: u16,
-    tags: &[u8],
-    words: &[u64],
-    constants: &[u64],
-) -> Decision
-    ensures { λ r. ⌜ ((code flag : ℕ) (program : List ℕ) (dataWords : Memory) → r ≡ decideListed (roles Destination Source Unused) (operation.Vector op) (environmentOf row psw flag program (now (constants .entry)) (memory (now (tags .entry)) (now (words .entry))) dataWords) (instruction code first second third)) ⌝ }
-{
-    if checks::illegal_d_s1(first, second, third) {
-        return Decision::Traps(Trap::IllegalInstruction, psw);
-    }
-    let Lookup::Found(d) = operand::lookup_of(Role::Destination, row, psw, first) else {
-        return Decision::Traps(Trap::ProtectionViolation, psw);
-    };
-    let Lookup::Found(a) = operand::lookup_of(Role::Source, row, psw, second) else {
-        return Decision::Traps(Trap::ProtectionViolation, psw);
-    };
-    vector_two_found(op, psw, first, second, d, a, tags, words, constants)
-}
-
-fn vector_three_found(
-    op: Vector,
-    psw: u64,
-    first: u16,
-    second: u16,
-    third: u16,
-    d: Operand,
-    a: Operand,
-    b: Operand,
-    tags: &[u8],
-    words: &[u64],
-    constants: &[u64],
-) -> Decision
-    ensures { λ r. ⌜ ((v : Environment) (i : Instruction) → v .psw ≡ psw → r ≡ decideFound (operation.Vector op) v i (allFoundAt (memory (now (tags .entry)) (now (words .entry))) (now (constants .entry)) (roles Destination Source Source) first second third d a b)) ⌝ }
-{
-    let t = operand::cell(tags, words, constants, d);
-    let x = operand::cell(tags, words, constants, a);
-    let y = operand::cell(tags, words, constants, b);
-    if checks::waits_d_s1_s2(first, t.tag, second, x.tag, third, y.tag) {
-        return Decision::Waits(Wait::Access);
-    }
-    if checks::masked_s1_s2(psw, x.tag, y.tag) {
-        return Decision::Traps(Trap::DataException, psw);
-    }
-    let out = Outcome {
-        word: word::vector_of(op, x.word, y.word),
-        quality: 0,
-    };
-    let fate = Fate::Continues(word::next(psw));
-    let datum = Write::Nothing;
-    checks::executed_d_s1_s2(first, d, second, a, x, third, b, y, out, datum, fate)
-}
-
-// EOR, EQV, NAND, NOR, OR: D, S1, S2.
-pub fn vector_three(
-    op: Vector,
-    row: Row,
-    psw: u64,
-    first: u16,
-    second: u16,
-    third: u16,
-    tags: &[u8],
-    words: &[u64],
-    constants: &[u64],
-) -> Decision
-    ensures { λ r. ⌜ ((code flag : ℕ) (program : List ℕ) (dataWords : Memory) → r ≡ decideListed (roles Destination Source Source) (operation.Vector op) (environmentOf row psw flag program (now (constants .entry)) (memory (now (tags .entry)) (now (words .entry))) dataWords) (instruction code first second third)) ⌝ }
-{
-    if checks::illegal_d_s1_s2(first, second, third) {
-        return Decision::Traps(Trap::IllegalInstruction, psw);
-    }
-    let Lookup::Found(d) = operand::lookup_of(Role::Destination, row, psw, first) else {
-        return Decision::Traps(Trap::ProtectionViolation, psw);
-    };
-    let Lookup::Found(a) = operand::lookup_of(Role::Source, row, psw, second) else {
-        return Decision::Traps(Trap::ProtectionViolation, psw);
-    };
-    let Lookup::Found(b) = operand::lookup_of(Role::Source, row, psw, third) else {
-        return Decision::Traps(Trap::ProtectionViolation, psw);
-    };
-    vector_three_found(
-        op,
+    one_found(
+        k,
+        psws,
+        pt,
         psw,
         first,
-        second,
-        third,
-        d,
-        a,
-        b,
-        tags,
-        words,
-        constants,
+        operand::number(d),
+        register_tags,
+        register_words,
     )
 }
 
-// Whether an operation on bits has S1 and S2, not S1 alone.
-pub fn bit_pair(op: Bit) -> bool
-    ensures { λ r. ⌜ r ≡ eqb (sourcesIn (bitRoles op)) 2 ⌝ }
-{
-    match op {
-        Bit::Bitclr => true,
-        Bit::Bitset => true,
-        Bit::Encode0 => false,
-        Bit::Encode1 => false,
-    }
-}
-
-fn bit_two_found(
-    op: Bit,
+fn two_found(
+    k: u8,
+    psws: &mut [u64],
+    pt: usize,
     psw: u64,
     first: u16,
+    d: usize,
     second: u16,
-    d: Operand,
-    a: Operand,
-    tags: &[u8],
-    words: &[u64],
-    constants: &[u64],
-) -> Decision
-    ensures { λ r. ⌜ ((v : Environment) (i : Instruction) (third : ℕ) → v .psw ≡ psw → r ≡ decideFound (operation.Bit op) v i (allFoundAt (memory (now (tags .entry)) (now (words .entry))) (now (constants .entry)) (roles Destination Source Unused) first second third d a Absent)) ⌝ }
+    a: usize,
+    x: u8,
+    s1: u64,
+    register_tags: &mut [u8],
+    register_words: &mut [u64],
+) -> Course
+    ensures { λ r. ⌜ ((op : Operation) (row : Row) (v : Environment) (i : Instruction) (constants : List ℕ) (n : Memory) (fresh third : ℕ) (od oa : Operand) → 10 ≤ k → k < 16 → numberOf op ≡ k → v .psw ≡ psw → psw ≡ getD (now (psws .entry)) pt 0 → Destined row od d → Sourced row (now («register_tags» .entry)) (now («register_words» .entry)) constants second oa a x s1 → Performs row (decideFound op v i (allFoundAt (memory (now («register_tags» .entry)) (now («register_words» .entry))) constants (roles Destination Source Unused) first second third od oa Absent)) pt fresh r (now (psws .entry)) (now (psws .exit)) (memory (now («register_tags» .entry)) (now («register_words» .entry))) (memory (now («register_tags» .exit)) (now («register_words» .exit))) n n) ⌝ }
 {
-    let t = operand::cell(tags, words, constants, d);
-    let x = operand::cell(tags, words, constants, a);
-    if checks::waits_d_s1(first, t.tag, second, x.tag) {
-        return Decision::Waits(Wait::Access);
+    if checks::waits_d_s1(first, d, second, x, register_tags) {
+        return Course::Waits;
     }
-    if operand::masked(Role::Source, psw, x.tag) {
-        return Decision::Traps(Trap::DataException, psw);
+    if operand::masked(Role::Source, psw, x) {
+        return Course::DataException;
     }
-    let out = Outcome {
-        word: word::bit_of(op, x.word, 0),
-        quality: 0,
-    };
-    let fate = Fate::Continues(word::next(psw));
-    checks::executed_d_s1(first, d, second, a, x, out, Write::Nothing, fate)
+    let out = result_two(k, s1);
+    checks::write_d_s1(
+        first,
+        d,
+        second,
+        a,
+        x,
+        out.word,
+        out.quality,
+        register_tags,
+        register_words,
+    );
+    checks::continues(psws, pt, word::next(psw))
 }
 
-// ENCODE0, ENCODE1: D, S1.
-pub fn bit_two(
-    op: Bit,
-    row: Row,
+// The operation of number k on D, S1.
+pub fn two(
+    k: u8,
+    cb: u32,
+    base: u32,
+    end: u32,
+    psws: &mut [u64],
+    pt: usize,
     psw: u64,
     first: u16,
     second: u16,
     third: u16,
-    tags: &[u8],
-    words: &[u64],
     constants: &[u64],
-) -> Decision
-    ensures { λ r. ⌜ ((code flag : ℕ) (program : List ℕ) (dataWords : Memory) → r ≡ decideListed (roles Destination Source Unused) (operation.Bit op) (environmentOf row psw flag program (now (constants .entry)) (memory (now (tags .entry)) (now (words .entry))) dataWords) (instruction code first second third)) ⌝ }
+    register_tags: &mut [u8],
+    register_words: &mut [u64],
+) -> Course
+    ensures { λ r. ⌜ ((op : Operation) (row : Row) (code flag fresh : ℕ) (program : List ℕ) (n : Memory) → 10 ≤ k → k < 16 → numberOf op ≡ k → Spans row cb base end → psw ≡ getD (now (psws .entry)) pt 0 → Performs row (decideListed (roles Destination Source Unused) op (environmentOf row psw flag program (now (constants .entry)) (memory (now («register_tags» .entry)) (now («register_words» .entry))) n) (instruction code first second third)) pt fresh r (now (psws .entry)) (now (psws .exit)) (memory (now («register_tags» .entry)) (now («register_words» .entry))) (memory (now («register_tags» .exit)) (now («register_words» .exit))) n n) ⌝ }
 {
     if checks::illegal_d_s1(first, second, third) {
-        return Decision::Traps(Trap::IllegalInstruction, psw);
+        return Course::IllegalInstruction;
     }
-    let Lookup::Found(d) = operand::lookup_of(Role::Destination, row, psw, first) else {
-        return Decision::Traps(Trap::ProtectionViolation, psw);
+    let Lookup::Found(d) = operand::destination(base, end, psw, first) else {
+        return Course::ProtectionViolation;
     };
-    let Lookup::Found(a) = operand::lookup_of(Role::Source, row, psw, second) else {
-        return Decision::Traps(Trap::ProtectionViolation, psw);
+    let Lookup::Found(a) = operand::source(cb, base, end, psw, second) else {
+        return Course::ProtectionViolation;
     };
-    bit_two_found(op, psw, first, second, d, a, tags, words, constants)
-}
-
-fn bit_three_found(
-    op: Bit,
-    psw: u64,
-    first: u16,
-    second: u16,
-    third: u16,
-    d: Operand,
-    a: Operand,
-    b: Operand,
-    tags: &[u8],
-    words: &[u64],
-    constants: &[u64],
-) -> Decision
-    ensures { λ r. ⌜ ((v : Environment) (i : Instruction) → v .psw ≡ psw → r ≡ decideFound (operation.Bit op) v i (allFoundAt (memory (now (tags .entry)) (now (words .entry))) (now (constants .entry)) (roles Destination Source Source) first second third d a b)) ⌝ }
-{
-    let t = operand::cell(tags, words, constants, d);
-    let x = operand::cell(tags, words, constants, a);
-    let y = operand::cell(tags, words, constants, b);
-    if checks::waits_d_s1_s2(first, t.tag, second, x.tag, third, y.tag) {
-        return Decision::Waits(Wait::Access);
-    }
-    if checks::masked_s1_s2(psw, x.tag, y.tag) {
-        return Decision::Traps(Trap::DataException, psw);
-    }
-    let out = Outcome {
-        word: word::bit_of(op, x.word, y.word),
-        quality: 0,
-    };
-    let fate = Fate::Continues(word::next(psw));
-    let datum = Write::Nothing;
-    checks::executed_d_s1_s2(first, d, second, a, x, third, b, y, out, datum, fate)
-}
-
-// BITCLR, BITSET: D, S1, S2.
-pub fn bit_three(
-    op: Bit,
-    row: Row,
-    psw: u64,
-    first: u16,
-    second: u16,
-    third: u16,
-    tags: &[u8],
-    words: &[u64],
-    constants: &[u64],
-) -> Decision
-    ensures { λ r. ⌜ ((code flag : ℕ) (program : List ℕ) (dataWords : Memory) → r ≡ decideListed (roles Destination Source Source) (operation.Bit op) (environmentOf row psw flag program (now (constants .entry)) (memory (now (tags .entry)) (now (words .entry))) dataWords) (instruction code first second third)) ⌝ }
-{
-    if checks::illegal_d_s1_s2(first, second, third) {
-        return Decision::Traps(Trap::IllegalInstruction, psw);
-    }
-    let Lookup::Found(d) = operand::lookup_of(Role::Destination, row, psw, first) else {
-        return Decision::Traps(Trap::ProtectionViolation, psw);
-    };
-    let Lookup::Found(a) = operand::lookup_of(Role::Source, row, psw, second) else {
-        return Decision::Traps(Trap::ProtectionViolation, psw);
-    };
-    let Lookup::Found(b) = operand::lookup_of(Role::Source, row, psw, third) else {
-        return Decision::Traps(Trap::ProtectionViolation, psw);
-    };
-    bit_three_found(
-        op,
+    let x = operand::cell(register_tags, register_words, constants, a);
+    two_found(
+        k,
+        psws,
+        pt,
         psw,
         first,
+        operand::number(d),
         second,
-        third,
-        d,
-        a,
-        b,
-        tags,
-        words,
-        constants,
+        operand::number(a),
+        x.tag,
+        x.word,
+        register_tags,
+        register_words,
     )
 }
 
-// Whether an integer operation has S1 and S2, not S1 alone.
-pub fn integer_pair(op: Integer) -> bool
-    ensures { λ r. ⌜ r ≡ eqb (sourcesIn (integerRoles op)) 2 ⌝ }
-{
-    match op {
-        Integer::Add => true,
-        Integer::Sub => true,
-        Integer::Inc => false,
-        Integer::Dec => false,
-        Integer::Mul => true,
-    }
-}
-
-fn integer_two_found(
-    op: Integer,
+fn three_found(
+    k: u8,
+    psws: &mut [u64],
+    pt: usize,
     psw: u64,
     first: u16,
+    d: usize,
     second: u16,
-    d: Operand,
-    a: Operand,
-    tags: &[u8],
-    words: &[u64],
-    constants: &[u64],
-) -> Decision
-    ensures { λ r. ⌜ ((v : Environment) (i : Instruction) (third : ℕ) → v .psw ≡ psw → r ≡ decideFound (operation.Integer op) v i (allFoundAt (memory (now (tags .entry)) (now (words .entry))) (now (constants .entry)) (roles Destination Source Unused) first second third d a Absent)) ⌝ }
+    a: usize,
+    x: u8,
+    s1: u64,
+    third: u16,
+    b: usize,
+    y: u8,
+    s2: u64,
+    register_tags: &mut [u8],
+    register_words: &mut [u64],
+) -> Course
+    ensures { λ r. ⌜ ((op : Operation) (row : Row) (v : Environment) (i : Instruction) (constants : List ℕ) (n : Memory) (fresh : ℕ) (od oa ob : Operand) → k < 10 → numberOf op ≡ k → v .psw ≡ psw → psw ≡ getD (now (psws .entry)) pt 0 → Destined row od d → Sourced row (now («register_tags» .entry)) (now («register_words» .entry)) constants second oa a x s1 → Sourced row (now («register_tags» .entry)) (now («register_words» .entry)) constants third ob b y s2 → Performs row (decideFound op v i (allFoundAt (memory (now («register_tags» .entry)) (now («register_words» .entry))) constants (roles Destination Source Source) first second third od oa ob)) pt fresh r (now (psws .entry)) (now (psws .exit)) (memory (now («register_tags» .entry)) (now («register_words» .entry))) (memory (now («register_tags» .exit)) (now («register_words» .exit))) n n) ⌝ }
 {
-    let t = operand::cell(tags, words, constants, d);
-    let x = operand::cell(tags, words, constants, a);
-    if checks::waits_d_s1(first, t.tag, second, x.tag) {
-        return Decision::Waits(Wait::Access);
+    if checks::waits_d_s1_s2(first, d, second, x, third, y, register_tags) {
+        return Course::Waits;
     }
-    if operand::masked(Role::Source, psw, x.tag) {
-        return Decision::Traps(Trap::DataException, psw);
+    if checks::masked_s1_s2(psw, x, y) {
+        return Course::DataException;
     }
-    let out = word::integer_of(op, x.word, 0);
-    let fate = Fate::Continues(word::next(psw));
-    checks::executed_d_s1(first, d, second, a, x, out, Write::Nothing, fate)
+    let out = result_three(k, s1, s2);
+    checks::write_d_s1_s2(
+        first,
+        d,
+        second,
+        a,
+        x,
+        third,
+        b,
+        y,
+        out.word,
+        out.quality,
+        register_tags,
+        register_words,
+    );
+    checks::continues(psws, pt, word::next(psw))
 }
 
-// INC, DEC: D, S1.
-pub fn integer_two(
-    op: Integer,
-    row: Row,
+// The operation of number k on D, S1, S2. The registers of the task are those from base on and below end; cb is its constant base doubled.
+pub fn three(
+    k: u8,
+    cb: u32,
+    base: u32,
+    end: u32,
+    psws: &mut [u64],
+    pt: usize,
     psw: u64,
     first: u16,
     second: u16,
     third: u16,
-    tags: &[u8],
-    words: &[u64],
     constants: &[u64],
-) -> Decision
-    ensures { λ r. ⌜ ((code flag : ℕ) (program : List ℕ) (dataWords : Memory) → r ≡ decideListed (roles Destination Source Unused) (operation.Integer op) (environmentOf row psw flag program (now (constants .entry)) (memory (now (tags .entry)) (now (words .entry))) dataWords) (instruction code first second third)) ⌝ }
-{
-    if checks::illegal_d_s1(first, second, third) {
-        return Decision::Traps(Trap::IllegalInstruction, psw);
-    }
-    let Lookup::Found(d) = operand::lookup_of(Role::Destination, row, psw, first) else {
-        return Decision::Traps(Trap::ProtectionViolation, psw);
-    };
-    let Lookup::Found(a) = operand::lookup_of(Role::Source, row, psw, second) else {
-        return Decision::Traps(Trap::ProtectionViolation, psw);
-    };
-    integer_two_found(op, psw, first, second, d, a, tags, words, constants)
-}
-
-fn integer_three_found(
-    op: Integer,
-    psw: u64,
-    first: u16,
-    second: u16,
-    third: u16,
-    d: Operand,
-    a: Operand,
-    b: Operand,
-    tags: &[u8],
-    words: &[u64],
-    constants: &[u64],
-) -> Decision
-    ensures { λ r. ⌜ ((v : Environment) (i : Instruction) → v .psw ≡ psw → r ≡ decideFound (operation.Integer op) v i (allFoundAt (memory (now (tags .entry)) (now (words .entry))) (now (constants .entry)) (roles Destination Source Source) first second third d a b)) ⌝ }
-{
-    let t = operand::cell(tags, words, constants, d);
-    let x = operand::cell(tags, words, constants, a);
-    let y = operand::cell(tags, words, constants, b);
-    if checks::waits_d_s1_s2(first, t.tag, second, x.tag, third, y.tag) {
-        return Decision::Waits(Wait::Access);
-    }
-    if checks::masked_s1_s2(psw, x.tag, y.tag) {
-        return Decision::Traps(Trap::DataException, psw);
-    }
-    let out = word::integer_of(op, x.word, y.word);
-    let fate = Fate::Continues(word::next(psw));
-    let datum = Write::Nothing;
-    checks::executed_d_s1_s2(first, d, second, a, x, third, b, y, out, datum, fate)
-}
-
-// ADD, SUB, MUL: D, S1, S2.
-pub fn integer_three(
-    op: Integer,
-    row: Row,
-    psw: u64,
-    first: u16,
-    second: u16,
-    third: u16,
-    tags: &[u8],
-    words: &[u64],
-    constants: &[u64],
-) -> Decision
-    ensures { λ r. ⌜ ((code flag : ℕ) (program : List ℕ) (dataWords : Memory) → r ≡ decideListed (roles Destination Source Source) (operation.Integer op) (environmentOf row psw flag program (now (constants .entry)) (memory (now (tags .entry)) (now (words .entry))) dataWords) (instruction code first second third)) ⌝ }
+    register_tags: &mut [u8],
+    register_words: &mut [u64],
+) -> Course
+    ensures { λ r. ⌜ ((op : Operation) (row : Row) (code flag fresh : ℕ) (program : List ℕ) (n : Memory) → k < 10 → numberOf op ≡ k → Spans row cb base end → psw ≡ getD (now (psws .entry)) pt 0 → Performs row (decideListed (roles Destination Source Source) op (environmentOf row psw flag program (now (constants .entry)) (memory (now («register_tags» .entry)) (now («register_words» .entry))) n) (instruction code first second third)) pt fresh r (now (psws .entry)) (now (psws .exit)) (memory (now («register_tags» .entry)) (now («register_words» .entry))) (memory (now («register_tags» .exit)) (now («register_words» .exit))) n n) ⌝ }
 {
     if checks::illegal_d_s1_s2(first, second, third) {
-        return Decision::Traps(Trap::IllegalInstruction, psw);
+        return Course::IllegalInstruction;
     }
-    let Lookup::Found(d) = operand::lookup_of(Role::Destination, row, psw, first) else {
-        return Decision::Traps(Trap::ProtectionViolation, psw);
+    let Lookup::Found(d) = operand::destination(base, end, psw, first) else {
+        return Course::ProtectionViolation;
     };
-    let Lookup::Found(a) = operand::lookup_of(Role::Source, row, psw, second) else {
-        return Decision::Traps(Trap::ProtectionViolation, psw);
+    let Lookup::Found(a) = operand::source(cb, base, end, psw, second) else {
+        return Course::ProtectionViolation;
     };
-    let Lookup::Found(b) = operand::lookup_of(Role::Source, row, psw, third) else {
-        return Decision::Traps(Trap::ProtectionViolation, psw);
+    let x = operand::cell(register_tags, register_words, constants, a);
+    let Lookup::Found(b) = operand::source(cb, base, end, psw, third) else {
+        return Course::ProtectionViolation;
     };
-    integer_three_found(
-        op,
+    let y = operand::cell(register_tags, register_words, constants, b);
+    three_found(
+        k,
+        psws,
+        pt,
         psw,
         first,
+        operand::number(d),
         second,
+        operand::number(a),
+        x.tag,
+        x.word,
         third,
-        d,
-        a,
-        b,
-        tags,
-        words,
-        constants,
+        operand::number(b),
+        y.tag,
+        y.word,
+        register_tags,
+        register_words,
     )
 }

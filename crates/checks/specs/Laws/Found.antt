@@ -4,6 +4,7 @@ use mathlib.Core.Path.{_≡_, refl, sym, ap, _∙_}
 use mathlib.Core.Bool.{Bool, true, false, _||_}
 use mathlib.Core.List.{List, [], _∷_}
 use lib.ListN.{getD, set}
+use Rattle.word.specs.Fields.{nextOf}
 use Rattle.word.specs.declared.Instruction.{Instruction}
 use Rattle.word.specs.declared.Outcome.{Outcome}
 use Rattle.window.specs.declared.Row.{Row}
@@ -23,6 +24,7 @@ use Rattle.operation.specs.declared.FoundOperands.{FoundOperands}
 use Rattle.operation.specs.declared.Trap.the-variants as trap
 use Rattle.operation.specs.declared.Wait.the-variants.{Access}
 use Rattle.operation.specs.declared.Fate.{Fate}
+use Rattle.operation.specs.declared.Fate.the-variants as fate
 use Rattle.operation.specs.declared.Course.{Course}
 use Rattle.operation.specs.declared.Course.the-variants as go
 use Rattle.operation.specs.declared.Decision.{Decision}
@@ -30,7 +32,7 @@ use Rattle.operation.specs.declared.Decision.the-variants.{Waits, Traps}
 use Rattle.operation.specs.Roles.{roles}
 use Rattle.operation.specs.Environment.{Environment}
 use Rattle.operation.specs.FoundOperands.{foundWith, foundAt, allFoundAt}
-use Rattle.operation.specs.Perform.{perform, leftOf, executed, resultIn}
+use Rattle.operation.specs.Perform.{perform, performResult, leftOf, executed, resultIn}
 use Rattle.operation.specs.Decide.{operandWaits, operandsWait, operandMasked, operandsMasked, decideFound}
 use Rattle.step.specs.Performs.{trapCourse, fateCourse, Performs}
 use Rattle.step.specs.Parts.{fatePsws}
@@ -134,3 +136,15 @@ module _ (row : Row) (tags words constants : List ℕ) (first second third : ℕ
       unfolding decideFound
       found-performs e d k r psws′ m′ n′ p =
           performs-along row d _ pt fresh r psws psws′ (memory tags words) m′ n n′ (rw (found-here, here-waits, free, here-masked, e) k) p
+
+      -- an operation that writes a result and ends with PC + 1
+      pub found-result : masked ≡ false → (out : Outcome) → performResult v (operandsAt r1 r2 r3 first second third o1 o2 o3 x1 w1 x2 w2 x3 w3) out ≡ perform op v i (operandsAt r1 r2 r3 first second third o1 o2 o3 x1 w1 x2 w2 x3 w3) → (d : ℕ) → Destined row o1 d
+          → (r : Course) (next : ℕ) (psws′ tags′ words′ : List ℕ) → r ≡ go.Continues → next ≡ nextOf psw → psws′ ≡ set psws pt next
+          → tags′ ≡ set (leftIn r3 third a3 x3 (leftIn r2 second a2 x2 (leftIn r1 first a1 x1 tags))) d (destinationTag (accessOf first) (out .quality))
+          → words′ ≡ set words d (out .word)
+          → Performs row (decideFound op v i (allFoundAt (memory tags words) constants (roles r1 r2 r3) first second third o1 o2 o3))
+          pt fresh r psws psws′ (memory tags words) (memory tags′ words′) n n
+      unfolding performResult fateCourse fatePsws written storedAll storedOne
+      found-result e out k d z r next psws′ tags′ words′ c g f t w =
+          found-performs e _ k r psws′ (memory tags′ words′) n
+          (executes-result d z out Nothing (fate.Continues (nextOf (v .psw))) r psws′ tags′ words′ n c (f ∙ ap (set psws pt) (g ∙ ap nextOf (sym of))) t w refl)

@@ -44,9 +44,9 @@ pub or-none : (a : Bool) → a ≡ a || false
 or-none true = refl
 or-none false = refl
 
-pub or-one : (a b : Bool) → a || b ≡ a || (b || false)
-or-one true b = refl
-or-one false b = or-none b
+pub or-one : (f t g x : ℕ) (w : Bool) → w ≡ waitsOf Destination (accessOf f) t || waitsOf Source (accessOf g) x
+    → w ≡ waitsOf Destination (accessOf f) t || (waitsOf Source (accessOf g) x || false)
+or-one f t g x w e = rw (← or-none (waitsOf Source (accessOf g) x)) e
 
 -- ---- no access code
 abbrev plainly : ℕ → Bool
