@@ -17,7 +17,7 @@ illegal-d-requires c κs = search needs
 
 returns : tie.Need-returns
 unfolding illegalFields
-returns c = λ op row code flag fresh cb program constants n g h k s own. listed-illegal _ _ _ _ _ _ _ _ _ _ _ _ own (number-illegal op _ k (few _ 18 h (omega arith)) _ _ _ (told (c .before .illegal-d .ensures) (c .if1 .taken)))
+returns c = λ op row code flag fresh cb program constants n g h k s own. listed-illegal _ _ _ _ _ _ _ _ _ _ _ _ _ own (number-illegal op _ k (few _ 18 h (omega arith)) _ _ _ (told (c .before .illegal-d .ensures) (c .if1 .taken)))
 
 destination-requires : tie.Need-destination-requires
 destination-requires c κs = search needs
@@ -30,7 +30,7 @@ enum-told c = search needs
 
 returns-2 : tie.Need-returns-2
 unfolding illegalFields
-returns-2 c = λ op row code flag fresh cb program constants n g h k s own. first-violated _ _ _ _ _ _ _ _ _ _ _ _ (number-illegal op _ k (few _ 18 h (omega arith)) _ _ _ (told (c .before .before .before .before .illegal-d .ensures) (c .before .before .before .if1 .left))) own (destination-told row _ _ _ s _ _ _ _ (c .before .before .destination .ensures) (c .enum-told .given .1))
+returns-2 c = λ op row code flag fresh cb program constants n g h k s own. first-violated _ _ _ _ _ _ _ _ _ _ _ _ _ (number-illegal op _ k (few _ 18 h (omega arith)) _ _ _ (told (c .before .before .before .before .illegal-d .ensures) (c .before .before .before .if1 .left))) own (destination-told row _ _ _ s _ _ _ _ (c .before .before .destination .ensures) (c .enum-told .given .1))
 
 number-requires : tie.Need-number-requires
 number-requires c κs = search needs
@@ -49,7 +49,7 @@ same-length-3 c = search needs
 
 returns-3 : tie.Need-returns-3
 unfolding illegalFields environmentOf lookupOf
-returns-3 c = λ op row code flag fresh cb program constants n g h k s own. listed-found _ _ _ _ _ _ _ _ _ _ _ _ (number-illegal op _ k (few _ 18 h (omega arith)) _ _ _ (told (c .before .before .before .before .before .before .before .before .before .before .before .before .before .before .before .before .illegal-d .ensures) (c .before .before .before .before .before .before .before .before .before .before .before .before .before .before .before .if1 .left))) _ _ _ (destination-told row _ _ _ s _ _ _ _ (c .before .before .before .before .before .before .before .before .before .before .before .before .before .before .destination .ensures) (@d .given .1)) refl refl _ _ _ _ (c .before .before .before .before .before .before .one-found .ensures op row _ _ _ n fresh _ _ _ g h k refl own (destined row _ _ _ _ (destination-told row _ _ _ s _ _ _ _ (c .before .before .before .before .before .before .before .before .before .before .before .before .before .before .destination .ensures) (@d .given .1)) (c .before .before .before .before .before .before .before .before .before .number .ensures)))
+returns-3 c = λ op row code flag fresh cb program constants n g h k s own. listed-found _ _ _ _ _ _ _ _ _ _ _ _ _ (number-illegal op _ k (few _ 18 h (omega arith)) _ _ _ (told (c .before .before .before .before .before .before .before .before .before .before .before .before .before .before .before .before .illegal-d .ensures) (c .before .before .before .before .before .before .before .before .before .before .before .before .before .before .before .if1 .left))) _ _ _ (destination-told row _ _ _ s _ _ _ _ (c .before .before .before .before .before .before .before .before .before .before .before .before .before .before .destination .ensures) (c .before .before .before .before .before .before .before .before .before .before .before .before .d .given .1)) refl refl _ _ _ _ (c .before .before .before .before .before .before .one-found .ensures op row _ _ _ n fresh _ _ _ g h k refl own (destined row _ _ _ _ (destination-told row _ _ _ s _ _ _ _ (c .before .before .before .before .before .before .before .before .before .before .before .before .before .before .destination .ensures) (c .before .before .before .before .before .before .before .before .before .before .before .before .d .given .1)) (c .before .before .before .before .before .before .before .before .before .number .ensures)))
 
 pub one-spec : {M : Type 1} → statement M
 one-spec =
