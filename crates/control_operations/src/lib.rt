@@ -1,51 +1,42 @@
-// Operations on the process itself: NOP, B, CALL, CREATE, QT and SVC, as decisions. Each stands twice: the public function tests the fields and looks the operands up,
-// and the function `_found` decides over the cells there. The operands of the three fields are d, a, b, their cells t, x, y.
+// Operations on the process itself: NOP, B, CALL, CREATE, QT and SVC. Each acts at once: the public function tests the fields and looks the operands up,
+// the function `_found` tests what stands there, then writes. The operands of the three fields are d, a, b, of S1 and S2 the tags x, y and the words s1, s2.
 ghost use mathlib.Core.Path.{_≡_};
 ghost use mathlib.Core.Bool.{cond};
 ghost use mathlib.Core.List.{List};
 ghost use lib.Dec.{eqb};
+ghost use lib.ListN.{getD, set};
 ghost use Prim.Native.Nat.{ℕ, _+_, _*_, _%_, _^_};
 ghost use Rattle.word.specs.Fields.{nextOf};
 ghost use Rattle.word.specs.Tests.{holdsOf};
 ghost use Rattle.word.specs.declared.Instruction.{Instruction};
+ghost use Rattle.window.specs.declared.Row.{Row};
 ghost use Rattle.window.specs.Memories.{Memory, memory};
 ghost use Rattle.operand.specs.declared.Role.the-variants.{Unused, Free, Destination, Source};
+ghost use Rattle.operand.specs.declared.Operand.{Operand};
 ghost use Rattle.operand.specs.declared.Operand.the-variants.{Absent};
+ghost use Rattle.operand.specs.Spans.{Spans};
 ghost use Rattle.operation.specs.declared.Code.the-variants.{Svc};
 ghost use Rattle.operation.specs.declared.Operation.the-variants as operation;
-ghost use Rattle.operation.specs.declared.Fate.the-variants.{Continues, Quits};
+ghost use Rattle.operation.specs.declared.Course.the-variants.{Creates};
 ghost use Rattle.operation.specs.Roles.{roles};
 ghost use Rattle.operation.specs.Environment.{Environment, environmentOf};
 ghost use Rattle.operation.specs.FoundOperands.{instruction, allFoundAt};
-ghost use Rattle.operation.specs.Perform.{branched, called, created, createWaits, createFate};
+ghost use Rattle.operation.specs.Perform.{branched, called, created, createWaits};
 ghost use Rattle.operation.specs.Decide.{decideFound, decideListed, decideCode};
+ghost use Rattle.step.specs.Performs.{Performs};
+ghost use Rattle.checks.specs.Operands.{Destined, Sourced};
 use operand::Lookup;
-use operand::Operand;
 use operand::Role;
-use operation::Decision;
-use operation::Effects;
-use operation::Fate;
-use operation::Trap;
-use operation::Wait;
-use window::Row;
-use window::Write;
-use word::Outcome;
+use operation::Course;
 
 // NOP.
-pub fn nop(psw: u64, first: u16, second: u16, third: u16) -> Decision
-    ensures { λ r. ⌜ ((v : Environment) (code : ℕ) → v .psw ≡ psw → r ≡ decideListed (roles Unused Unused Unused) operation.Nop v (instruction code first second third)) ⌝ }
+pub fn nop(psws: &mut [u64], pt: usize, psw: u64, first: u16, second: u16, third: u16) -> Course
+    ensures { λ r. ⌜ ((row : Row) (code flag fresh : ℕ) (program constants : List ℕ) (m n : Memory) → psw ≡ getD (now (psws .entry)) pt 0 → Performs row (decideListed (roles Unused Unused Unused) operation.Nop (environmentOf row psw flag program constants m n) (instruction code first second third)) pt fresh r (now (psws .entry)) (now (psws .exit)) m m n n) ⌝ }
 {
     if checks::illegal_none(first, second, third) {
-        return Decision::Traps(Trap::IllegalInstruction, psw);
+        return Course::IllegalInstruction;
     }
-    Decision::Executes(Effects {
-        first: Write::Nothing,
-        second: Write::Nothing,
-        third: Write::Nothing,
-        destination: Write::Nothing,
-        datum: Write::Nothing,
-        fate: Fate::Continues(word::next(psw)),
-    })
+    checks::continues(psws, pt, word::next(psw))
 }
 
 // B: PC = P, then each field gets S1's added.
@@ -61,78 +52,90 @@ fn branched_psw(psw: u64, p: u32, s1: u64) -> u64
 }
 
 // On a true test the branch, else PC + 1.
-fn branch_fate(c: u16, p: u16, first: u16, psw: u64, s1: u64, w: u64, t: u8) -> Fate
-    ensures { λ r. ⌜ r ≡ Continues (cond (holdsOf c w t psw) (branched psw (p * 2 ^ 16 + first) s1) (nextOf psw)) ⌝ }
+fn branch_psw(c: u16, p: u16, first: u16, psw: u64, s1: u64, s2: u64, y: u8) -> u64
+    ensures { λ r. ⌜ r ≡ cond (holdsOf c s2 y psw) (branched psw (p * 2 ^ 16 + first) s1) (nextOf psw) ⌝ }
 {
-    if word::holds(c, w, t, psw) {
-        return Fate::Continues(branched_psw(psw, (p as u32) * 65536 + first as u32, s1));
+    if word::holds(c, s2, y, psw) {
+        return branched_psw(psw, (p as u32) * 65536 + first as u32, s1);
     }
-    Fate::Continues(word::next(psw))
+    word::next(psw)
 }
 
 fn branch_found(
     c: u16,
     p: u16,
+    psws: &mut [u64],
+    pt: usize,
     psw: u64,
     first: u16,
     second: u16,
+    a: usize,
+    x: u8,
+    s1: u64,
     third: u16,
-    a: Operand,
-    b: Operand,
-    tags: &[u8],
-    words: &[u64],
-    constants: &[u64],
-) -> Decision
-    ensures { λ r. ⌜ ((v : Environment) (i : Instruction) → v .psw ≡ psw → i .first ≡ first → r ≡ decideFound (operation.Branch c p) v i (allFoundAt (memory (now (tags .entry)) (now (words .entry))) (now (constants .entry)) (roles Free Source Source) first second third Absent a b)) ⌝ }
+    b: usize,
+    y: u8,
+    s2: u64,
+    register_tags: &mut [u8],
+) -> Course
+    ensures { λ r. ⌜ ((row : Row) (v : Environment) (i : Instruction) (words constants : List ℕ) (n : Memory) (fresh : ℕ) (oa ob : Operand) → v .psw ≡ psw → i .first ≡ first → psw ≡ getD (now (psws .entry)) pt 0 → Sourced row (now («register_tags» .entry)) words constants second oa a x s1 → Sourced row (now («register_tags» .entry)) words constants third ob b y s2 → Performs row (decideFound (operation.Branch c p) v i (allFoundAt (memory (now («register_tags» .entry)) words) constants (roles Free Source Source) first second third Absent oa ob)) pt fresh r (now (psws .entry)) (now (psws .exit)) (memory (now («register_tags» .entry)) words) (memory (now («register_tags» .exit)) words) n n) ⌝ }
 {
-    let x = operand::cell(tags, words, constants, a);
-    let y = operand::cell(tags, words, constants, b);
-    if checks::waits_s1_s2(second, x.tag, third, y.tag) {
-        return Decision::Waits(Wait::Access);
+    if checks::waits_s1_s2(second, x, third, y) {
+        return Course::Waits;
     }
-    if checks::masked_s1_s2(psw, x.tag, y.tag) {
-        return Decision::Traps(Trap::DataException, psw);
+    if checks::masked_s1_s2(psw, x, y) {
+        return Course::DataException;
     }
-    let fate = branch_fate(c, p, first, psw, x.word, y.word, y.tag);
-    checks::executed_s1_s2(second, a, x, third, b, y, fate)
+    checks::release_s1_s2(second, a, x, third, b, y, register_tags);
+    checks::continues(psws, pt, branch_psw(c, p, first, psw, s1, s2, y))
 }
 
-// B: the right 16 bits of P, S1, S2.
+// B: the right 16 bits of P, S1, S2. The registers of the task are those from base on and below end; cb is its constant base doubled.
 pub fn branch(
     c: u16,
     p: u16,
-    row: Row,
+    cb: u32,
+    base: u32,
+    end: u32,
+    psws: &mut [u64],
+    pt: usize,
     psw: u64,
     first: u16,
     second: u16,
     third: u16,
-    tags: &[u8],
-    words: &[u64],
     constants: &[u64],
-) -> Decision
-    ensures { λ r. ⌜ ((code flag : ℕ) (program : List ℕ) (dataWords : Memory) → r ≡ decideListed (roles Free Source Source) (operation.Branch c p) (environmentOf row psw flag program (now (constants .entry)) (memory (now (tags .entry)) (now (words .entry))) dataWords) (instruction code first second third)) ⌝ }
+    register_tags: &mut [u8],
+    register_words: &[u64],
+) -> Course
+    ensures { λ r. ⌜ ((row : Row) (code flag fresh : ℕ) (program : List ℕ) (n : Memory) → Spans row cb base end → psw ≡ getD (now (psws .entry)) pt 0 → Performs row (decideListed (roles Free Source Source) (operation.Branch c p) (environmentOf row psw flag program (now (constants .entry)) (memory (now («register_tags» .entry)) (now («register_words» .entry))) n) (instruction code first second third)) pt fresh r (now (psws .entry)) (now (psws .exit)) (memory (now («register_tags» .entry)) (now («register_words» .entry))) (memory (now («register_tags» .exit)) (now («register_words» .entry))) n n) ⌝ }
 {
     if checks::illegal_s1_s2(second, third) {
-        return Decision::Traps(Trap::IllegalInstruction, psw);
+        return Course::IllegalInstruction;
     }
-    let Lookup::Found(a) = operand::lookup_of(Role::Source, row, psw, second) else {
-        return Decision::Traps(Trap::ProtectionViolation, psw);
+    let Lookup::Found(a) = operand::source(cb, base, end, psw, second) else {
+        return Course::ProtectionViolation;
     };
-    let Lookup::Found(b) = operand::lookup_of(Role::Source, row, psw, third) else {
-        return Decision::Traps(Trap::ProtectionViolation, psw);
+    let x = operand::cell(register_tags, register_words, constants, a);
+    let Lookup::Found(b) = operand::source(cb, base, end, psw, third) else {
+        return Course::ProtectionViolation;
     };
+    let y = operand::cell(register_tags, register_words, constants, b);
     branch_found(
         c,
         p,
+        psws,
+        pt,
         psw,
         first,
         second,
+        operand::number(a),
+        x.tag,
+        x.word,
         third,
-        a,
-        b,
-        tags,
-        words,
-        constants,
+        operand::number(b),
+        y.tag,
+        y.word,
+        register_tags,
     )
 }
 
@@ -149,87 +152,108 @@ fn called_psw(psw: u64, s1: u64) -> u64
 }
 
 // On a true test the call, else PC + 1.
-fn call_fate(c: u16, psw: u64, s1: u64, w: u64, t: u8) -> Fate
-    ensures { λ r. ⌜ r ≡ Continues (cond (holdsOf c w t psw) (called psw s1) (nextOf psw)) ⌝ }
+fn call_psw(c: u16, psw: u64, s1: u64, s2: u64, y: u8) -> u64
+    ensures { λ r. ⌜ r ≡ cond (holdsOf c s2 y psw) (called psw s1) (nextOf psw) ⌝ }
 {
-    if word::holds(c, w, t, psw) {
-        return Fate::Continues(called_psw(psw, s1));
+    if word::holds(c, s2, y, psw) {
+        return called_psw(psw, s1);
     }
-    Fate::Continues(word::next(psw))
+    word::next(psw)
 }
 
 // D gets the PSW with PC + 1, whatever the test says.
 fn call_found(
     c: u16,
+    psws: &mut [u64],
+    pt: usize,
     psw: u64,
     first: u16,
+    d: usize,
     second: u16,
+    a: usize,
+    x: u8,
+    s1: u64,
     third: u16,
-    d: Operand,
-    a: Operand,
-    b: Operand,
-    tags: &[u8],
-    words: &[u64],
-    constants: &[u64],
-) -> Decision
-    ensures { λ r. ⌜ ((v : Environment) (i : Instruction) → v .psw ≡ psw → r ≡ decideFound (operation.Call c) v i (allFoundAt (memory (now (tags .entry)) (now (words .entry))) (now (constants .entry)) (roles Destination Source Source) first second third d a b)) ⌝ }
+    b: usize,
+    y: u8,
+    s2: u64,
+    register_tags: &mut [u8],
+    register_words: &mut [u64],
+) -> Course
+    ensures { λ r. ⌜ ((row : Row) (v : Environment) (i : Instruction) (constants : List ℕ) (n : Memory) (fresh : ℕ) (od oa ob : Operand) → v .psw ≡ psw → psw ≡ getD (now (psws .entry)) pt 0 → Destined row od d → Sourced row (now («register_tags» .entry)) (now («register_words» .entry)) constants second oa a x s1 → Sourced row (now («register_tags» .entry)) (now («register_words» .entry)) constants third ob b y s2 → Performs row (decideFound (operation.Call c) v i (allFoundAt (memory (now («register_tags» .entry)) (now («register_words» .entry))) constants (roles Destination Source Source) first second third od oa ob)) pt fresh r (now (psws .entry)) (now (psws .exit)) (memory (now («register_tags» .entry)) (now («register_words» .entry))) (memory (now («register_tags» .exit)) (now («register_words» .exit))) n n) ⌝ }
 {
-    let t = operand::cell(tags, words, constants, d);
-    let x = operand::cell(tags, words, constants, a);
-    let y = operand::cell(tags, words, constants, b);
-    if checks::waits_d_s1_s2(first, t.tag, second, x.tag, third, y.tag) {
-        return Decision::Waits(Wait::Access);
+    if checks::waits_d_s1_s2(first, d, second, x, third, y, register_tags) {
+        return Course::Waits;
     }
-    if checks::masked_s1_s2(psw, x.tag, y.tag) {
-        return Decision::Traps(Trap::DataException, psw);
+    if checks::masked_s1_s2(psw, x, y) {
+        return Course::DataException;
     }
-    let out = Outcome {
-        word: word::next(psw),
-        quality: 0,
-    };
-    let fate = call_fate(c, psw, x.word, y.word, y.tag);
-    let datum = Write::Nothing;
-    checks::executed_d_s1_s2(first, d, second, a, x, third, b, y, out, datum, fate)
+    checks::write_d_s1_s2(
+        first,
+        d,
+        second,
+        a,
+        x,
+        third,
+        b,
+        y,
+        word::next(psw),
+        0,
+        register_tags,
+        register_words,
+    );
+    checks::continues(psws, pt, call_psw(c, psw, s1, s2, y))
 }
 
 // CALL: D, S1, S2.
 pub fn call(
     c: u16,
-    row: Row,
+    cb: u32,
+    base: u32,
+    end: u32,
+    psws: &mut [u64],
+    pt: usize,
     psw: u64,
     first: u16,
     second: u16,
     third: u16,
-    tags: &[u8],
-    words: &[u64],
     constants: &[u64],
-) -> Decision
-    ensures { λ r. ⌜ ((code flag : ℕ) (program : List ℕ) (dataWords : Memory) → r ≡ decideListed (roles Destination Source Source) (operation.Call c) (environmentOf row psw flag program (now (constants .entry)) (memory (now (tags .entry)) (now (words .entry))) dataWords) (instruction code first second third)) ⌝ }
+    register_tags: &mut [u8],
+    register_words: &mut [u64],
+) -> Course
+    ensures { λ r. ⌜ ((row : Row) (code flag fresh : ℕ) (program : List ℕ) (n : Memory) → Spans row cb base end → psw ≡ getD (now (psws .entry)) pt 0 → Performs row (decideListed (roles Destination Source Source) (operation.Call c) (environmentOf row psw flag program (now (constants .entry)) (memory (now («register_tags» .entry)) (now («register_words» .entry))) n) (instruction code first second third)) pt fresh r (now (psws .entry)) (now (psws .exit)) (memory (now («register_tags» .entry)) (now («register_words» .entry))) (memory (now («register_tags» .exit)) (now («register_words» .exit))) n n) ⌝ }
 {
     if checks::illegal_d_s1_s2(first, second, third) {
-        return Decision::Traps(Trap::IllegalInstruction, psw);
+        return Course::IllegalInstruction;
     }
-    let Lookup::Found(d) = operand::lookup_of(Role::Destination, row, psw, first) else {
-        return Decision::Traps(Trap::ProtectionViolation, psw);
+    let Lookup::Found(d) = operand::destination(base, end, psw, first) else {
+        return Course::ProtectionViolation;
     };
-    let Lookup::Found(a) = operand::lookup_of(Role::Source, row, psw, second) else {
-        return Decision::Traps(Trap::ProtectionViolation, psw);
+    let Lookup::Found(a) = operand::source(cb, base, end, psw, second) else {
+        return Course::ProtectionViolation;
     };
-    let Lookup::Found(b) = operand::lookup_of(Role::Source, row, psw, third) else {
-        return Decision::Traps(Trap::ProtectionViolation, psw);
+    let x = operand::cell(register_tags, register_words, constants, a);
+    let Lookup::Found(b) = operand::source(cb, base, end, psw, third) else {
+        return Course::ProtectionViolation;
     };
+    let y = operand::cell(register_tags, register_words, constants, b);
     call_found(
         c,
+        psws,
+        pt,
         psw,
         first,
+        operand::number(d),
         second,
+        operand::number(a),
+        x.tag,
+        x.word,
         third,
-        d,
-        a,
-        b,
-        tags,
-        words,
-        constants,
+        operand::number(b),
+        y.tag,
+        y.word,
+        register_tags,
+        register_words,
     )
 }
 
@@ -251,7 +275,7 @@ fn created_psw(act: u16, psw: u64, s1: u64) -> u64
     word::psw(ci, ri, utm, pc)
 }
 
-// A true CREATE with the create fault flag up.
+// Check 8: a true CREATE with the create fault flag up.
 fn create_waits(holds: bool, flag: u8) -> bool
     ensures { λ r. ⌜ r ≡ createWaits holds flag ⌝ }
 {
@@ -261,156 +285,175 @@ fn create_waits(holds: bool, flag: u8) -> bool
     false
 }
 
-// On a true test a process joins.
-fn create_fate(holds: bool, act: u16, psw: u64, s1: u64) -> Fate
-    ensures { λ r. ⌜ r ≡ createFate holds act psw s1 ⌝ }
+// A process joins with the PSW new at the PT fresh.
+fn creates(psws: &mut [u64], pt: usize, p: u64, fresh: usize, new: u64) -> Course
+    ensures { λ r. ⌜ (r ≡ Creates) × (now (psws .exit) ≡ set (set (now (psws .entry)) pt p) fresh new) ⌝ }
 {
-    if holds {
-        return Fate::Creates(word::next(psw), created_psw(act, psw, s1));
-    }
-    Fate::Continues(word::next(psw))
+    window::set_word(psws, pt, p);
+    window::set_word(psws, fresh, new);
+    Course::Creates
 }
 
 fn create_found(
     c: u16,
     act: u16,
+    psws: &mut [u64],
+    pt: usize,
     psw: u64,
     flag: u8,
+    fresh: usize,
     second: u16,
+    a: usize,
+    x: u8,
+    s1: u64,
     third: u16,
-    a: Operand,
-    b: Operand,
-    tags: &[u8],
-    words: &[u64],
-    constants: &[u64],
-) -> Decision
-    ensures { λ r. ⌜ ((v : Environment) (i : Instruction) (first : ℕ) → v .psw ≡ psw → v .flag ≡ flag → r ≡ decideFound (operation.Create c act) v i (allFoundAt (memory (now (tags .entry)) (now (words .entry))) (now (constants .entry)) (roles Unused Source Source) first second third Absent a b)) ⌝ }
+    b: usize,
+    y: u8,
+    s2: u64,
+    register_tags: &mut [u8],
+) -> Course
+    ensures { λ r. ⌜ ((row : Row) (v : Environment) (i : Instruction) (words constants : List ℕ) (n : Memory) (first : ℕ) (oa ob : Operand) → v .psw ≡ psw → v .flag ≡ flag → psw ≡ getD (now (psws .entry)) pt 0 → Sourced row (now («register_tags» .entry)) words constants second oa a x s1 → Sourced row (now («register_tags» .entry)) words constants third ob b y s2 → Performs row (decideFound (operation.Create c act) v i (allFoundAt (memory (now («register_tags» .entry)) words) constants (roles Unused Source Source) first second third Absent oa ob)) pt fresh r (now (psws .entry)) (now (psws .exit)) (memory (now («register_tags» .entry)) words) (memory (now («register_tags» .exit)) words) n n) ⌝ }
 {
-    let x = operand::cell(tags, words, constants, a);
-    let y = operand::cell(tags, words, constants, b);
-    if checks::waits_s1_s2(second, x.tag, third, y.tag) {
-        return Decision::Waits(Wait::Access);
+    if checks::waits_s1_s2(second, x, third, y) {
+        return Course::Waits;
     }
-    if checks::masked_s1_s2(psw, x.tag, y.tag) {
-        return Decision::Traps(Trap::DataException, psw);
+    if checks::masked_s1_s2(psw, x, y) {
+        return Course::DataException;
     }
-    let holds = word::holds(c, y.word, y.tag, psw);
+    let holds = word::holds(c, s2, y, psw);
     if create_waits(holds, flag) {
-        return Decision::Waits(Wait::Create);
+        return Course::Waits;
     }
-    let fate = create_fate(holds, act, psw, x.word);
-    checks::executed_s1_s2(second, a, x, third, b, y, fate)
+    checks::release_s1_s2(second, a, x, third, b, y, register_tags);
+    if holds {
+        return creates(psws, pt, word::next(psw), fresh, created_psw(act, psw, s1));
+    }
+    checks::continues(psws, pt, word::next(psw))
 }
 
-// CREATE: S1, S2.
+// CREATE: S1, S2. A created process gets the PT fresh.
 pub fn create(
     c: u16,
     act: u16,
-    row: Row,
+    cb: u32,
+    base: u32,
+    end: u32,
+    psws: &mut [u64],
+    pt: usize,
     psw: u64,
     flag: u8,
+    fresh: usize,
     first: u16,
     second: u16,
     third: u16,
-    tags: &[u8],
-    words: &[u64],
     constants: &[u64],
-) -> Decision
-    ensures { λ r. ⌜ ((code : ℕ) (program : List ℕ) (dataWords : Memory) → r ≡ decideListed (roles Unused Source Source) (operation.Create c act) (environmentOf row psw flag program (now (constants .entry)) (memory (now (tags .entry)) (now (words .entry))) dataWords) (instruction code first second third)) ⌝ }
+    register_tags: &mut [u8],
+    register_words: &[u64],
+) -> Course
+    ensures { λ r. ⌜ ((row : Row) (code : ℕ) (program : List ℕ) (n : Memory) → Spans row cb base end → psw ≡ getD (now (psws .entry)) pt 0 → Performs row (decideListed (roles Unused Source Source) (operation.Create c act) (environmentOf row psw flag program (now (constants .entry)) (memory (now («register_tags» .entry)) (now («register_words» .entry))) n) (instruction code first second third)) pt fresh r (now (psws .entry)) (now (psws .exit)) (memory (now («register_tags» .entry)) (now («register_words» .entry))) (memory (now («register_tags» .exit)) (now («register_words» .entry))) n n) ⌝ }
 {
     if checks::illegal_unused_s1_s2(first, second, third) {
-        return Decision::Traps(Trap::IllegalInstruction, psw);
+        return Course::IllegalInstruction;
     }
-    let Lookup::Found(a) = operand::lookup_of(Role::Source, row, psw, second) else {
-        return Decision::Traps(Trap::ProtectionViolation, psw);
+    let Lookup::Found(a) = operand::source(cb, base, end, psw, second) else {
+        return Course::ProtectionViolation;
     };
-    let Lookup::Found(b) = operand::lookup_of(Role::Source, row, psw, third) else {
-        return Decision::Traps(Trap::ProtectionViolation, psw);
+    let x = operand::cell(register_tags, register_words, constants, a);
+    let Lookup::Found(b) = operand::source(cb, base, end, psw, third) else {
+        return Course::ProtectionViolation;
     };
+    let y = operand::cell(register_tags, register_words, constants, b);
     create_found(
         c,
         act,
+        psws,
+        pt,
         psw,
         flag,
+        fresh,
         second,
+        operand::number(a),
+        x.tag,
+        x.word,
         third,
-        a,
-        b,
-        tags,
-        words,
-        constants,
+        operand::number(b),
+        y.tag,
+        y.word,
+        register_tags,
     )
-}
-
-// On a true test the process leaves.
-fn quit_fate(c: u16, psw: u64, w: u64, t: u8) -> Fate
-    ensures { λ r. ⌜ r ≡ cond (holdsOf c w t psw) Quits (Continues (nextOf psw)) ⌝ }
-{
-    if word::holds(c, w, t, psw) {
-        return Fate::Quits;
-    }
-    Fate::Continues(word::next(psw))
 }
 
 fn quit_found(
     c: u16,
+    psws: &mut [u64],
+    pt: usize,
     psw: u64,
     third: u16,
-    b: Operand,
-    tags: &[u8],
-    words: &[u64],
-    constants: &[u64],
-) -> Decision
-    ensures { λ r. ⌜ ((v : Environment) (i : Instruction) (first second : ℕ) → v .psw ≡ psw → r ≡ decideFound (operation.Quit c) v i (allFoundAt (memory (now (tags .entry)) (now (words .entry))) (now (constants .entry)) (roles Unused Unused Source) first second third Absent Absent b)) ⌝ }
+    b: usize,
+    y: u8,
+    s2: u64,
+    register_tags: &mut [u8],
+) -> Course
+    ensures { λ r. ⌜ ((row : Row) (v : Environment) (i : Instruction) (words constants : List ℕ) (n : Memory) (fresh first second : ℕ) (ob : Operand) → v .psw ≡ psw → psw ≡ getD (now (psws .entry)) pt 0 → Sourced row (now («register_tags» .entry)) words constants third ob b y s2 → Performs row (decideFound (operation.Quit c) v i (allFoundAt (memory (now («register_tags» .entry)) words) constants (roles Unused Unused Source) first second third Absent Absent ob)) pt fresh r (now (psws .entry)) (now (psws .exit)) (memory (now («register_tags» .entry)) words) (memory (now («register_tags» .exit)) words) n n) ⌝ }
 {
-    let y = operand::cell(tags, words, constants, b);
-    let access = operand::access(third);
-    if operand::waits(Role::Source, access, y.tag) {
-        return Decision::Waits(Wait::Access);
+    if operand::waits(Role::Source, operand::access(third), y) {
+        return Course::Waits;
     }
-    if operand::masked(Role::Source, psw, y.tag) {
-        return Decision::Traps(Trap::DataException, psw);
+    if operand::masked(Role::Source, psw, y) {
+        return Course::DataException;
     }
-    Decision::Executes(Effects {
-        first: Write::Nothing,
-        second: Write::Nothing,
-        third: operand::source_left(Role::Source, access, b, y),
-        destination: Write::Nothing,
-        datum: Write::Nothing,
-        fate: quit_fate(c, psw, y.word, y.tag),
-    })
+    operand::release(third, b, y, register_tags);
+    if word::holds(c, s2, y, psw) {
+        return Course::Quits;
+    }
+    checks::continues(psws, pt, word::next(psw))
 }
 
 // QT: S2.
 pub fn quit(
     c: u16,
-    row: Row,
+    cb: u32,
+    base: u32,
+    end: u32,
+    psws: &mut [u64],
+    pt: usize,
     psw: u64,
     first: u16,
     second: u16,
     third: u16,
-    tags: &[u8],
-    words: &[u64],
     constants: &[u64],
-) -> Decision
-    ensures { λ r. ⌜ ((code flag : ℕ) (program : List ℕ) (dataWords : Memory) → r ≡ decideListed (roles Unused Unused Source) (operation.Quit c) (environmentOf row psw flag program (now (constants .entry)) (memory (now (tags .entry)) (now (words .entry))) dataWords) (instruction code first second third)) ⌝ }
+    register_tags: &mut [u8],
+    register_words: &[u64],
+) -> Course
+    ensures { λ r. ⌜ ((row : Row) (code flag fresh : ℕ) (program : List ℕ) (n : Memory) → Spans row cb base end → psw ≡ getD (now (psws .entry)) pt 0 → Performs row (decideListed (roles Unused Unused Source) (operation.Quit c) (environmentOf row psw flag program (now (constants .entry)) (memory (now («register_tags» .entry)) (now («register_words» .entry))) n) (instruction code first second third)) pt fresh r (now (psws .entry)) (now (psws .exit)) (memory (now («register_tags» .entry)) (now («register_words» .entry))) (memory (now («register_tags» .exit)) (now («register_words» .entry))) n n) ⌝ }
 {
     if checks::illegal_s2(first, second, third) {
-        return Decision::Traps(Trap::IllegalInstruction, psw);
+        return Course::IllegalInstruction;
     }
-    let Lookup::Found(b) = operand::lookup_of(Role::Source, row, psw, third) else {
-        return Decision::Traps(Trap::ProtectionViolation, psw);
+    let Lookup::Found(b) = operand::source(cb, base, end, psw, third) else {
+        return Course::ProtectionViolation;
     };
-    quit_found(c, psw, third, b, tags, words, constants)
+    let y = operand::cell(register_tags, register_words, constants, b);
+    quit_found(
+        c,
+        psws,
+        pt,
+        psw,
+        third,
+        operand::number(b),
+        y.tag,
+        y.word,
+        register_tags,
+    )
 }
 
-// SVC: any first field, the others unused.
-pub fn svc(psw: u64, second: u16, third: u16) -> Decision
-    ensures { λ r. ⌜ ((v : Environment) (code first : ℕ) → v .psw ≡ psw → r ≡ decideCode Svc v (instruction code first second third)) ⌝ }
+// SVC: any first field, the others unused. It traps with the PC past it.
+pub fn svc(psws: &mut [u64], pt: usize, psw: u64, second: u16, third: u16) -> Course
+    ensures { λ r. ⌜ ((row : Row) (v : Environment) (code first fresh : ℕ) (m n : Memory) → v .psw ≡ psw → psw ≡ getD (now (psws .entry)) pt 0 → Performs row (decideCode Svc v (instruction code first second third)) pt fresh r (now (psws .entry)) (now (psws .exit)) m m n n) ⌝ }
 {
     if checks::illegal_two_unused(second, third) {
-        return Decision::Traps(Trap::IllegalInstruction, psw);
+        return Course::IllegalInstruction;
     }
-    let past = word::next(psw);
-    Decision::Traps(Trap::SupervisorCall, past)
+    window::set_word(psws, pt, word::next(psw));
+    Course::SupervisorCall
 }

@@ -54,6 +54,16 @@ put-one : (f : Cell → ℕ) (w : Window) (ac : ℕ) (o : Operand) (d word quali
 unfolding destinationLeft storedOne stored
 put-one f w ac o d word quality l e i = rw (e, i)
 
+-- no data word is written
+pub no-datum : (row : Row) (n : Memory) → n ≡ written (dataWordWindow row) (Nothing ∷ []) n
+unfolding written storedAll storedOne
+no-datum row n = refl
+
+-- the process goes on with a PSW that is told
+pub continued : (pt fresh q p : ℕ) (psws psws′ : List ℕ) → psws′ ≡ set psws pt q → q ≡ p → psws′ ≡ fatePsws pt fresh (fate.Continues p) psws
+unfolding fatePsws
+continued pt fresh q p psws psws′ e f = e ∙ ap (set psws pt) f
+
 module _ (row : Row) (tags words constants : List ℕ) (first second third : ℕ)
     (r1 : Role) (o1 : Operand) (a1 x1 w1 : ℕ) (p1 : Operated row tags words constants r1 first o1 a1 x1 w1)
     (r2 : Role) (o2 : Operand) (a2 x2 w2 : ℕ) (p2 : Operated row tags words constants r2 second o2 a2 x2 w2)
@@ -137,14 +147,31 @@ module _ (row : Row) (tags words constants : List ℕ) (first second third : ℕ
       found-performs e d k r psws′ m′ n′ p =
           performs-along row d _ pt fresh r psws psws′ (memory tags words) m′ n n′ (rw (found-here, here-waits, free, here-masked, e) k) p
 
-      -- an operation that writes a result and ends with PC + 1
+      -- an operation without a destination that leaves the data words
+      pub found-executes : masked ≡ false → (f : Fate) → executed (operandsAt r1 r2 r3 first second third o1 o2 o3 x1 w1 x2 w2 x3 w3) Nothing Nothing f ≡ perform op v i (operandsAt r1 r2 r3 first second third o1 o2 o3 x1 w1 x2 w2 x3 w3)
+          → (r : Course) (psws′ tags′ : List ℕ) → r ≡ fateCourse f → psws′ ≡ fatePsws pt fresh f psws → tags′ ≡ leftIn r3 third a3 x3 (leftIn r2 second a2 x2 (leftIn r1 first a1 x1 tags))
+          → Performs row (decideFound op v i (allFoundAt (memory tags words) constants (roles r1 r2 r3) first second third o1 o2 o3))
+          pt fresh r psws psws′ (memory tags words) (memory tags′ words) n n
+      found-executes e f k r psws′ tags′ c g t =
+          found-performs e _ k r psws′ (memory tags′ words) n (executes-sources Nothing f r psws′ tags′ n c g t (no-datum row n))
+
+      -- an operation that writes a result and leaves the data words
+      pub found-writes : masked ≡ false → (out : Outcome) (f : Fate)
+          → executed (operandsAt r1 r2 r3 first second third o1 o2 o3 x1 w1 x2 w2 x3 w3) (resultIn (foundWith r1 first o1 (cell x1 w1)) out) Nothing f ≡ perform op v i (operandsAt r1 r2 r3 first second third o1 o2 o3 x1 w1 x2 w2 x3 w3)
+          → (d : ℕ) → Destined row o1 d → (r : Course) (psws′ tags′ words′ : List ℕ) → r ≡ fateCourse f → psws′ ≡ fatePsws pt fresh f psws
+          → tags′ ≡ set (leftIn r3 third a3 x3 (leftIn r2 second a2 x2 (leftIn r1 first a1 x1 tags))) d (destinationTag (accessOf first) (out .quality)) → words′ ≡ set words d (out .word)
+          → Performs row (decideFound op v i (allFoundAt (memory tags words) constants (roles r1 r2 r3) first second third o1 o2 o3))
+          pt fresh r psws psws′ (memory tags words) (memory tags′ words′) n n
+      found-writes e out f k d z r psws′ tags′ words′ c g t w =
+          found-performs e _ k r psws′ (memory tags′ words′) n (executes-result d z out Nothing f r psws′ tags′ words′ n c g t w (no-datum row n))
+
+      -- the same, ending with PC + 1
       pub found-result : masked ≡ false → (out : Outcome) → performResult v (operandsAt r1 r2 r3 first second third o1 o2 o3 x1 w1 x2 w2 x3 w3) out ≡ perform op v i (operandsAt r1 r2 r3 first second third o1 o2 o3 x1 w1 x2 w2 x3 w3) → (d : ℕ) → Destined row o1 d
           → (r : Course) (next : ℕ) (psws′ tags′ words′ : List ℕ) → r ≡ go.Continues → next ≡ nextOf psw → psws′ ≡ set psws pt next
           → tags′ ≡ set (leftIn r3 third a3 x3 (leftIn r2 second a2 x2 (leftIn r1 first a1 x1 tags))) d (destinationTag (accessOf first) (out .quality))
           → words′ ≡ set words d (out .word)
           → Performs row (decideFound op v i (allFoundAt (memory tags words) constants (roles r1 r2 r3) first second third o1 o2 o3))
           pt fresh r psws psws′ (memory tags words) (memory tags′ words′) n n
-      unfolding performResult fateCourse fatePsws written storedAll storedOne
+      unfolding performResult fateCourse
       found-result e out k d z r next psws′ tags′ words′ c g f t w =
-          found-performs e _ k r psws′ (memory tags′ words′) n
-          (executes-result d z out Nothing (fate.Continues (nextOf (v .psw))) r psws′ tags′ words′ n c (f ∙ ap (set psws pt) (g ∙ ap nextOf (sym of))) t w refl)
+          found-writes e out (fate.Continues (nextOf (v .psw))) k d z r psws′ tags′ words′ c (continued pt fresh next (nextOf (v .psw)) psws psws′ f (g ∙ ap nextOf (sym of))) t w

@@ -104,6 +104,9 @@ module _ (f g h : ℕ) (e : eqb (f / 2 ^ 11 % 2 ^ 3) 0 && (eqb (g / 2 ^ 11 % 2 ^
   three-left q a x b y l = (full-tag f q (plain-access f (and-left (plainly f) (plainly g && plainly h) e)), two-released g h rest a x b y l)
 
 -- what is told in parts
+pub wait-told : (w : Bool) (m f x : ℕ) → w ≡ waitsOf Source m x → m ≡ accessOf f → w ≡ waitsOf Source (accessOf f) x
+wait-told w m f x e g = e ∙ ap (λ k. waitsOf Source k x) g
+
 pub tag-told : (n m f q : ℕ) → n ≡ destinationTag m q → m ≡ accessOf f → n ≡ destinationTag (accessOf f) q
 tag-told n m f q e g = e ∙ ap (λ k. destinationTag k q) g
 

@@ -1,51 +1,53 @@
-use Rattle.operation.specs.Decide.{decideFound, operandsWait, operandWaits, operandsMasked, operandMasked}
-use Rattle.operation.specs.FoundOperands.{foundAt, allFoundAt}
-use Rattle.operand.specs.Access.{waitsOf, sourceLeft, maskedOf}
-use Rattle.operation.specs.Perform.{perform, executed, leftOf, testOf, performBranch}
+use Rattle.control_operations.specs.Laws.Performed.{branch-performed}
+use Rattle.checks.specs.Laws.Found.{found-waits, found-masked, found-executes, continued}
+use Rattle.checks.specs.Laws.Operands.{free-operated, source-operated}
+use Rattle.step.specs.Performs.{fateCourse}
 use borrow.Author.Needs.{needs}
 use Rattle.control_operations.proofs.branch_found.Statement.{statement}
 use Rattle.control_operations.proofs.branch_found.Tie as tie
-
-cell-requires : tie.Need-cell-requires
-cell-requires c κs = search needs
-
-cell-requires-2 : tie.Need-cell-requires-2
-cell-requires-2 c κs = search needs
 
 waits-s1-s2-requires : tie.Need-waits-s1-s2-requires
 waits-s1-s2-requires c κs = search needs
 
 returns : tie.Need-returns
-unfolding decideFound operandsWait operandWaits waitsOf allFoundAt foundAt
-returns c = λ v i e h. simp (e, h, c .if1 .taken, ← c .before .waits-s1-s2 .ensures, ← c .before .before .cell2 .ensures, ← c .before .before .before .cell .ensures)
+returns c = λ row v i words constants n fresh oa ob e f own pa pb. found-waits _ _ _ _ _ _ _ _ _ _ _ _ (free-operated _ _ _ _ _) _ _ _ _ _ (source-operated _ _ _ _ _ _ _ _ _ pa) _ _ _ _ _ (source-operated _ _ _ _ _ _ _ _ _ pb) _ _ _ _ _ _ _ _ (c .before .waits-s1-s2 .ensures) (c .if1 .taken)
 
 masked-s1-s2-requires : tie.Need-masked-s1-s2-requires
 masked-s1-s2-requires c κs = search needs
 
 returns-2 : tie.Need-returns-2
-unfolding decideFound operandsWait operandWaits waitsOf allFoundAt foundAt operandsMasked operandMasked maskedOf
-returns-2 c = λ v i e h. simp (e, h, c .if2 .taken, ← c .before .masked-s1-s2 .ensures, c .before .before .if1 .left, ← c .before .before .before .waits-s1-s2 .ensures, ← c .before .before .before .before .cell2 .ensures, ← c .before .before .before .before .before .cell .ensures)
+returns-2 c = λ row v i words constants n fresh oa ob e f own pa pb. found-masked _ _ _ _ _ _ _ _ _ _ _ _ (free-operated _ _ _ _ _) _ _ _ _ _ (source-operated _ _ _ _ _ _ _ _ _ pa) _ _ _ _ _ (source-operated _ _ _ _ _ _ _ _ _ pb) _ _ _ _ _ _ _ _ (c .before .before .before .waits-s1-s2 .ensures) (c .before .before .if1 .left) _ e _ (c .before .masked-s1-s2 .ensures) (c .if2 .taken) own
 
-branch-fate-requires : tie.Need-branch-fate-requires
-branch-fate-requires c κs = search needs
+release-s1-s2-requires : tie.Need-release-s1-s2-requires
+release-s1-s2-requires c κs = search needs
 
-executed-s1-s2-requires : tie.Need-executed-s1-s2-requires
-executed-s1-s2-requires c κs = search needs
+branch-psw-requires : tie.Need-branch-psw-requires
+branch-psw-requires c κs = search needs
+
+continues-requires : tie.Need-continues-requires
+continues-requires c κs = search needs
+
+same-length : tie.Need-same-length
+same-length c = search needs
+
+same-length-2 : tie.Need-same-length-2
+same-length-2 c = search needs
 
 returns-3 : tie.Need-returns-3
-unfolding decideFound operandsWait operandWaits waitsOf operandsMasked operandMasked maskedOf allFoundAt foundAt perform executed leftOf sourceLeft testOf performBranch
-returns-3 c = λ v i e h. simp (e, h, ← c .executed-s1-s2 .ensures, ← c .before .branch-fate .ensures, c .before .before .if2 .left, ← c .before .before .before .masked-s1-s2 .ensures, c .before .before .before .before .if1 .left, ← c .before .before .before .before .before .waits-s1-s2 .ensures, ← c .before .before .before .before .before .before .cell2 .ensures, ← c .before .before .before .before .before .before .before .cell .ensures)
+unfolding fateCourse
+returns-3 c = λ row v i words constants n fresh oa ob e f own pa pb. found-executes _ _ _ _ _ _ _ _ _ _ _ _ (free-operated _ _ _ _ _) _ _ _ _ _ (source-operated _ _ _ _ _ _ _ _ _ pa) _ _ _ _ _ (source-operated _ _ _ _ _ _ _ _ _ pb) _ _ _ _ _ _ _ _ (c .before .before .before .before .before .before .before .before .before .before .before .before .waits-s1-s2 .ensures) (c .before .before .before .before .before .before .before .before .before .before .before .if1 .left) _ e _ (c .before .before .before .before .before .before .before .before .before .before .masked-s1-s2 .ensures) (c .before .before .before .before .before .before .before .before .before .if2 .left) _ (branch-performed v i _ _ e _ _ _ f) _ _ _ (c .before .before .continues .ensures .0) (continued _ _ _ _ _ _ (c .before .before .continues .ensures .1) (c .before .before .before .branch-psw .ensures)) (c .before .before .before .before .before .before .before .release-s1-s2 .ensures)
 
 pub branch-found-spec : {M : Type 1} → statement M
 branch-found-spec =
     tie.close
     (tie.spec
-    cell-requires
-    cell-requires-2
     waits-s1-s2-requires
     returns
     masked-s1-s2-requires
     returns-2
-    branch-fate-requires
-    executed-s1-s2-requires
+    release-s1-s2-requires
+    branch-psw-requires
+    continues-requires
+    same-length
+    same-length-2
     returns-3)

@@ -1,59 +1,69 @@
-use Rattle.operation.specs.Decide.{decideFound, operandsWait, operandWaits, operandsMasked, operandMasked}
-use Rattle.operation.specs.FoundOperands.{foundAt, allFoundAt}
-use Rattle.operand.specs.Access.{sourceLeft, maskedOf}
-use Rattle.operation.specs.Perform.{perform, executed, leftOf, testOf, performCall, resultIn}
+use Rattle.control_operations.specs.Laws.Performed.{call-performed}
+use Rattle.checks.specs.Laws.Found.{found-waits, found-masked, found-writes, continued}
+use Rattle.checks.specs.Laws.Operands.{destination-operated, source-operated}
+use Rattle.step.specs.Performs.{fateCourse}
 use borrow.Author.Needs.{needs}
 use Rattle.control_operations.proofs.call_found.Statement.{statement}
 use Rattle.control_operations.proofs.call_found.Tie as tie
 
-cell-requires : tie.Need-cell-requires
-cell-requires c κs = search needs
-
-cell-requires-2 : tie.Need-cell-requires-2
-cell-requires-2 c κs = search needs
-
-cell-requires-3 : tie.Need-cell-requires-3
-cell-requires-3 c κs = search needs
-
 waits-d-s1-s2-requires : tie.Need-waits-d-s1-s2-requires
 waits-d-s1-s2-requires c κs = search needs
 
+same-length : tie.Need-same-length
+same-length c = search needs
+
 returns : tie.Need-returns
-unfolding decideFound operandsWait operandWaits allFoundAt foundAt
-returns c = λ v i e. simp (e, c .if1 .taken, ← c .before .waits-d-s1-s2 .ensures, ← c .before .before .cell3 .ensures, ← c .before .before .before .cell2 .ensures, ← c .before .before .before .before .cell .ensures)
+returns c = λ row v i constants n fresh od oa ob e own dd pa pb. found-waits _ _ _ _ _ _ _ _ _ _ _ _ (destination-operated _ _ _ _ _ _ _ dd) _ _ _ _ _ (source-operated _ _ _ _ _ _ _ _ _ pa) _ _ _ _ _ (source-operated _ _ _ _ _ _ _ _ _ pb) _ _ _ _ _ _ _ _ (c .before .waits-d-s1-s2 .ensures) (c .if1 .taken)
 
 masked-s1-s2-requires : tie.Need-masked-s1-s2-requires
 masked-s1-s2-requires c κs = search needs
 
+same-length-2 : tie.Need-same-length-2
+same-length-2 c = search needs
+
 returns-2 : tie.Need-returns-2
-unfolding decideFound operandsWait operandWaits allFoundAt foundAt operandsMasked operandMasked maskedOf
-returns-2 c = λ v i e. simp (e, c .if2 .taken, ← c .before .masked-s1-s2 .ensures, c .before .before .if1 .left, ← c .before .before .before .waits-d-s1-s2 .ensures, ← c .before .before .before .before .cell3 .ensures, ← c .before .before .before .before .before .cell2 .ensures, ← c .before .before .before .before .before .before .cell .ensures)
+returns-2 c = λ row v i constants n fresh od oa ob e own dd pa pb. found-masked _ _ _ _ _ _ _ _ _ _ _ _ (destination-operated _ _ _ _ _ _ _ dd) _ _ _ _ _ (source-operated _ _ _ _ _ _ _ _ _ pa) _ _ _ _ _ (source-operated _ _ _ _ _ _ _ _ _ pb) _ _ _ _ _ _ _ _ (c .before .before .before .waits-d-s1-s2 .ensures) (c .before .before .if1 .left) _ e _ (c .before .masked-s1-s2 .ensures) (c .if2 .taken) own
 
 next-requires : tie.Need-next-requires
 next-requires c κs = search needs
 
-call-fate-requires : tie.Need-call-fate-requires
-call-fate-requires c κs = search needs
+write-d-s1-s2-requires : tie.Need-write-d-s1-s2-requires
+write-d-s1-s2-requires c κs = search needs
 
-executed-d-s1-s2-requires : tie.Need-executed-d-s1-s2-requires
-executed-d-s1-s2-requires c κs = search needs
+call-psw-requires : tie.Need-call-psw-requires
+call-psw-requires c κs = search needs
+
+continues-requires : tie.Need-continues-requires
+continues-requires c κs = search needs
+
+same-length-3 : tie.Need-same-length-3
+same-length-3 c = search needs
+
+same-length-4 : tie.Need-same-length-4
+same-length-4 c = search needs
+
+same-length-5 : tie.Need-same-length-5
+same-length-5 c = search needs
 
 returns-3 : tie.Need-returns-3
-unfolding decideFound operandsWait operandWaits operandsMasked operandMasked maskedOf allFoundAt foundAt perform executed leftOf sourceLeft testOf performCall resultIn
-returns-3 c = λ v i e. simp (e, c .executed-d-s1-s2 .ensures, c .before .call-fate .ensures, c .before .before .next .ensures, c .before .before .before .if2 .left, ← c .before .before .before .before .masked-s1-s2 .ensures, c .before .before .before .before .before .if1 .left, ← c .before .before .before .before .before .before .waits-d-s1-s2 .ensures, ← c .before .before .before .before .before .before .before .cell3 .ensures, ← c .before .before .before .before .before .before .before .before .cell2 .ensures, ← c .before .before .before .before .before .before .before .before .before .cell .ensures)
+unfolding fateCourse
+returns-3 c = λ row v i constants n fresh od oa ob e own dd pa pb. found-writes _ _ _ _ _ _ _ _ _ _ _ _ (destination-operated _ _ _ _ _ _ _ dd) _ _ _ _ _ (source-operated _ _ _ _ _ _ _ _ _ pa) _ _ _ _ _ (source-operated _ _ _ _ _ _ _ _ _ pb) _ _ _ _ _ _ _ _ (c .before .before .before .before .before .before .before .before .before .before .before .before .before .before .before .before .waits-d-s1-s2 .ensures) (c .before .before .before .before .before .before .before .before .before .before .before .before .before .before .before .if1 .left) _ e _ (c .before .before .before .before .before .before .before .before .before .before .before .before .before .before .masked-s1-s2 .ensures) (c .before .before .before .before .before .before .before .before .before .before .before .before .before .if2 .left) _ _ (call-performed v i _ _ e _ _ (c .before .before .before .before .before .before .before .before .before .before .before .before .next .ensures)) _ dd _ _ _ _ (c .before .before .continues .ensures .0) (continued _ _ _ _ _ _ (c .before .before .continues .ensures .1) (c .before .before .before .call-psw .ensures)) (c .before .before .before .before .before .before .before .before .before .write-d-s1-s2 .ensures .0) (c .before .before .before .before .before .before .before .before .before .write-d-s1-s2 .ensures .1)
 
 pub call-found-spec : {M : Type 1} → statement M
 call-found-spec =
     tie.close
     (tie.spec
-    cell-requires
-    cell-requires-2
-    cell-requires-3
     waits-d-s1-s2-requires
+    same-length
     returns
     masked-s1-s2-requires
+    same-length-2
     returns-2
     next-requires
-    call-fate-requires
-    executed-d-s1-s2-requires
+    write-d-s1-s2-requires
+    call-psw-requires
+    continues-requires
+    same-length-3
+    same-length-4
+    same-length-5
     returns-3)

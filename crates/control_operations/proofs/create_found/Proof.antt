@@ -1,30 +1,24 @@
-use Rattle.operation.specs.Decide.{decideFound, operandsWait, operandWaits, operandsMasked, operandMasked}
-use Rattle.operation.specs.FoundOperands.{foundAt, allFoundAt}
-use Rattle.operand.specs.Access.{waitsOf, sourceLeft, maskedOf}
-use Rattle.operation.specs.Perform.{perform, executed, leftOf, testOf, performCreate}
+use Rattle.control_operations.specs.Laws.Performed.{create-waits, creates, creates-none, created-psws}
+use Rattle.checks.specs.Laws.Found.{found-waits, found-masked, found-performs, found-executes, continued}
+use Rattle.checks.specs.Laws.Operands.{unused-operated, source-operated}
+use Rattle.step.specs.Performs.{fateCourse}
+use Rattle.step.specs.Laws.Performs.{performs-waits}
+use Rattle.operation.specs.declared.Wait.the-variants as wait
 use borrow.Author.Needs.{needs}
 use Rattle.control_operations.proofs.create_found.Statement.{statement}
 use Rattle.control_operations.proofs.create_found.Tie as tie
-
-cell-requires : tie.Need-cell-requires
-cell-requires c κs = search needs
-
-cell-requires-2 : tie.Need-cell-requires-2
-cell-requires-2 c κs = search needs
 
 waits-s1-s2-requires : tie.Need-waits-s1-s2-requires
 waits-s1-s2-requires c κs = search needs
 
 returns : tie.Need-returns
-unfolding decideFound operandsWait operandWaits waitsOf allFoundAt foundAt
-returns c = λ v i f e h. simp (e, h, c .if1 .taken, ← c .before .waits-s1-s2 .ensures, ← c .before .before .cell2 .ensures, ← c .before .before .before .cell .ensures)
+returns c = λ row v i words constants n first oa ob e up own pa pb. found-waits _ _ _ _ _ _ _ _ _ _ _ _ (unused-operated _ _ _ _ _) _ _ _ _ _ (source-operated _ _ _ _ _ _ _ _ _ pa) _ _ _ _ _ (source-operated _ _ _ _ _ _ _ _ _ pb) _ _ _ _ _ _ _ _ (c .before .waits-s1-s2 .ensures) (c .if1 .taken)
 
 masked-s1-s2-requires : tie.Need-masked-s1-s2-requires
 masked-s1-s2-requires c κs = search needs
 
 returns-2 : tie.Need-returns-2
-unfolding decideFound operandsWait operandWaits waitsOf allFoundAt foundAt operandsMasked operandMasked maskedOf
-returns-2 c = λ v i f e h. simp (e, h, c .if2 .taken, ← c .before .masked-s1-s2 .ensures, c .before .before .if1 .left, ← c .before .before .before .waits-s1-s2 .ensures, ← c .before .before .before .before .cell2 .ensures, ← c .before .before .before .before .before .cell .ensures)
+returns-2 c = λ row v i words constants n first oa ob e up own pa pb. found-masked _ _ _ _ _ _ _ _ _ _ _ _ (unused-operated _ _ _ _ _) _ _ _ _ _ (source-operated _ _ _ _ _ _ _ _ _ pa) _ _ _ _ _ (source-operated _ _ _ _ _ _ _ _ _ pb) _ _ _ _ _ _ _ _ (c .before .before .before .waits-s1-s2 .ensures) (c .before .before .if1 .left) _ e _ (c .before .masked-s1-s2 .ensures) (c .if2 .taken) own
 
 holds-requires : tie.Need-holds-requires
 holds-requires c κs = search needs
@@ -33,25 +27,50 @@ create-waits-requires : tie.Need-create-waits-requires
 create-waits-requires c κs = search needs
 
 returns-3 : tie.Need-returns-3
-unfolding decideFound operandsWait operandWaits waitsOf operandsMasked operandMasked maskedOf allFoundAt foundAt perform executed leftOf sourceLeft testOf performCreate
-returns-3 c = λ v i f e h. simp (e, h, c .if3 .taken, ← c .before .create-waits .ensures, ← c .before .before .holds .ensures, c .before .before .before .if2 .left, ← c .before .before .before .before .masked-s1-s2 .ensures, c .before .before .before .before .before .if1 .left, ← c .before .before .before .before .before .before .waits-s1-s2 .ensures, ← c .before .before .before .before .before .before .before .cell2 .ensures, ← c .before .before .before .before .before .before .before .before .cell .ensures)
+returns-3 c = λ row v i words constants n first oa ob e up own pa pb. found-performs _ _ _ _ _ _ _ _ _ _ _ _ (unused-operated _ _ _ _ _) _ _ _ _ _ (source-operated _ _ _ _ _ _ _ _ _ pa) _ _ _ _ _ (source-operated _ _ _ _ _ _ _ _ _ pb) _ _ _ _ _ _ _ _ (c .before .before .before .before .before .before .waits-s1-s2 .ensures) (c .before .before .before .before .before .if1 .left) _ e _ (c .before .before .before .before .masked-s1-s2 .ensures) (c .before .before .before .if2 .left) _ (create-waits v i _ _ e _ _ (c .before .before .holds .ensures) _ _ up _ (c .before .create-waits .ensures) (c .if3 .taken)) _ _ _ _ (performs-waits _ _ _ _ _ _ wait.Create)
 
-create-fate-requires : tie.Need-create-fate-requires
-create-fate-requires c κs = search needs
+release-s1-s2-requires : tie.Need-release-s1-s2-requires
+release-s1-s2-requires c κs = search needs
 
-executed-s1-s2-requires : tie.Need-executed-s1-s2-requires
-executed-s1-s2-requires c κs = search needs
+next-requires : tie.Need-next-requires
+next-requires c κs = search needs
+
+created-psw-requires : tie.Need-created-psw-requires
+created-psw-requires c κs = search needs
+
+creates-requires : tie.Need-creates-requires
+creates-requires c κs = search needs
+
+same-length : tie.Need-same-length
+same-length c = search needs
+
+same-length-2 : tie.Need-same-length-2
+same-length-2 c = search needs
 
 returns-4 : tie.Need-returns-4
-unfolding decideFound operandsWait operandWaits waitsOf operandsMasked operandMasked maskedOf allFoundAt foundAt perform executed leftOf sourceLeft testOf performCreate
-returns-4 c = λ v i f e h. simp (e, h, ← c .executed-s1-s2 .ensures, ← c .before .create-fate .ensures, c .before .before .if3 .left, ← c .before .before .before .create-waits .ensures, ← c .before .before .before .before .holds .ensures, c .before .before .before .before .before .if2 .left, ← c .before .before .before .before .before .before .masked-s1-s2 .ensures, c .before .before .before .before .before .before .before .if1 .left, ← c .before .before .before .before .before .before .before .before .waits-s1-s2 .ensures, ← c .before .before .before .before .before .before .before .before .before .cell2 .ensures, ← c .before .before .before .before .before .before .before .before .before .before .cell .ensures)
+unfolding fateCourse
+returns-4 c = λ row v i words constants n first oa ob e up own pa pb. found-executes _ _ _ _ _ _ _ _ _ _ _ _ (unused-operated _ _ _ _ _) _ _ _ _ _ (source-operated _ _ _ _ _ _ _ _ _ pa) _ _ _ _ _ (source-operated _ _ _ _ _ _ _ _ _ pb) _ _ _ _ _ _ _ _ (c .before .before .before .before .before .before .before .before .before .before .before .before .before .before .before .before .before .waits-s1-s2 .ensures) (c .before .before .before .before .before .before .before .before .before .before .before .before .before .before .before .before .if1 .left) _ e _ (c .before .before .before .before .before .before .before .before .before .before .before .before .before .before .before .masked-s1-s2 .ensures) (c .before .before .before .before .before .before .before .before .before .before .before .before .before .before .if2 .left) _ (creates v i _ _ e _ _ (c .before .before .before .before .before .before .before .before .before .before .before .before .before .holds .ensures) _ _ up _ (c .before .before .before .before .before .before .before .before .before .before .before .before .create-waits .ensures) (c .before .before .before .before .before .before .before .before .before .before .before .if3 .left) (c .before .before .before .before .before .before .if4 .taken)) _ _ _ (c .before .before .creates .ensures .0) (created-psws _ _ _ _ _ _ _ _ (c .before .before .creates .ensures .1) (c .before .before .before .before .next .ensures) (c .before .before .before .created-psw .ensures)) (c .before .before .before .before .before .before .before .before .before .release-s1-s2 .ensures)
+
+next-requires-2 : tie.Need-next-requires-2
+next-requires-2 c κs = search needs
+
+continues-requires : tie.Need-continues-requires
+continues-requires c κs = search needs
+
+same-length-3 : tie.Need-same-length-3
+same-length-3 c = search needs
+
+same-length-4 : tie.Need-same-length-4
+same-length-4 c = search needs
+
+returns-5 : tie.Need-returns-5
+unfolding fateCourse
+returns-5 c = λ row v i words constants n first oa ob e up own pa pb. found-executes _ _ _ _ _ _ _ _ _ _ _ _ (unused-operated _ _ _ _ _) _ _ _ _ _ (source-operated _ _ _ _ _ _ _ _ _ pa) _ _ _ _ _ (source-operated _ _ _ _ _ _ _ _ _ pb) _ _ _ _ _ _ _ _ (c .before .before .before .before .before .before .before .before .before .before .before .before .before .before .before .before .waits-s1-s2 .ensures) (c .before .before .before .before .before .before .before .before .before .before .before .before .before .before .before .if1 .left) _ e _ (c .before .before .before .before .before .before .before .before .before .before .before .before .before .before .masked-s1-s2 .ensures) (c .before .before .before .before .before .before .before .before .before .before .before .before .before .if2 .left) _ (creates-none v i _ _ e _ _ (c .before .before .before .before .before .before .before .before .before .before .before .before .holds .ensures) _ _ up _ (c .before .before .before .before .before .before .before .before .before .before .before .create-waits .ensures) (c .before .before .before .before .before .before .before .before .before .before .if3 .left) (c .before .before .before .before .before .if4 .left)) _ _ _ (c .before .before .continues .ensures .0) (continued _ _ _ _ _ _ (c .before .before .continues .ensures .1) (c .before .before .before .next2 .ensures)) (c .before .before .before .before .before .before .before .before .release-s1-s2 .ensures)
 
 pub create-found-spec : {M : Type 1} → statement M
 create-found-spec =
     tie.close
     (tie.spec
-    cell-requires
-    cell-requires-2
     waits-s1-s2-requires
     returns
     masked-s1-s2-requires
@@ -59,6 +78,15 @@ create-found-spec =
     holds-requires
     create-waits-requires
     returns-3
-    create-fate-requires
-    executed-s1-s2-requires
-    returns-4)
+    release-s1-s2-requires
+    next-requires
+    created-psw-requires
+    creates-requires
+    same-length
+    same-length-2
+    returns-4
+    next-requires-2
+    continues-requires
+    same-length-3
+    same-length-4
+    returns-5)

@@ -1,8 +1,11 @@
-use mathlib.Core.Path.{refl, _∙_}
-use Rattle.operand.specs.Field.{lookupOf}
-use Rattle.operation.specs.Roles.{illegalInstruction, illegalAccess, illegalFields}
+use mathlib.Core.Path.{refl}
+use Rattle.operand.specs.Field.{illegalField, lookupOf}
+use Rattle.operation.specs.Roles.{illegalAccess, illegalFields, illegalInstruction}
 use Rattle.operation.specs.Environment.{environmentOf}
-use Rattle.operation.specs.Laws.Found.{told, refused, no-third, all-found}
+use Rattle.operation.specs.Laws.Found.{told}
+use Rattle.operand.specs.Laws.Spans.{source-told, destination-told}
+use Rattle.checks.specs.Laws.Operands.{destined, sourced}
+use Rattle.checks.specs.Laws.Listed.{listed-illegal, first-violated, second-violated, third-violated, listed-found}
 use borrow.Author.Needs.{needs}
 use Rattle.control_operations.proofs.quit.Statement.{statement}
 use Rattle.control_operations.proofs.quit.Tie as tie
@@ -11,11 +14,11 @@ illegal-s2-requires : tie.Need-illegal-s2-requires
 illegal-s2-requires c κs = search needs
 
 returns : tie.Need-returns
-unfolding illegalInstruction illegalAccess illegalFields
-returns c = λ code flag program dataWords. refused _ _ _ _ _ _ _ _ _ _ (told (c .before .illegal-s2 .ensures) (c .if1 .taken))
+unfolding illegalInstruction illegalAccess illegalFields illegalField
+returns c = λ row code flag fresh program n s own. listed-illegal _ _ _ _ _ _ _ _ _ _ _ _ _ own (told (c .before .illegal-s2 .ensures) (c .if1 .taken))
 
-lookup-of-requires : tie.Need-lookup-of-requires
-lookup-of-requires c κs = search needs
+source-requires : tie.Need-source-requires
+source-requires c κs = search needs
 
 enum-known-b : tie.Need-enum-known-b
 enum-known-b c = search needs
@@ -24,15 +27,27 @@ enum-told : tie.Need-enum-told
 enum-told c = search needs
 
 returns-2 : tie.Need-returns-2
-unfolding illegalInstruction illegalAccess illegalFields lookupOf
-returns-2 c = λ code flag program dataWords. no-third _ _ _ _ _ _ _ _ _ _ (told (c .before .before .before .before .illegal-s2 .ensures) (c .before .before .before .if1 .left)) _ _ refl refl (told (c .before .before .lookup-of .ensures) (c .enum-told .given .1))
+unfolding illegalInstruction illegalAccess illegalFields illegalField lookupOf
+returns-2 c = λ row code flag fresh program n s own. third-violated _ _ _ _ _ _ _ _ _ _ _ _ _ (told (c .before .before .before .before .illegal-s2 .ensures) (c .before .before .before .if1 .left)) own _ _ refl refl (source-told row _ _ _ s _ _ _ _ (c .before .before .source .ensures) (c .enum-told .given .1))
+
+cell-requires : tie.Need-cell-requires
+cell-requires c κs = search needs
+
+number-requires : tie.Need-number-requires
+number-requires c κs = search needs
 
 quit-found-requires : tie.Need-quit-found-requires
 quit-found-requires c κs = search needs
 
+same-length : tie.Need-same-length
+same-length c = search needs
+
+same-length-2 : tie.Need-same-length-2
+same-length-2 c = search needs
+
 returns-3 : tie.Need-returns-3
-unfolding illegalInstruction illegalAccess illegalFields environmentOf lookupOf
-returns-3 c = λ code flag program dataWords. c .quit-found .ensures _ _ _ _ refl ∙ all-found _ _ _ _ _ _ _ _ _ _ (told (c .before .before .before .before .before .before .illegal-s2 .ensures) (c .before .before .before .before .before .if1 .left)) _ _ _ refl refl (told (c .before .before .before .before .lookup-of .ensures) (c .before .before .b .given .1))
+unfolding illegalInstruction illegalAccess illegalFields illegalField lookupOf environmentOf
+returns-3 c = λ row code flag fresh program n s own. listed-found _ _ _ _ _ _ _ _ _ _ _ _ _ (told (c .before .before .before .before .before .before .before .before .before .before .before .before .before .before .before .illegal-s2 .ensures) (c .before .before .before .before .before .before .before .before .before .before .before .before .before .before .if1 .left)) _ _ _ refl refl (source-told row _ _ _ s _ _ _ _ (c .before .before .before .before .before .before .before .before .before .before .before .before .before .source .ensures) (c .before .before .before .before .before .before .before .before .before .before .before .b .given .1)) _ _ _ _ (c .before .before .before .before .quit-found .ensures row _ _ _ _ n fresh _ _ _ refl own (sourced row _ _ _ _ _ _ _ _ (source-told row _ _ _ s _ _ _ _ (c .before .before .before .before .before .before .before .before .before .before .before .before .before .source .ensures) (c .before .before .before .before .before .before .before .before .before .before .before .b .given .1)) (c .before .before .before .before .before .before .before .before .cell .ensures) (c .before .before .before .before .before .before .number .ensures)))
 
 pub quit-spec : {M : Type 1} → statement M
 quit-spec =
@@ -40,9 +55,13 @@ quit-spec =
     (tie.spec
     illegal-s2-requires
     returns
-    lookup-of-requires
+    source-requires
     enum-known-b
     enum-told
     returns-2
+    cell-requires
+    number-requires
     quit-found-requires
+    same-length
+    same-length-2
     returns-3)

@@ -1,13 +1,12 @@
-use Rattle.operation.specs.Decide.{decideFound, operandsWait, operandWaits, operandsMasked, operandMasked}
-use Rattle.operation.specs.FoundOperands.{foundAt, allFoundAt}
-use Rattle.operand.specs.Access.{operandCell, waitsOf, sourceLeft, maskedOf}
-use Rattle.operation.specs.Perform.{perform, executed, leftOf, testOf, performQuit}
+use mathlib.Core.Path.{refl}
+use Rattle.control_operations.specs.Laws.Performed.{quits, stays}
+use Rattle.checks.specs.Laws.Found.{found-waits, found-masked, found-executes, continued}
+use Rattle.checks.specs.Laws.Operands.{wait-told, unused-operated, source-operated}
+use Rattle.step.specs.Performs.{fateCourse}
+use Rattle.step.specs.Parts.{fatePsws}
 use borrow.Author.Needs.{needs}
 use Rattle.control_operations.proofs.quit_found.Statement.{statement}
 use Rattle.control_operations.proofs.quit_found.Tie as tie
-
-cell-requires : tie.Need-cell-requires
-cell-requires c κs = search needs
 
 access-requires : tie.Need-access-requires
 access-requires c κs = search needs
@@ -16,36 +15,58 @@ waits-requires : tie.Need-waits-requires
 waits-requires c κs = search needs
 
 returns : tie.Need-returns
-unfolding decideFound operandsWait operandWaits waitsOf allFoundAt foundAt
-returns c = λ v i f g e. simp (e, c .if1 .taken, ← c .before .waits .ensures, ← c .before .before .access .ensures, ← c .before .before .before .cell .ensures)
+returns c = λ row v i words constants n fresh first second ob e own pb. found-waits _ _ _ _ _ _ _ _ _ _ _ _ (unused-operated _ _ _ _ _) _ _ _ _ _ (unused-operated _ _ _ _ _) _ _ _ _ _ (source-operated _ _ _ _ _ _ _ _ _ pb) _ _ _ _ _ _ _ _ (wait-told _ _ _ _ (c .before .waits .ensures) (c .before .before .access .ensures)) (c .if1 .taken)
 
 masked-requires : tie.Need-masked-requires
 masked-requires c κs = search needs
 
 returns-2 : tie.Need-returns-2
-unfolding decideFound operandsWait operandWaits waitsOf allFoundAt foundAt operandsMasked operandMasked maskedOf
-returns-2 c = λ v i f g e. simp (e, c .if2 .taken, ← c .before .masked .ensures, c .before .before .if1 .left, ← c .before .before .before .waits .ensures, ← c .before .before .before .before .access .ensures, ← c .before .before .before .before .before .cell .ensures)
+returns-2 c = λ row v i words constants n fresh first second ob e own pb. found-masked _ _ _ _ _ _ _ _ _ _ _ _ (unused-operated _ _ _ _ _) _ _ _ _ _ (unused-operated _ _ _ _ _) _ _ _ _ _ (source-operated _ _ _ _ _ _ _ _ _ pb) _ _ _ _ _ _ _ _ (wait-told _ _ _ _ (c .before .before .before .waits .ensures) (c .before .before .before .before .access .ensures)) (c .before .before .if1 .left) _ e _ (c .before .masked .ensures) (c .if2 .taken) own
 
-source-left-requires : tie.Need-source-left-requires
-source-left-requires c κs = search needs
+release-requires : tie.Need-release-requires
+release-requires c κs = search needs
 
-quit-fate-requires : tie.Need-quit-fate-requires
-quit-fate-requires c κs = search needs
+holds-requires : tie.Need-holds-requires
+holds-requires c κs = search needs
+
+same-length : tie.Need-same-length
+same-length c = search needs
 
 returns-3 : tie.Need-returns-3
-unfolding decideFound operandsWait operandWaits waitsOf operandsMasked operandMasked maskedOf allFoundAt foundAt operandCell perform executed leftOf sourceLeft testOf performQuit
-returns-3 c = λ v i f g e. simp (e, ← c .quit-fate .ensures, ← c .before .source-left .ensures, c .before .before .if2 .left, ← c .before .before .before .masked .ensures, c .before .before .before .before .if1 .left, ← c .before .before .before .before .before .waits .ensures, ← c .before .before .before .before .before .before .access .ensures, ← c .before .before .before .before .before .before .before .cell .ensures)
+unfolding fateCourse fatePsws
+returns-3 c = λ row v i words constants n fresh first second ob e own pb. found-executes _ _ _ _ _ _ _ _ _ _ _ _ (unused-operated _ _ _ _ _) _ _ _ _ _ (unused-operated _ _ _ _ _) _ _ _ _ _ (source-operated _ _ _ _ _ _ _ _ _ pb) _ _ _ _ _ _ _ _ (wait-told _ _ _ _ (c .before .before .before .before .before .before .before .before .before .waits .ensures) (c .before .before .before .before .before .before .before .before .before .before .access .ensures)) (c .before .before .before .before .before .before .before .before .if1 .left) _ e _ (c .before .before .before .before .before .before .before .masked .ensures) (c .before .before .before .before .before .before .if2 .left) _ (quits v i _ _ e _ _ (c .before .holds .ensures) (c .if3 .taken)) _ _ _ refl refl (c .before .before .before .before .release .ensures)
+
+next-requires : tie.Need-next-requires
+next-requires c κs = search needs
+
+continues-requires : tie.Need-continues-requires
+continues-requires c κs = search needs
+
+same-length-2 : tie.Need-same-length-2
+same-length-2 c = search needs
+
+same-length-3 : tie.Need-same-length-3
+same-length-3 c = search needs
+
+returns-4 : tie.Need-returns-4
+unfolding fateCourse
+returns-4 c = λ row v i words constants n fresh first second ob e own pb. found-executes _ _ _ _ _ _ _ _ _ _ _ _ (unused-operated _ _ _ _ _) _ _ _ _ _ (unused-operated _ _ _ _ _) _ _ _ _ _ (source-operated _ _ _ _ _ _ _ _ _ pb) _ _ _ _ _ _ _ _ (wait-told _ _ _ _ (c .before .before .before .before .before .before .before .before .before .before .before .before .before .before .waits .ensures) (c .before .before .before .before .before .before .before .before .before .before .before .before .before .before .before .access .ensures)) (c .before .before .before .before .before .before .before .before .before .before .before .before .before .if1 .left) _ e _ (c .before .before .before .before .before .before .before .before .before .before .before .before .masked .ensures) (c .before .before .before .before .before .before .before .before .before .before .before .if2 .left) _ (stays v i _ _ e _ _ (c .before .before .before .before .before .before .holds .ensures) (c .before .before .before .before .before .if3 .left)) _ _ _ (c .before .before .continues .ensures .0) (continued _ _ _ _ _ _ (c .before .before .continues .ensures .1) (c .before .before .before .next .ensures)) (c .before .before .before .before .before .before .before .before .before .release .ensures)
 
 pub quit-found-spec : {M : Type 1} → statement M
 quit-found-spec =
     tie.close
     (tie.spec
-    cell-requires
     access-requires
     waits-requires
     returns
     masked-requires
     returns-2
-    source-left-requires
-    quit-fate-requires
-    returns-3)
+    release-requires
+    holds-requires
+    same-length
+    returns-3
+    next-requires
+    continues-requires
+    same-length-2
+    same-length-3
+    returns-4)

@@ -1,6 +1,6 @@
-use Rattle.operation.specs.Roles.{svcRoles, illegalFields}
-use Rattle.operand.specs.Field.{illegalField}
-use Rattle.operation.specs.Decide.{decideCode}
+use mathlib.Core.Path.{refl}
+use Rattle.operation.specs.Laws.Found.{told}
+use Rattle.control_operations.specs.Laws.Performed.{svc-illegal, svc-traps}
 use borrow.Author.Needs.{needs}
 use Rattle.control_operations.proofs.svc.Statement.{statement}
 use Rattle.control_operations.proofs.svc.Tie as tie
@@ -9,15 +9,27 @@ illegal-two-unused-requires : tie.Need-illegal-two-unused-requires
 illegal-two-unused-requires c κs = search needs
 
 returns : tie.Need-returns
-unfolding decideCode svcRoles illegalFields illegalField
-returns c = λ v code first e. simp (e, c .if1 .taken, ← c .before .illegal-two-unused .ensures)
+returns c = λ row v code first fresh m n e own. svc-illegal v _ _ _ _ _ e (told (c .before .illegal-two-unused .ensures) (c .if1 .taken)) row _ _ _ m n own
 
 next-requires : tie.Need-next-requires
 next-requires c κs = search needs
 
+set-word-requires : tie.Need-set-word-requires
+set-word-requires c κs = search needs
+
+same-length : tie.Need-same-length
+same-length c = search needs
+
 returns-2 : tie.Need-returns-2
-unfolding decideCode svcRoles illegalFields illegalField
-returns-2 c = λ v code first e. simp (e, ← c .next .ensures, c .before .if1 .left, ← c .before .before .illegal-two-unused .ensures)
+returns-2 c = λ row v code first fresh m n e own. svc-traps v _ _ _ _ _ e (told (c .before .before .before .before .before .before .illegal-two-unused .ensures) (c .before .before .before .before .before .if1 .left)) row _ _ _ m n _ _ (c .before .before .set-word .ensures) (c .before .before .before .next .ensures)
 
 pub svc-spec : {M : Type 1} → statement M
-svc-spec = tie.close (tie.spec illegal-two-unused-requires returns next-requires returns-2)
+svc-spec =
+    tie.close
+    (tie.spec
+    illegal-two-unused-requires
+    returns
+    next-requires
+    set-word-requires
+    same-length
+    returns-2)

@@ -1,6 +1,6 @@
 use borrow.Author.Needs.{needs}
-use Rattle.control_operations.proofs.branch_fate.Statement.{statement}
-use Rattle.control_operations.proofs.branch_fate.Tie as tie
+use Rattle.control_operations.proofs.branch_psw.Statement.{statement}
+use Rattle.control_operations.proofs.branch_psw.Tie as tie
 
 holds-requires : tie.Need-holds-requires
 holds-requires c κs = search needs
@@ -23,8 +23,8 @@ next-requires c κs = search needs
 returns-2 : tie.Need-returns-2
 returns-2 c = simp (← c .next .ensures, c .before .if1 .left, ← c .before .before .holds .ensures)
 
-pub branch-fate-spec : {M : Type 1} → statement M
-branch-fate-spec =
+pub branch-psw-spec : {M : Type 1} → statement M
+branch-psw-spec =
     tie.close
     (tie.spec
     holds-requires

@@ -1,6 +1,6 @@
 use borrow.Author.Needs.{needs}
-use Rattle.control_operations.proofs.call_fate.Statement.{statement}
-use Rattle.control_operations.proofs.call_fate.Tie as tie
+use Rattle.control_operations.proofs.call_psw.Statement.{statement}
+use Rattle.control_operations.proofs.call_psw.Tie as tie
 
 holds-requires : tie.Need-holds-requires
 holds-requires c κs = search needs
@@ -17,6 +17,6 @@ next-requires c κs = search needs
 returns-2 : tie.Need-returns-2
 returns-2 c = simp (← c .next .ensures, c .before .if1 .left, ← c .before .before .holds .ensures)
 
-pub call-fate-spec : {M : Type 1} → statement M
-call-fate-spec =
+pub call-psw-spec : {M : Type 1} → statement M
+call-psw-spec =
     tie.close (tie.spec holds-requires called-psw-requires returns next-requires returns-2)
