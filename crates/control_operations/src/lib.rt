@@ -265,7 +265,7 @@ fn taken_field(bit: u16, field: u64, creator: u64) -> u64
 }
 
 // ACT bits 8, 4, 2, 1 take CI, RI, UTM, PC from S1.
-fn created_psw(act: u16, psw: u64, s1: u64) -> u64
+fn created_fields(act: u16, psw: u64, s1: u64) -> u64
     ensures { λ r. ⌜ r ≡ created act psw s1 ⌝ }
 {
     let ci = taken_field(act / 8, word::ci(s1) as u64, word::ci(psw) as u64);
@@ -273,6 +273,16 @@ fn created_psw(act: u16, psw: u64, s1: u64) -> u64
     let utm = taken_field(act / 2, word::utm(s1) as u64, word::utm(psw) as u64);
     let pc = taken_field(act, word::pc(s1) as u64, word::pc(psw) as u64 + 1);
     word::psw(ci, ri, utm, pc)
+}
+
+// The same; ACT 1, which most programs use, takes PC alone, as CALL does.
+fn created_psw(act: u16, psw: u64, s1: u64) -> u64
+    ensures { λ r. ⌜ r ≡ created act psw s1 ⌝ }
+{
+    if act == 1 {
+        return called_psw(psw, s1);
+    }
+    created_fields(act, psw, s1)
 }
 
 // Check 8: a true CREATE with the create fault flag up.

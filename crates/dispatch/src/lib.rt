@@ -1,335 +1,392 @@
-// What a step decides: the instruction is fetched, decoded and handed to its operation.
+// One instruction of a process: it is fetched, decoded and handed to its operation, which acts at once.
 ghost use mathlib.Core.Path.{_≡_};
-ghost use Prim.Native.Nat.{ℕ};
 ghost use mathlib.Core.List.{List};
+ghost use lib.ListN.{getD};
+ghost use Prim.Native.Nat.{ℕ, _≤_};
+ghost use Rattle.window.specs.declared.Row.{Row};
+ghost use Rattle.window.specs.Windows.{programWindow, dataWindow};
+ghost use Rattle.window.specs.Spans.{Span};
 ghost use Rattle.window.specs.Memories.{Memory, memory};
+ghost use Rattle.operand.specs.Spans.{Spans};
 ghost use Rattle.operation.specs.declared.Code.the-variants.{Listed};
-ghost use Rattle.operation.specs.declared.Operation.the-variants as operation;
 ghost use Rattle.operation.specs.Environment.{environmentOf};
 ghost use Rattle.operation.specs.Decide.{decideCode, decide};
 ghost use Rattle.operation.specs.FoundOperands.{instruction};
+ghost use Rattle.step.specs.Performs.{Performs};
+ghost use Rattle.register_operations.specs.Numbers.{numberOf};
 use operation::Code;
-use operation::Decision;
+use operation::Course;
 use operation::Operation;
-use operation::Trap;
 use window::Place;
-use window::Row;
-use word::Bit;
-use word::Integer;
-use word::Vector;
 
-// By the sources that the operation has.
-fn decide_integer(
-    op: Integer,
-    row: Row,
-    psw: u64,
-    first: u16,
-    second: u16,
-    third: u16,
-    tags: &[u8],
-    words: &[u64],
-    constants: &[u64],
-) -> Decision
-    ensures { λ r. ⌜ ((code flag : ℕ) (program : List ℕ) (dataWords : Memory) → r ≡ decideCode (Listed (operation.Integer op)) (environmentOf row psw flag program (now (constants .entry)) (memory (now (tags .entry)) (now (words .entry))) dataWords) (instruction code first second third)) ⌝ }
-{
-    if register_operations::integer_pair(op) {
-        return register_operations::integer_three(
-            op,
-            row,
-            psw,
-            first,
-            second,
-            third,
-            tags,
-            words,
-            constants,
-        );
-    }
-    register_operations::integer_two(op, row, psw, first, second, third, tags, words, constants)
-}
-
-fn decide_bit(
-    op: Bit,
-    row: Row,
-    psw: u64,
-    first: u16,
-    second: u16,
-    third: u16,
-    tags: &[u8],
-    words: &[u64],
-    constants: &[u64],
-) -> Decision
-    ensures { λ r. ⌜ ((code flag : ℕ) (program : List ℕ) (dataWords : Memory) → r ≡ decideCode (Listed (operation.Bit op)) (environmentOf row psw flag program (now (constants .entry)) (memory (now (tags .entry)) (now (words .entry))) dataWords) (instruction code first second third)) ⌝ }
-{
-    if register_operations::bit_pair(op) {
-        return register_operations::bit_three(
-            op,
-            row,
-            psw,
-            first,
-            second,
-            third,
-            tags,
-            words,
-            constants,
-        );
-    }
-    register_operations::bit_two(op, row, psw, first, second, third, tags, words, constants)
-}
-
-fn decide_vector(
-    op: Vector,
-    row: Row,
-    psw: u64,
-    first: u16,
-    second: u16,
-    third: u16,
-    tags: &[u8],
-    words: &[u64],
-    constants: &[u64],
-) -> Decision
-    ensures { λ r. ⌜ ((code flag : ℕ) (program : List ℕ) (dataWords : Memory) → r ≡ decideCode (Listed (operation.Vector op)) (environmentOf row psw flag program (now (constants .entry)) (memory (now (tags .entry)) (now (words .entry))) dataWords) (instruction code first second third)) ⌝ }
-{
-    let sources = register_operations::vector_sources(op);
-    if sources == 2 {
-        return register_operations::vector_three(
-            op,
-            row,
-            psw,
-            first,
-            second,
-            third,
-            tags,
-            words,
-            constants,
-        );
-    }
-    if sources == 0 {
-        return register_operations::vector_one(
-            op,
-            row,
-            psw,
-            first,
-            second,
-            third,
-            tags,
-            words,
-            constants,
-        );
-    }
-    register_operations::vector_two(op, row, psw, first, second, third, tags, words, constants)
-}
-
-// Each operation on its own fields.
-fn decide_listed(
+// An operation that is none of the register operations.
+fn perform_other(
     op: Operation,
-    row: Row,
+    cb: u32,
+    base: u32,
+    end: u32,
+    data_base: u32,
+    data_end: u32,
+    psws: &mut [u64],
+    pt: usize,
     psw: u64,
     flag: u8,
+    fresh: usize,
     first: u16,
     second: u16,
     third: u16,
-    tags: &[u8],
-    words: &[u64],
     constants: &[u64],
-    data_tags: &[u8],
-    data_words: &[u64],
-) -> Decision
-    ensures { λ r. ⌜ ((code : ℕ) (program : List ℕ) → r ≡ decideCode (Listed op) (environmentOf row psw flag program (now (constants .entry)) (memory (now (tags .entry)) (now (words .entry))) (memory (now (data_tags .entry)) (now (data_words .entry)))) (instruction code first second third)) ⌝ }
+    register_tags: &mut [u8],
+    register_words: &mut [u64],
+    data_tags: &mut [u8],
+    data_words: &mut [u64],
+) -> Course
+    ensures { λ r. ⌜ ((row : Row) (code : ℕ) (program : List ℕ) → 18 ≤ numberOf op → Spans row cb base end → Span (dataWindow row) data_base data_end → psw ≡ getD (now (psws .entry)) pt 0 → Performs row (decideCode (Listed op) (environmentOf row psw flag program (now (constants .entry)) (memory (now («register_tags» .entry)) (now («register_words» .entry))) (memory (now (data_tags .entry)) (now (data_words .entry)))) (instruction code first second third)) pt fresh r (now (psws .entry)) (now (psws .exit)) (memory (now («register_tags» .entry)) (now («register_words» .entry))) (memory (now («register_tags» .exit)) (now («register_words» .exit))) (memory (now (data_tags .entry)) (now (data_words .entry))) (memory (now (data_tags .exit)) (now (data_words .exit)))) ⌝ }
 {
     match op {
-        Operation::Nop => control_operations::nop(psw, first, second, third),
-        Operation::Vector(o) => decide_vector(
-            o,
-            row,
-            psw,
-            first,
-            second,
-            third,
-            tags,
-            words,
-            constants,
-        ),
-        Operation::Bit(o) => decide_bit(o, row, psw, first, second, third, tags, words, constants),
-        Operation::Integer(o) => decide_integer(
-            o,
-            row,
-            psw,
-            first,
-            second,
-            third,
-            tags,
-            words,
-            constants,
-        ),
+        Operation::Nop => control_operations::nop(psws, pt, psw, first, second, third),
+        Operation::Vector(_) => Course::IllegalInstruction,
+        Operation::Bit(_) => Course::IllegalInstruction,
+        Operation::Integer(_) => Course::IllegalInstruction,
         Operation::Branch(c, p) => control_operations::branch(
             c,
             p,
-            row,
+            cb,
+            base,
+            end,
+            psws,
+            pt,
             psw,
             first,
             second,
             third,
-            tags,
-            words,
             constants,
+            register_tags,
+            register_words,
         ),
         Operation::Call(c) => control_operations::call(
             c,
-            row,
+            cb,
+            base,
+            end,
+            psws,
+            pt,
             psw,
             first,
             second,
             third,
-            tags,
-            words,
             constants,
+            register_tags,
+            register_words,
         ),
         Operation::Create(c, act) => control_operations::create(
             c,
             act,
-            row,
+            cb,
+            base,
+            end,
+            psws,
+            pt,
             psw,
             flag,
+            fresh,
             first,
             second,
             third,
-            tags,
-            words,
             constants,
+            register_tags,
+            register_words,
         ),
         Operation::Quit(c) => control_operations::quit(
             c,
-            row,
+            cb,
+            base,
+            end,
+            psws,
+            pt,
             psw,
             first,
             second,
             third,
-            tags,
-            words,
             constants,
+            register_tags,
+            register_words,
         ),
         Operation::LoadIndirect(low) => data_operations::load_indirect(
             low,
-            row,
+            cb,
+            base,
+            end,
+            data_base,
+            data_end,
+            psws,
+            pt,
             psw,
             first,
             second,
             third,
-            tags,
-            words,
             constants,
+            register_tags,
+            register_words,
             data_tags,
             data_words,
         ),
         Operation::LoadIndexed(low) => data_operations::load_indexed(
             low,
-            row,
+            cb,
+            base,
+            end,
+            data_base,
+            data_end,
+            psws,
+            pt,
             psw,
             first,
             second,
             third,
-            tags,
-            words,
             constants,
+            register_tags,
+            register_words,
             data_tags,
             data_words,
         ),
         Operation::StoreIndirect(low) => data_operations::store_indirect(
             low,
-            row,
+            cb,
+            base,
+            end,
+            data_base,
+            data_end,
+            psws,
+            pt,
             psw,
             first,
             second,
             third,
-            tags,
-            words,
             constants,
-            data_tags,
-        ),
-        Operation::StoreIndexed(low) => data_operations::store_indexed(
-            low,
-            row,
-            psw,
-            first,
-            second,
-            third,
-            tags,
-            words,
-            constants,
-            data_tags,
-        ),
-    }
-}
-
-// Checks 2 and 3 of the code; the other checks are the operation's.
-fn decide_code(
-    code: Code,
-    row: Row,
-    psw: u64,
-    flag: u8,
-    first: u16,
-    second: u16,
-    third: u16,
-    tags: &[u8],
-    words: &[u64],
-    constants: &[u64],
-    data_tags: &[u8],
-    data_words: &[u64],
-) -> Decision
-    ensures { λ r. ⌜ ((k : ℕ) (program : List ℕ) → r ≡ decideCode code (environmentOf row psw flag program (now (constants .entry)) (memory (now (tags .entry)) (now (words .entry))) (memory (now (data_tags .entry)) (now (data_words .entry)))) (instruction k first second third)) ⌝ }
-{
-    match code {
-        Code::Privileged => Decision::Traps(Trap::PrivilegedInstruction, psw),
-        Code::Simulated => Decision::Traps(Trap::SimulatedInstruction, psw),
-        Code::Svc => control_operations::svc(psw, second, third),
-        Code::Listed(op) => decide_listed(
-            op,
-            row,
-            psw,
-            flag,
-            first,
-            second,
-            third,
-            tags,
-            words,
-            constants,
+            register_tags,
+            register_words,
             data_tags,
             data_words,
         ),
-        Code::Unlisted => Decision::Traps(Trap::IllegalInstruction, psw),
+        Operation::StoreIndexed(low) => data_operations::store_indexed(
+            low,
+            cb,
+            base,
+            end,
+            data_base,
+            data_end,
+            psws,
+            pt,
+            psw,
+            first,
+            second,
+            third,
+            constants,
+            register_tags,
+            register_words,
+            data_tags,
+            data_words,
+        ),
     }
 }
 
-// What the head process of a task decides; psw is its PSW. Check 1: PC outside the program window.
-pub fn decide(
-    row: Row,
+// A listed operation, register operations by number.
+fn perform_listed(
+    op: Operation,
+    cb: u32,
+    base: u32,
+    end: u32,
+    data_base: u32,
+    data_end: u32,
+    psws: &mut [u64],
+    pt: usize,
     psw: u64,
     flag: u8,
-    program: &[u64],
-    tags: &[u8],
-    words: &[u64],
+    fresh: usize,
+    first: u16,
+    second: u16,
+    third: u16,
     constants: &[u64],
-    data_tags: &[u8],
-    data_words: &[u64],
-) -> Decision
-    ensures { λ r. ⌜ r ≡ decide (environmentOf row psw flag (now (program .entry)) (now (constants .entry)) (memory (now (tags .entry)) (now (words .entry))) (memory (now (data_tags .entry)) (now (data_words .entry)))) ⌝ }
+    register_tags: &mut [u8],
+    register_words: &mut [u64],
+    data_tags: &mut [u8],
+    data_words: &mut [u64],
+) -> Course
+    ensures { λ r. ⌜ ((row : Row) (code : ℕ) (program : List ℕ) → Spans row cb base end → Span (dataWindow row) data_base data_end → psw ≡ getD (now (psws .entry)) pt 0 → Performs row (decideCode (Listed op) (environmentOf row psw flag program (now (constants .entry)) (memory (now («register_tags» .entry)) (now («register_words» .entry))) (memory (now (data_tags .entry)) (now (data_words .entry)))) (instruction code first second third)) pt fresh r (now (psws .entry)) (now (psws .exit)) (memory (now («register_tags» .entry)) (now («register_words» .entry))) (memory (now («register_tags» .exit)) (now («register_words» .exit))) (memory (now (data_tags .entry)) (now (data_words .entry))) (memory (now (data_tags .exit)) (now (data_words .exit)))) ⌝ }
 {
-    let Place::At(a) = window::place_in(window::program_window(row), word::pc(psw)) else {
-        return Decision::Traps(Trap::ProtectionViolation, psw);
-    };
-    let i = word::instruction_of(window::word_at(program, a));
-    decide_code(
-        decode::decode(i.code),
-        row,
+    let k = register_operations::number_of(op);
+    if k < 10 {
+        return register_operations::three(
+            k,
+            cb,
+            base,
+            end,
+            psws,
+            pt,
+            psw,
+            first,
+            second,
+            third,
+            constants,
+            register_tags,
+            register_words,
+        );
+    }
+    if k < 16 {
+        return register_operations::two(
+            k,
+            cb,
+            base,
+            end,
+            psws,
+            pt,
+            psw,
+            first,
+            second,
+            third,
+            constants,
+            register_tags,
+            register_words,
+        );
+    }
+    if k < 18 {
+        return register_operations::one(
+            k,
+            base,
+            end,
+            psws,
+            pt,
+            psw,
+            first,
+            second,
+            third,
+            register_tags,
+            register_words,
+        );
+    }
+    perform_other(
+        op,
+        cb,
+        base,
+        end,
+        data_base,
+        data_end,
+        psws,
+        pt,
         psw,
         flag,
+        fresh,
+        first,
+        second,
+        third,
+        constants,
+        register_tags,
+        register_words,
+        data_tags,
+        data_words,
+    )
+}
+
+// Checks 2 and 3 of the code; the other checks are the operation's.
+fn perform_code(
+    code: Code,
+    cb: u32,
+    base: u32,
+    end: u32,
+    data_base: u32,
+    data_end: u32,
+    psws: &mut [u64],
+    pt: usize,
+    psw: u64,
+    flag: u8,
+    fresh: usize,
+    first: u16,
+    second: u16,
+    third: u16,
+    constants: &[u64],
+    register_tags: &mut [u8],
+    register_words: &mut [u64],
+    data_tags: &mut [u8],
+    data_words: &mut [u64],
+) -> Course
+    ensures { λ r. ⌜ ((row : Row) (k : ℕ) (program : List ℕ) → Spans row cb base end → Span (dataWindow row) data_base data_end → psw ≡ getD (now (psws .entry)) pt 0 → Performs row (decideCode code (environmentOf row psw flag program (now (constants .entry)) (memory (now («register_tags» .entry)) (now («register_words» .entry))) (memory (now (data_tags .entry)) (now (data_words .entry)))) (instruction k first second third)) pt fresh r (now (psws .entry)) (now (psws .exit)) (memory (now («register_tags» .entry)) (now («register_words» .entry))) (memory (now («register_tags» .exit)) (now («register_words» .exit))) (memory (now (data_tags .entry)) (now (data_words .entry))) (memory (now (data_tags .exit)) (now (data_words .exit)))) ⌝ }
+{
+    match code {
+        Code::Privileged => Course::PrivilegedInstruction,
+        Code::Simulated => Course::SimulatedInstruction,
+        Code::Svc => control_operations::svc(psws, pt, psw, second, third),
+        Code::Listed(op) => perform_listed(
+            op,
+            cb,
+            base,
+            end,
+            data_base,
+            data_end,
+            psws,
+            pt,
+            psw,
+            flag,
+            fresh,
+            first,
+            second,
+            third,
+            constants,
+            register_tags,
+            register_words,
+            data_tags,
+            data_words,
+        ),
+        Code::Unlisted => Course::IllegalInstruction,
+    }
+}
+
+// What the process with the PT pt and the PSW psw does; a created process gets the PT fresh. Each window of the task goes from its base on and ends below its end; cb is the
+// task's constant base doubled. Check 1: PC outside the program window.
+pub fn perform(
+    cb: u32,
+    base: u32,
+    end: u32,
+    program_base: u32,
+    program_end: u32,
+    data_base: u32,
+    data_end: u32,
+    psws: &mut [u64],
+    pt: usize,
+    psw: u64,
+    flag: u8,
+    fresh: usize,
+    constants: &[u64],
+    register_tags: &mut [u8],
+    register_words: &mut [u64],
+    program: &[u64],
+    data_tags: &mut [u8],
+    data_words: &mut [u64],
+) -> Course
+    ensures { λ r. ⌜ ((row : Row) → Spans row cb base end → Span (programWindow row) «program_base» «program_end» → Span (dataWindow row) data_base data_end → psw ≡ getD (now (psws .entry)) pt 0 → Performs row (decide (environmentOf row psw flag (now (program .entry)) (now (constants .entry)) (memory (now («register_tags» .entry)) (now («register_words» .entry))) (memory (now (data_tags .entry)) (now (data_words .entry))))) pt fresh r (now (psws .entry)) (now (psws .exit)) (memory (now («register_tags» .entry)) (now («register_words» .entry))) (memory (now («register_tags» .exit)) (now («register_words» .exit))) (memory (now (data_tags .entry)) (now (data_words .entry))) (memory (now (data_tags .exit)) (now (data_words .exit)))) ⌝ }
+{
+    let Place::At(a) = window::place_below(program_base, program_end, word::pc(psw)) else {
+        return Course::ProtectionViolation;
+    };
+    let i = word::instruction_of(window::word_at(program, a));
+    perform_code(
+        decode::decode(i.code),
+        cb,
+        base,
+        end,
+        data_base,
+        data_end,
+        psws,
+        pt,
+        psw,
+        flag,
+        fresh,
         i.first,
         i.second,
         i.third,
-        tags,
-        words,
         constants,
+        register_tags,
+        register_words,
         data_tags,
         data_words,
     )

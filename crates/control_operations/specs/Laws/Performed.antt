@@ -94,3 +94,8 @@ module _ (v : Environment) (code first second third psw : ℕ) (of : v .psw ≡ 
   svc-traps e row pt fresh psws m n next psws′ f g =
       performs-along row _ _ pt fresh go.SupervisorCall psws psws′ m m n n (rw e)
       (performs-stores row pt fresh psws m n trap.SupervisorCall (nextOf (v .psw)) go.SupervisorCall psws′ refl (f ∙ ap (set psws pt) (g ∙ ap nextOf (sym of))))
+
+-- ACT 1
+pub created-one : (act psw s1 r : ℕ) → r ≡ called psw s1 → act ≡ 1 → r ≡ created act psw s1
+unfolding called created
+created-one act psw s1 r e f = rw f e

@@ -3,8 +3,10 @@ use Prim.Native.Nat.{ℕ, _<_, _≤_}
 use mathlib.Core.Logic.{_≢_}
 use native.Mathlib.Omega.{arith}
 use mathlib.Core.Path.{_≡_, refl, sym, ap, _∙_, subst}
-use mathlib.Core.Bool.{Bool}
+use mathlib.Core.Bool.{Bool, cond}
+use lib.Dec.{ltb}
 use lib.ListN.{getD}
+use borrow.Author.Tests.{lt-ltb, le-ltb}
 use Rattle.word.specs.declared.Instruction.{Instruction}
 use Rattle.word.specs.declared.Outcome.{Outcome}
 use Rattle.word.specs.declared.Vector.{Vector}
@@ -18,7 +20,8 @@ use Rattle.operation.specs.declared.Operation.{Operation}
 use Rattle.operation.specs.declared.Operation.the-variants as operation
 use Rattle.operation.specs.declared.FoundOperands.{FoundOperands}
 use Rattle.operation.specs.Environment.{Environment}
-use Rattle.operation.specs.Roles.{illegalAccess, illegalFields, illegalInstruction}
+use Rattle.operand.specs.declared.Role.the-variants.{Unused, Destination, Source}
+use Rattle.operation.specs.Roles.{roles, vectorRoles, bitRoles, integerRoles, rolesOf, illegalAccess, illegalFields, illegalInstruction}
 use Rattle.operation.specs.Perform.{perform, performResult}
 use Rattle.register_operations.specs.Numbers.{vectorNumber, bitNumber, integerNumber, numberOf, outcomeOf, numbered, operationAt}
 
@@ -110,3 +113,44 @@ is-fifteen k h l a b c d e = omega arith
 
 pub is-seventeen : (k : ℕ) → 16 ≤ k → k < 18 → k ≢ 16 → k ≡ 17
 is-seventeen k h l a = omega arith
+
+-- the roles by number
+unfoldable rolesAt : ℕ → Roles
+rolesAt k = roles Destination (cond (ltb k 16) Source Unused) (cond (ltb k 10) Source Unused)
+
+roles-at : (op : Operation) → Family op → rolesOf op ≡ rolesAt (numberOf op)
+unfolding rolesOf vectorRoles bitRoles integerRoles numberOf vectorNumber bitNumber integerNumber rolesAt
+roles-at _ (vector Eor) = refl
+roles-at _ (vector Eqv) = refl
+roles-at _ (vector Nand) = refl
+roles-at _ (vector Nor) = refl
+roles-at _ (vector Or) = refl
+roles-at _ (vector Mov) = refl
+roles-at _ (vector Not) = refl
+roles-at _ (vector Clr) = refl
+roles-at _ (vector One) = refl
+roles-at _ (bit Bitclr) = refl
+roles-at _ (bit Bitset) = refl
+roles-at _ (bit Encode0) = refl
+roles-at _ (bit Encode1) = refl
+roles-at _ (integer Add) = refl
+roles-at _ (integer Sub) = refl
+roles-at _ (integer Mul) = refl
+roles-at _ (integer Inc) = refl
+roles-at _ (integer Dec) = refl
+
+module _ (op : Operation) (k : ℕ) (e : k ≡ numberOf op) where
+  three-at : k < 18 → rolesOf op ≡ rolesAt k
+  three-at h = rw e (roles-at op (family op (omega arith)))
+
+  pub three-roles : k < 10 → rolesOf op ≡ roles Destination Source Source
+  unfolding rolesAt
+  three-roles h = rw (lt-ltb k 16 (omega arith), lt-ltb k 10 h) at (three-at (omega arith))
+
+  pub two-roles : 10 ≤ k → k < 16 → rolesOf op ≡ roles Destination Source Unused
+  unfolding rolesAt
+  two-roles g h = rw (lt-ltb k 16 h, le-ltb k 10 g) at (three-at (omega arith))
+
+  pub one-roles : 16 ≤ k → k < 18 → rolesOf op ≡ roles Destination Unused Unused
+  unfolding rolesAt
+  one-roles g h = rw (le-ltb k 16 g, le-ltb k 10 (omega arith)) at (three-at h)
