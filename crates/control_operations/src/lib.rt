@@ -464,6 +464,7 @@ pub fn svc(psws: &mut [u64], pt: usize, psw: u64, second: u16, third: u16) -> Co
     if checks::illegal_two_unused(second, third) {
         return Course::IllegalInstruction;
     }
-    window::set_word(psws, pt, word::next(psw));
+    let past = word::next(psw);
+    window::set_word(psws, pt, past);
     Course::SupervisorCall
 }

@@ -1,10 +1,11 @@
-// Runs one step of each operation on the same small machine, and prints how it ends and what it leaves: registers 0 to 5, data words 8 and 9,
+// Runs one item, a step of each operation, on the same small machine, and prints how it ends and what it leaves: registers 0 to 5, data words 8 and 9,
 // the PSW of the head process before the step, and the live processes. The lines are held to those of the reference emulator.
 use libc::STDOUT_FILENO;
-use step::Ending;
+use run::Counts;
+use runner::Ran;
+use runner::RunAnswer;
 use step::ProcessTable;
 use step::Queue;
-use stepper::RowStep;
 use window::Row;
 
 // Registers 0 to 7, program words 0 to 15, data words 0 to 31.
@@ -47,12 +48,25 @@ fn print(text: &[u8]) {
     io::write_all(STDOUT_FILENO, text);
 }
 
-fn print_ending(e: Ending) {
-    match e {
-        Ending::Executed => print(b" executed"),
-        Ending::Waved => print(b" waved"),
-        Ending::Trapped(_, _) => print(b" trapped"),
-        Ending::Idle => print(b" idle"),
+fn print_ending(c: Counts) {
+    if c.executed == 1 {
+        print(b" executed");
+    }
+    if c.waved == 1 {
+        print(b" waved");
+    }
+    if c.trapped == 1 {
+        print(b" trapped");
+    }
+    if c.idle == 1 {
+        print(b" idle");
+    }
+}
+
+fn print_answer(answer: RunAnswer) {
+    match answer {
+        RunAnswer::Refused(_) => print(b" refused"),
+        RunAnswer::Counted(c) => print_ending(c),
     }
 }
 
@@ -64,8 +78,9 @@ fn print_cell(tag: u8, word: u64) {
 }
 
 // The trap record, the PSW of PT 3, and how many processes the task has.
-fn print_step(x: RowStep) {
-    let row = x.row;
+fn print_step(x: Ran) {
+    let rows = x.rows;
+    let row = rows[0];
     let table = x.table;
     let queue = table.queues[0];
     print(b" kind ");
@@ -91,9 +106,12 @@ fn trial(name: &[u8], instruction: u64) {
     let mut data_words = [0u64; 32];
     data_words[8] = 99;
     data_words[9] = 77;
-    let x = stepper::step_row(
-        trial_row(),
+    let rows = [trial_row(); 7];
+    let x = runner::run(
+        rows,
+        1,
         trial_table(),
+        &[1],
         &program,
         &constants,
         &mut tags,
@@ -102,8 +120,8 @@ fn trial(name: &[u8], instruction: u64) {
         &mut data_words,
     );
     print(name);
-    let e = x.ending;
-    print_ending(e);
+    let answer = x.answer;
+    print_answer(answer);
     print_cell(tags[0], words[0]);
     print_cell(tags[1], words[1]);
     print_cell(tags[2], words[2]);
