@@ -21,7 +21,7 @@ same-length : tie.Need-same-length
 same-length c = search needs
 
 returns-2 : tie.Need-returns-2
-returns-2 c = λ row v code first fresh m n e own. svc-traps v _ _ _ _ _ e (told (c .before .before .before .before .before .before .illegal-two-unused .ensures) (c .before .before .before .before .before .if1 .left)) row _ _ _ m n _ _ (c .before .before .set-word .ensures) (c .before .before .before .next .ensures)
+returns-2 c = λ row v code first fresh m n e own. svc-traps v _ _ _ _ _ e (told (c .before .before .before .before .before .before .illegal-two-unused .ensures) (c .before .before .before .before .before .if1 .left)) row _ _ _ m n _ _ (c .before .before .set-word .ensures) (c .before .before .before .before .next .ensures)
 
 pub svc-spec : {M : Type 1} → statement M
 svc-spec =
