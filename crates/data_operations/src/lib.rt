@@ -1,36 +1,40 @@
-// The operations on data words: LODI, LODX, STOI, STOX.
+// The operations on data words: LODI, LODX, STOI, STOX. Each acts at once: the public function tests SAC, DAC and the fields and looks the operands up, the function `_found` tests what
+// stands there, then writes. D is the register d; S0, S1, S2 lie at c, a, b with the tags t, x, y and the words s0, s1, s2; the data window has the bytes from data_base on and below data_end.
 ghost use mathlib.Core.Path.{_≡_};
 ghost use Prim.Native.Nat.{ℕ, _+_, _%_, _^_};
 ghost use mathlib.Core.Bool.{_||_};
 ghost use mathlib.Core.List.{List};
+ghost use lib.ListN.{getD, set};
 ghost use Rattle.word.specs.declared.Instruction.{Instruction};
-ghost use Rattle.window.specs.declared.Cell.{Cell};
-ghost use Rattle.window.specs.declared.Write.the-variants.{Put};
-ghost use Rattle.window.specs.Windows.{bytePlace};
-ghost use Rattle.window.specs.Memories.{memory, cell, cellAt};
+ghost use Rattle.window.specs.declared.Row.{Row};
+ghost use Rattle.window.specs.Windows.{dataWindow};
+ghost use Rattle.window.specs.Memories.{memory};
+ghost use Rattle.window.specs.Spans.{Span, byteBelow};
 ghost use Rattle.operand.specs.declared.Role.the-variants.{Unused, Destination, Source};
+ghost use Rattle.operand.specs.declared.Operand.{Operand};
 ghost use Rattle.operand.specs.declared.Operand.the-variants.{Absent};
 ghost use Rattle.operand.specs.Field.{illegalField};
+ghost use Rattle.operand.specs.Spans.{Spans};
 ghost use Rattle.operation.specs.declared.Operation.the-variants.{LoadIndirect, LoadIndexed, StoreIndirect, StoreIndexed};
 ghost use Rattle.operation.specs.Roles.{roles, illegalLoad, illegalStore};
-ghost use Rattle.operation.specs.Perform.{wordPlace, loadWaits, loadLeaves, loadWord, storeWaits, storeWord};
+ghost use Rattle.operation.specs.Perform.{wordPlace, loadWaits, storeWaits};
 ghost use Rattle.operation.specs.Environment.{environmentOf};
 ghost use Rattle.operation.specs.Decide.{decideFound, decideListed};
-ghost use Rattle.operation.specs.FoundOperands.{instruction, foundWith, allFoundAt};
+ghost use Rattle.operation.specs.FoundOperands.{instruction, allFoundAt};
+ghost use Rattle.step.specs.Performs.{Performs};
+ghost use Rattle.checks.specs.Operands.{Destined, Sourced};
+ghost use Rattle.data_operations.specs.Reached.{reachOf, tagsLeft};
 use operand::Lookup;
-use operand::Operand;
 use operand::Role;
-use operation::Decision;
-use operation::Effects;
-use operation::Fate;
-use operation::Reach;
-use operation::Trap;
-use operation::Wait;
-use window::Cell;
+use operation::Course;
 use window::Place;
-use window::Row;
-use window::Write;
-use word::Outcome;
+
+// What check 7 answers: the data word by real address, or why the step traps.
+pub enum Reached {
+    Word(usize),
+    Violation,
+    Simulated,
+}
 
 // The low 32 bits of S1.
 fn indirect_address(s1: u64) -> u32
@@ -47,19 +51,19 @@ fn indexed_address(s1: u64, s2: u64) -> u32
 }
 
 // Check 7: 14, then 1C.
-fn word_place(low: u16, row: Row, e: u32) -> Reach
-    ensures { λ r. ⌜ r ≡ wordPlace low e (bytePlace row e) ⌝ }
+fn word_place(low: u16, data_base: u32, data_end: u32, e: u32) -> Reached
+    ensures { λ r. ⌜ reachOf r ≡ wordPlace low e (byteBelow data_base data_end e) ⌝ }
 {
-    let Place::At(a) = window::byte_place(row, e) else {
-        return Reach::Stops(Trap::ProtectionViolation);
+    let Place::At(a) = window::byte_below(data_base, data_end, e) else {
+        return Reached::Violation;
     };
     if (low / 16) % 2 == 1 {
-        return Reach::Stops(Trap::SimulatedInstruction);
+        return Reached::Simulated;
     }
     if e % 8 != 0 {
-        return Reach::Stops(Trap::SimulatedInstruction);
+        return Reached::Simulated;
     }
-    Reach::Reaches(a / 8)
+    Reached::Word(a / 8)
 }
 
 // SAC 3, or DAC, which a load does not use.
@@ -83,13 +87,12 @@ fn load_waits(low: u16, tag: u8) -> bool
 }
 
 // SAC 2 sets the data word empty.
-fn load_leaves(low: u16, a: usize, word: u64) -> Write
-    ensures { λ r. ⌜ r ≡ loadLeaves low a word ⌝ }
+fn load_leaves(low: u16, p: usize, data_tags: &mut [u8])
+    ensures { λ _. ⌜ now (data_tags .exit) ≡ tagsLeft low p (now (data_tags .entry)) ⌝ }
 {
     if low / 4 % 4 == 2 {
-        return Write::Put(a, Cell { tag: 0, word });
+        window::set_tag(data_tags, p, 0);
     }
-    Write::Nothing
 }
 
 // D, S1, an unused field.
@@ -102,112 +105,105 @@ fn illegal_load_d_s1(low: u16, first: u16, second: u16, third: u16) -> bool
     checks::illegal_d_s1(first, second, third)
 }
 
-// D, S1 and the data word at the real word address p.
-fn loaded_d_s1(
-    low: u16,
-    p: usize,
-    psw: u64,
-    first: u16,
-    d: Operand,
-    second: u16,
-    a: Operand,
-    x: Cell,
-    data_tags: &[u8],
-    data_words: &[u64],
-) -> Decision
-    ensures { λ r. ⌜ ((third : ℕ) (t y : Cell) → r ≡ loadWord psw (record { first = foundWith Destination first d t; second = foundWith Source second a x; third = foundWith Unused third Absent y }) low p (cellAt (memory (now (data_tags .entry)) (now (data_words .entry))) p)) ⌝ }
-{
-    let k = window::cell_at(data_tags, data_words, p);
-    if load_waits(low, k.tag) {
-        return Decision::Waits(Wait::Data);
-    }
-    let out = Outcome {
-        word: k.word,
-        quality: 0,
-    };
-    let leaves = load_leaves(low, p, k.word);
-    let fate = Fate::Continues(word::next(psw));
-    checks::executed_d_s1(first, d, second, a, x, out, leaves, fate)
-}
-
 // LODI from check 5 on.
 fn load_indirect_found(
     low: u16,
-    row: Row,
+    data_base: u32,
+    data_end: u32,
+    psws: &mut [u64],
+    pt: usize,
     psw: u64,
     first: u16,
+    d: usize,
     second: u16,
-    d: Operand,
-    a: Operand,
-    tags: &[u8],
-    words: &[u64],
-    constants: &[u64],
-    data_tags: &[u8],
+    a: usize,
+    x: u8,
+    s1: u64,
+    register_tags: &mut [u8],
+    register_words: &mut [u64],
+    data_tags: &mut [u8],
     data_words: &[u64],
-) -> Decision
-    ensures { λ r. ⌜ ((i : Instruction) (third flag : ℕ) (program : List ℕ) → r ≡ decideFound (LoadIndirect low) (environmentOf row psw flag program (now (constants .entry)) (memory (now (tags .entry)) (now (words .entry))) (memory (now (data_tags .entry)) (now (data_words .entry)))) i (allFoundAt (memory (now (tags .entry)) (now (words .entry))) (now (constants .entry)) (roles Destination Source Unused) first second third d a Absent)) ⌝ }
+) -> Course
+    ensures { λ r. ⌜ ((row : Row) (i : Instruction) (flag fresh : ℕ) (program constants : List ℕ) (third : ℕ) (od oa : Operand) → Span (dataWindow row) data_base data_end → psw ≡ getD (now (psws .entry)) pt 0 → Destined row od d → Sourced row (now («register_tags» .entry)) (now («register_words» .entry)) constants second oa a x s1 → Performs row (decideFound (LoadIndirect low) (environmentOf row psw flag program constants (memory (now («register_tags» .entry)) (now («register_words» .entry))) (memory (now (data_tags .entry)) (now (data_words .entry)))) i (allFoundAt (memory (now («register_tags» .entry)) (now («register_words» .entry))) constants (roles Destination Source Unused) first second third od oa Absent)) pt fresh r (now (psws .entry)) (now (psws .exit)) (memory (now («register_tags» .entry)) (now («register_words» .entry))) (memory (now («register_tags» .exit)) (now («register_words» .exit))) (memory (now (data_tags .entry)) (now (data_words .entry))) (memory (now (data_tags .exit)) (now (data_words .entry)))) ⌝ }
 {
-    let t = operand::cell(tags, words, constants, d);
-    let x = operand::cell(tags, words, constants, a);
-    if checks::waits_d_s1(first, t.tag, second, x.tag) {
-        return Decision::Waits(Wait::Access);
+    if checks::waits_d_s1(first, d, second, x, register_tags) {
+        return Course::Waits;
     }
-    if operand::masked(Role::Source, psw, x.tag) {
-        return Decision::Traps(Trap::DataException, psw);
+    if operand::masked(Role::Source, psw, x) {
+        return Course::DataException;
     }
-    match word_place(low, row, indirect_address(x.word)) {
-        Reach::Stops(k) => Decision::Traps(k, psw),
-        Reach::Reaches(p) => loaded_d_s1(
-            low,
-            p,
-            psw,
-            first,
-            d,
-            second,
-            a,
-            x,
-            data_tags,
-            data_words,
-        ),
+    match word_place(low, data_base, data_end, indirect_address(s1)) {
+        Reached::Violation => Course::ProtectionViolation,
+        Reached::Simulated => Course::SimulatedInstruction,
+        Reached::Word(p) => {
+            if load_waits(low, window::tag_at(data_tags, p)) {
+                return Course::Waits;
+            }
+            let word = window::word_at(data_words, p);
+            checks::write_d_s1(
+                first,
+                d,
+                second,
+                a,
+                x,
+                word,
+                0,
+                register_tags,
+                register_words,
+            );
+            load_leaves(low, p, data_tags);
+            checks::continues(psws, pt, word::next(psw))
+        }
     }
 }
 
 // LODI: D gets the data word at the address S1.
 pub fn load_indirect(
     low: u16,
-    row: Row,
+    cb: u32,
+    base: u32,
+    end: u32,
+    data_base: u32,
+    data_end: u32,
+    psws: &mut [u64],
+    pt: usize,
     psw: u64,
     first: u16,
     second: u16,
     third: u16,
-    tags: &[u8],
-    words: &[u64],
     constants: &[u64],
-    data_tags: &[u8],
+    register_tags: &mut [u8],
+    register_words: &mut [u64],
+    data_tags: &mut [u8],
     data_words: &[u64],
-) -> Decision
-    ensures { λ r. ⌜ ((code flag : ℕ) (program : List ℕ) → r ≡ decideListed (roles Destination Source Unused) (LoadIndirect low) (environmentOf row psw flag program (now (constants .entry)) (memory (now (tags .entry)) (now (words .entry))) (memory (now (data_tags .entry)) (now (data_words .entry)))) (instruction code first second third)) ⌝ }
+) -> Course
+    ensures { λ r. ⌜ ((row : Row) (code flag fresh : ℕ) (program : List ℕ) → Spans row cb base end → Span (dataWindow row) data_base data_end → psw ≡ getD (now (psws .entry)) pt 0 → Performs row (decideListed (roles Destination Source Unused) (LoadIndirect low) (environmentOf row psw flag program (now (constants .entry)) (memory (now («register_tags» .entry)) (now («register_words» .entry))) (memory (now (data_tags .entry)) (now (data_words .entry)))) (instruction code first second third)) pt fresh r (now (psws .entry)) (now (psws .exit)) (memory (now («register_tags» .entry)) (now («register_words» .entry))) (memory (now («register_tags» .exit)) (now («register_words» .exit))) (memory (now (data_tags .entry)) (now (data_words .entry))) (memory (now (data_tags .exit)) (now (data_words .entry)))) ⌝ }
 {
     if illegal_load_d_s1(low, first, second, third) {
-        return Decision::Traps(Trap::IllegalInstruction, psw);
+        return Course::IllegalInstruction;
     }
-    let Lookup::Found(d) = operand::lookup_of(Role::Destination, row, psw, first) else {
-        return Decision::Traps(Trap::ProtectionViolation, psw);
+    let Lookup::Found(d) = operand::destination(base, end, psw, first) else {
+        return Course::ProtectionViolation;
     };
-    let Lookup::Found(a) = operand::lookup_of(Role::Source, row, psw, second) else {
-        return Decision::Traps(Trap::ProtectionViolation, psw);
+    let Lookup::Found(a) = operand::source(cb, base, end, psw, second) else {
+        return Course::ProtectionViolation;
     };
+    let x = operand::cell(register_tags, register_words, constants, a);
     load_indirect_found(
         low,
-        row,
+        data_base,
+        data_end,
+        psws,
+        pt,
         psw,
         first,
+        operand::number(d),
         second,
-        d,
-        a,
-        tags,
-        words,
-        constants,
+        operand::number(a),
+        x.tag,
+        x.word,
+        register_tags,
+        register_words,
         data_tags,
         data_words,
     )
@@ -223,126 +219,120 @@ fn illegal_load_three(low: u16, first: u16, second: u16, third: u16) -> bool
     checks::illegal_d_s1_s2(first, second, third)
 }
 
-// D, S1, S2 and the data word at the real word address p.
-fn loaded_three(
-    low: u16,
-    p: usize,
-    psw: u64,
-    first: u16,
-    d: Operand,
-    second: u16,
-    a: Operand,
-    x: Cell,
-    third: u16,
-    b: Operand,
-    y: Cell,
-    data_tags: &[u8],
-    data_words: &[u64],
-) -> Decision
-    ensures { λ r. ⌜ ((t : Cell) → r ≡ loadWord psw (record { first = foundWith Destination first d t; second = foundWith Source second a x; third = foundWith Source third b y }) low p (cellAt (memory (now (data_tags .entry)) (now (data_words .entry))) p)) ⌝ }
-{
-    let k = window::cell_at(data_tags, data_words, p);
-    if load_waits(low, k.tag) {
-        return Decision::Waits(Wait::Data);
-    }
-    let out = Outcome {
-        word: k.word,
-        quality: 0,
-    };
-    let leaves = load_leaves(low, p, k.word);
-    let fate = Fate::Continues(word::next(psw));
-    checks::executed_d_s1_s2(first, d, second, a, x, third, b, y, out, leaves, fate)
-}
-
 // LODX from check 5 on.
 fn load_indexed_found(
     low: u16,
-    row: Row,
+    data_base: u32,
+    data_end: u32,
+    psws: &mut [u64],
+    pt: usize,
     psw: u64,
     first: u16,
+    d: usize,
     second: u16,
+    a: usize,
+    x: u8,
+    s1: u64,
     third: u16,
-    d: Operand,
-    a: Operand,
-    b: Operand,
-    tags: &[u8],
-    words: &[u64],
-    constants: &[u64],
-    data_tags: &[u8],
+    b: usize,
+    y: u8,
+    s2: u64,
+    register_tags: &mut [u8],
+    register_words: &mut [u64],
+    data_tags: &mut [u8],
     data_words: &[u64],
-) -> Decision
-    ensures { λ r. ⌜ ((i : Instruction) (flag : ℕ) (program : List ℕ) → r ≡ decideFound (LoadIndexed low) (environmentOf row psw flag program (now (constants .entry)) (memory (now (tags .entry)) (now (words .entry))) (memory (now (data_tags .entry)) (now (data_words .entry)))) i (allFoundAt (memory (now (tags .entry)) (now (words .entry))) (now (constants .entry)) (roles Destination Source Source) first second third d a b)) ⌝ }
+) -> Course
+    ensures { λ r. ⌜ ((row : Row) (i : Instruction) (flag fresh : ℕ) (program constants : List ℕ) (od oa ob : Operand) → Span (dataWindow row) data_base data_end → psw ≡ getD (now (psws .entry)) pt 0 → Destined row od d → Sourced row (now («register_tags» .entry)) (now («register_words» .entry)) constants second oa a x s1 → Sourced row (now («register_tags» .entry)) (now («register_words» .entry)) constants third ob b y s2 → Performs row (decideFound (LoadIndexed low) (environmentOf row psw flag program constants (memory (now («register_tags» .entry)) (now («register_words» .entry))) (memory (now (data_tags .entry)) (now (data_words .entry)))) i (allFoundAt (memory (now («register_tags» .entry)) (now («register_words» .entry))) constants (roles Destination Source Source) first second third od oa ob)) pt fresh r (now (psws .entry)) (now (psws .exit)) (memory (now («register_tags» .entry)) (now («register_words» .entry))) (memory (now («register_tags» .exit)) (now («register_words» .exit))) (memory (now (data_tags .entry)) (now (data_words .entry))) (memory (now (data_tags .exit)) (now (data_words .entry)))) ⌝ }
 {
-    let t = operand::cell(tags, words, constants, d);
-    let x = operand::cell(tags, words, constants, a);
-    let y = operand::cell(tags, words, constants, b);
-    if checks::waits_d_s1_s2(first, t.tag, second, x.tag, third, y.tag) {
-        return Decision::Waits(Wait::Access);
+    if checks::waits_d_s1_s2(first, d, second, x, third, y, register_tags) {
+        return Course::Waits;
     }
-    if checks::masked_s1_s2(psw, x.tag, y.tag) {
-        return Decision::Traps(Trap::DataException, psw);
+    if checks::masked_s1_s2(psw, x, y) {
+        return Course::DataException;
     }
-    match word_place(low, row, indexed_address(x.word, y.word)) {
-        Reach::Stops(k) => Decision::Traps(k, psw),
-        Reach::Reaches(p) => loaded_three(
-            low,
-            p,
-            psw,
-            first,
-            d,
-            second,
-            a,
-            x,
-            third,
-            b,
-            y,
-            data_tags,
-            data_words,
-        ),
+    match word_place(low, data_base, data_end, indexed_address(s1, s2)) {
+        Reached::Violation => Course::ProtectionViolation,
+        Reached::Simulated => Course::SimulatedInstruction,
+        Reached::Word(p) => {
+            if load_waits(low, window::tag_at(data_tags, p)) {
+                return Course::Waits;
+            }
+            let word = window::word_at(data_words, p);
+            checks::write_d_s1_s2(
+                first,
+                d,
+                second,
+                a,
+                x,
+                third,
+                b,
+                y,
+                word,
+                0,
+                register_tags,
+                register_words,
+            );
+            load_leaves(low, p, data_tags);
+            checks::continues(psws, pt, word::next(psw))
+        }
     }
 }
 
 // LODX: D gets the data word at the address S1 plus S2.
 pub fn load_indexed(
     low: u16,
-    row: Row,
+    cb: u32,
+    base: u32,
+    end: u32,
+    data_base: u32,
+    data_end: u32,
+    psws: &mut [u64],
+    pt: usize,
     psw: u64,
     first: u16,
     second: u16,
     third: u16,
-    tags: &[u8],
-    words: &[u64],
     constants: &[u64],
-    data_tags: &[u8],
+    register_tags: &mut [u8],
+    register_words: &mut [u64],
+    data_tags: &mut [u8],
     data_words: &[u64],
-) -> Decision
-    ensures { λ r. ⌜ ((code flag : ℕ) (program : List ℕ) → r ≡ decideListed (roles Destination Source Source) (LoadIndexed low) (environmentOf row psw flag program (now (constants .entry)) (memory (now (tags .entry)) (now (words .entry))) (memory (now (data_tags .entry)) (now (data_words .entry)))) (instruction code first second third)) ⌝ }
+) -> Course
+    ensures { λ r. ⌜ ((row : Row) (code flag fresh : ℕ) (program : List ℕ) → Spans row cb base end → Span (dataWindow row) data_base data_end → psw ≡ getD (now (psws .entry)) pt 0 → Performs row (decideListed (roles Destination Source Source) (LoadIndexed low) (environmentOf row psw flag program (now (constants .entry)) (memory (now («register_tags» .entry)) (now («register_words» .entry))) (memory (now (data_tags .entry)) (now (data_words .entry)))) (instruction code first second third)) pt fresh r (now (psws .entry)) (now (psws .exit)) (memory (now («register_tags» .entry)) (now («register_words» .entry))) (memory (now («register_tags» .exit)) (now («register_words» .exit))) (memory (now (data_tags .entry)) (now (data_words .entry))) (memory (now (data_tags .exit)) (now (data_words .entry)))) ⌝ }
 {
     if illegal_load_three(low, first, second, third) {
-        return Decision::Traps(Trap::IllegalInstruction, psw);
+        return Course::IllegalInstruction;
     }
-    let Lookup::Found(d) = operand::lookup_of(Role::Destination, row, psw, first) else {
-        return Decision::Traps(Trap::ProtectionViolation, psw);
+    let Lookup::Found(d) = operand::destination(base, end, psw, first) else {
+        return Course::ProtectionViolation;
     };
-    let Lookup::Found(a) = operand::lookup_of(Role::Source, row, psw, second) else {
-        return Decision::Traps(Trap::ProtectionViolation, psw);
+    let Lookup::Found(a) = operand::source(cb, base, end, psw, second) else {
+        return Course::ProtectionViolation;
     };
-    let Lookup::Found(b) = operand::lookup_of(Role::Source, row, psw, third) else {
-        return Decision::Traps(Trap::ProtectionViolation, psw);
+    let x = operand::cell(register_tags, register_words, constants, a);
+    let Lookup::Found(b) = operand::source(cb, base, end, psw, third) else {
+        return Course::ProtectionViolation;
     };
+    let y = operand::cell(register_tags, register_words, constants, b);
     load_indexed_found(
         low,
-        row,
+        data_base,
+        data_end,
+        psws,
+        pt,
         psw,
         first,
+        operand::number(d),
         second,
+        operand::number(a),
+        x.tag,
+        x.word,
         third,
-        d,
-        a,
-        b,
-        tags,
-        words,
-        constants,
+        operand::number(b),
+        y.tag,
+        y.word,
+        register_tags,
+        register_words,
         data_tags,
         data_words,
     )
@@ -372,10 +362,11 @@ fn store_waits(low: u16, tag: u8) -> bool
 }
 
 // A store leaves full.
-fn store_leaves(a: usize, word: u64) -> Write
-    ensures { λ r. ⌜ r ≡ Put a (cell 1 word) ⌝ }
+fn store_leaves(p: usize, word: u64, data_tags: &mut [u8], data_words: &mut [u64])
+    ensures { λ _. ⌜ (now (data_tags .exit) ≡ set (now (data_tags .entry)) p 1) × (now (data_words .exit) ≡ set (now (data_words .entry)) p word) ⌝ }
 {
-    Write::Put(a, Cell { tag: 1, word })
+    window::set_tag(data_tags, p, 1);
+    window::set_word(data_words, p, word);
 }
 
 // An unused field, S1, S2.
@@ -388,100 +379,101 @@ fn illegal_store_pair(low: u16, first: u16, second: u16, third: u16) -> bool
     checks::illegal_unused_s1_s2(first, second, third)
 }
 
-// S1, S2 and the data word at the real word address p.
-fn stored_two(
-    low: u16,
-    p: usize,
-    psw: u64,
-    second: u16,
-    a: Operand,
-    x: Cell,
-    third: u16,
-    b: Operand,
-    y: Cell,
-    data_tags: &[u8],
-) -> Decision
-    ensures { λ r. ⌜ ((first : ℕ) (t : Cell) (dataWords : List ℕ) → r ≡ storeWord psw (record { first = foundWith Unused first Absent t; second = foundWith Source second a x; third = foundWith Source third b y }) low (y .word) p (cellAt (memory (now (data_tags .entry)) dataWords) p)) ⌝ }
-{
-    if store_waits(low, window::tag_at(data_tags, p)) {
-        return Decision::Waits(Wait::Data);
-    }
-    Decision::Executes(Effects {
-        first: Write::Nothing,
-        second: operand::source_left(Role::Source, operand::access(second), a, x),
-        third: operand::source_left(Role::Source, operand::access(third), b, y),
-        destination: Write::Nothing,
-        datum: store_leaves(p, y.word),
-        fate: Fate::Continues(word::next(psw)),
-    })
-}
-
 // STOI from check 5 on.
 fn store_indirect_found(
     low: u16,
-    row: Row,
+    data_base: u32,
+    data_end: u32,
+    psws: &mut [u64],
+    pt: usize,
     psw: u64,
     second: u16,
+    a: usize,
+    x: u8,
+    s1: u64,
     third: u16,
-    a: Operand,
-    b: Operand,
-    tags: &[u8],
-    words: &[u64],
-    constants: &[u64],
-    data_tags: &[u8],
-) -> Decision
-    ensures { λ r. ⌜ ((i : Instruction) (first flag : ℕ) (program dataWords : List ℕ) → r ≡ decideFound (StoreIndirect low) (environmentOf row psw flag program (now (constants .entry)) (memory (now (tags .entry)) (now (words .entry))) (memory (now (data_tags .entry)) dataWords)) i (allFoundAt (memory (now (tags .entry)) (now (words .entry))) (now (constants .entry)) (roles Unused Source Source) first second third Absent a b)) ⌝ }
+    b: usize,
+    y: u8,
+    s2: u64,
+    register_tags: &mut [u8],
+    register_words: &[u64],
+    data_tags: &mut [u8],
+    data_words: &mut [u64],
+) -> Course
+    ensures { λ r. ⌜ ((row : Row) (i : Instruction) (flag fresh : ℕ) (program constants : List ℕ) (first : ℕ) (oa ob : Operand) → Span (dataWindow row) data_base data_end → psw ≡ getD (now (psws .entry)) pt 0 → Sourced row (now («register_tags» .entry)) (now («register_words» .entry)) constants second oa a x s1 → Sourced row (now («register_tags» .entry)) (now («register_words» .entry)) constants third ob b y s2 → Performs row (decideFound (StoreIndirect low) (environmentOf row psw flag program constants (memory (now («register_tags» .entry)) (now («register_words» .entry))) (memory (now (data_tags .entry)) (now (data_words .entry)))) i (allFoundAt (memory (now («register_tags» .entry)) (now («register_words» .entry))) constants (roles Unused Source Source) first second third Absent oa ob)) pt fresh r (now (psws .entry)) (now (psws .exit)) (memory (now («register_tags» .entry)) (now («register_words» .entry))) (memory (now («register_tags» .exit)) (now («register_words» .entry))) (memory (now (data_tags .entry)) (now (data_words .entry))) (memory (now (data_tags .exit)) (now (data_words .exit)))) ⌝ }
 {
-    let x = operand::cell(tags, words, constants, a);
-    let y = operand::cell(tags, words, constants, b);
-    if checks::waits_s1_s2(second, x.tag, third, y.tag) {
-        return Decision::Waits(Wait::Access);
+    if checks::waits_s1_s2(second, x, third, y) {
+        return Course::Waits;
     }
-    if checks::masked_s1_s2(psw, x.tag, y.tag) {
-        return Decision::Traps(Trap::DataException, psw);
+    if checks::masked_s1_s2(psw, x, y) {
+        return Course::DataException;
     }
-    match word_place(low, row, indirect_address(x.word)) {
-        Reach::Stops(k) => Decision::Traps(k, psw),
-        Reach::Reaches(p) => stored_two(low, p, psw, second, a, x, third, b, y, data_tags),
+    match word_place(low, data_base, data_end, indirect_address(s1)) {
+        Reached::Violation => Course::ProtectionViolation,
+        Reached::Simulated => Course::SimulatedInstruction,
+        Reached::Word(p) => {
+            if store_waits(low, window::tag_at(data_tags, p)) {
+                return Course::Waits;
+            }
+            checks::release_s1_s2(second, a, x, third, b, y, register_tags);
+            store_leaves(p, s2, data_tags, data_words);
+            checks::continues(psws, pt, word::next(psw))
+        }
     }
 }
 
 // STOI: S2 goes to the data word at the address S1.
 pub fn store_indirect(
     low: u16,
-    row: Row,
+    cb: u32,
+    base: u32,
+    end: u32,
+    data_base: u32,
+    data_end: u32,
+    psws: &mut [u64],
+    pt: usize,
     psw: u64,
     first: u16,
     second: u16,
     third: u16,
-    tags: &[u8],
-    words: &[u64],
     constants: &[u64],
-    data_tags: &[u8],
-) -> Decision
-    ensures { λ r. ⌜ ((code flag : ℕ) (program dataWords : List ℕ) → r ≡ decideListed (roles Unused Source Source) (StoreIndirect low) (environmentOf row psw flag program (now (constants .entry)) (memory (now (tags .entry)) (now (words .entry))) (memory (now (data_tags .entry)) dataWords)) (instruction code first second third)) ⌝ }
+    register_tags: &mut [u8],
+    register_words: &[u64],
+    data_tags: &mut [u8],
+    data_words: &mut [u64],
+) -> Course
+    ensures { λ r. ⌜ ((row : Row) (code flag fresh : ℕ) (program : List ℕ) → Spans row cb base end → Span (dataWindow row) data_base data_end → psw ≡ getD (now (psws .entry)) pt 0 → Performs row (decideListed (roles Unused Source Source) (StoreIndirect low) (environmentOf row psw flag program (now (constants .entry)) (memory (now («register_tags» .entry)) (now («register_words» .entry))) (memory (now (data_tags .entry)) (now (data_words .entry)))) (instruction code first second third)) pt fresh r (now (psws .entry)) (now (psws .exit)) (memory (now («register_tags» .entry)) (now («register_words» .entry))) (memory (now («register_tags» .exit)) (now («register_words» .entry))) (memory (now (data_tags .entry)) (now (data_words .entry))) (memory (now (data_tags .exit)) (now (data_words .exit)))) ⌝ }
 {
     if illegal_store_pair(low, first, second, third) {
-        return Decision::Traps(Trap::IllegalInstruction, psw);
+        return Course::IllegalInstruction;
     }
-    let Lookup::Found(a) = operand::lookup_of(Role::Source, row, psw, second) else {
-        return Decision::Traps(Trap::ProtectionViolation, psw);
+    let Lookup::Found(a) = operand::source(cb, base, end, psw, second) else {
+        return Course::ProtectionViolation;
     };
-    let Lookup::Found(b) = operand::lookup_of(Role::Source, row, psw, third) else {
-        return Decision::Traps(Trap::ProtectionViolation, psw);
+    let x = operand::cell(register_tags, register_words, constants, a);
+    let Lookup::Found(b) = operand::source(cb, base, end, psw, third) else {
+        return Course::ProtectionViolation;
     };
+    let y = operand::cell(register_tags, register_words, constants, b);
     store_indirect_found(
         low,
-        row,
+        data_base,
+        data_end,
+        psws,
+        pt,
         psw,
         second,
+        operand::number(a),
+        x.tag,
+        x.word,
         third,
-        a,
-        b,
-        tags,
-        words,
-        constants,
+        operand::number(b),
+        y.tag,
+        y.word,
+        register_tags,
+        register_words,
         data_tags,
+        data_words,
     )
 }
 
@@ -498,124 +490,112 @@ fn illegal_store_sources(low: u16, first: u16, second: u16, third: u16) -> bool
     checks::illegal_s1_s2(second, third)
 }
 
-// S0, S1, S2 and the data word at the real word address p.
-fn stored_sources(
-    low: u16,
-    p: usize,
-    psw: u64,
-    first: u16,
-    d: Operand,
-    t: Cell,
-    second: u16,
-    a: Operand,
-    x: Cell,
-    third: u16,
-    b: Operand,
-    y: Cell,
-    data_tags: &[u8],
-) -> Decision
-    ensures { λ r. ⌜ ((dataWords : List ℕ) → r ≡ storeWord psw (record { first = foundWith Source first d t; second = foundWith Source second a x; third = foundWith Source third b y }) low (t .word) p (cellAt (memory (now (data_tags .entry)) dataWords) p)) ⌝ }
-{
-    if store_waits(low, window::tag_at(data_tags, p)) {
-        return Decision::Waits(Wait::Data);
-    }
-    Decision::Executes(Effects {
-        first: operand::source_left(Role::Source, operand::access(first), d, t),
-        second: operand::source_left(Role::Source, operand::access(second), a, x),
-        third: operand::source_left(Role::Source, operand::access(third), b, y),
-        destination: Write::Nothing,
-        datum: store_leaves(p, t.word),
-        fate: Fate::Continues(word::next(psw)),
-    })
-}
-
 // STOX from check 5 on.
 fn store_indexed_found(
     low: u16,
-    row: Row,
+    data_base: u32,
+    data_end: u32,
+    psws: &mut [u64],
+    pt: usize,
     psw: u64,
     first: u16,
+    c: usize,
+    t: u8,
+    s0: u64,
     second: u16,
+    a: usize,
+    x: u8,
+    s1: u64,
     third: u16,
-    d: Operand,
-    a: Operand,
-    b: Operand,
-    tags: &[u8],
-    words: &[u64],
-    constants: &[u64],
-    data_tags: &[u8],
-) -> Decision
-    ensures { λ r. ⌜ ((i : Instruction) (flag : ℕ) (program dataWords : List ℕ) → r ≡ decideFound (StoreIndexed low) (environmentOf row psw flag program (now (constants .entry)) (memory (now (tags .entry)) (now (words .entry))) (memory (now (data_tags .entry)) dataWords)) i (allFoundAt (memory (now (tags .entry)) (now (words .entry))) (now (constants .entry)) (roles Source Source Source) first second third d a b)) ⌝ }
+    b: usize,
+    y: u8,
+    s2: u64,
+    register_tags: &mut [u8],
+    register_words: &[u64],
+    data_tags: &mut [u8],
+    data_words: &mut [u64],
+) -> Course
+    ensures { λ r. ⌜ ((row : Row) (i : Instruction) (flag fresh : ℕ) (program constants : List ℕ) (oc oa ob : Operand) → Span (dataWindow row) data_base data_end → psw ≡ getD (now (psws .entry)) pt 0 → Sourced row (now («register_tags» .entry)) (now («register_words» .entry)) constants first oc c t s0 → Sourced row (now («register_tags» .entry)) (now («register_words» .entry)) constants second oa a x s1 → Sourced row (now («register_tags» .entry)) (now («register_words» .entry)) constants third ob b y s2 → Performs row (decideFound (StoreIndexed low) (environmentOf row psw flag program constants (memory (now («register_tags» .entry)) (now («register_words» .entry))) (memory (now (data_tags .entry)) (now (data_words .entry)))) i (allFoundAt (memory (now («register_tags» .entry)) (now («register_words» .entry))) constants (roles Source Source Source) first second third oc oa ob)) pt fresh r (now (psws .entry)) (now (psws .exit)) (memory (now («register_tags» .entry)) (now («register_words» .entry))) (memory (now («register_tags» .exit)) (now («register_words» .entry))) (memory (now (data_tags .entry)) (now (data_words .entry))) (memory (now (data_tags .exit)) (now (data_words .exit)))) ⌝ }
 {
-    let t = operand::cell(tags, words, constants, d);
-    let x = operand::cell(tags, words, constants, a);
-    let y = operand::cell(tags, words, constants, b);
-    if checks::waits_s0_s1_s2(first, t.tag, second, x.tag, third, y.tag) {
-        return Decision::Waits(Wait::Access);
+    if checks::waits_s0_s1_s2(first, t, second, x, third, y) {
+        return Course::Waits;
     }
-    if checks::masked_s0_s1_s2(psw, t.tag, x.tag, y.tag) {
-        return Decision::Traps(Trap::DataException, psw);
+    if checks::masked_s0_s1_s2(psw, t, x, y) {
+        return Course::DataException;
     }
-    match word_place(low, row, indexed_address(x.word, y.word)) {
-        Reach::Stops(k) => Decision::Traps(k, psw),
-        Reach::Reaches(p) => stored_sources(
-            low,
-            p,
-            psw,
-            first,
-            d,
-            t,
-            second,
-            a,
-            x,
-            third,
-            b,
-            y,
-            data_tags,
-        ),
+    match word_place(low, data_base, data_end, indexed_address(s1, s2)) {
+        Reached::Violation => Course::ProtectionViolation,
+        Reached::Simulated => Course::SimulatedInstruction,
+        Reached::Word(p) => {
+            if store_waits(low, window::tag_at(data_tags, p)) {
+                return Course::Waits;
+            }
+            checks::release_s0_s1_s2(first, c, t, second, a, x, third, b, y, register_tags);
+            store_leaves(p, s0, data_tags, data_words);
+            checks::continues(psws, pt, word::next(psw))
+        }
     }
 }
 
 // STOX: S0 goes to the data word at the address S1 plus S2.
 pub fn store_indexed(
     low: u16,
-    row: Row,
+    cb: u32,
+    base: u32,
+    end: u32,
+    data_base: u32,
+    data_end: u32,
+    psws: &mut [u64],
+    pt: usize,
     psw: u64,
     first: u16,
     second: u16,
     third: u16,
-    tags: &[u8],
-    words: &[u64],
     constants: &[u64],
-    data_tags: &[u8],
-) -> Decision
-    ensures { λ r. ⌜ ((code flag : ℕ) (program dataWords : List ℕ) → r ≡ decideListed (roles Source Source Source) (StoreIndexed low) (environmentOf row psw flag program (now (constants .entry)) (memory (now (tags .entry)) (now (words .entry))) (memory (now (data_tags .entry)) dataWords)) (instruction code first second third)) ⌝ }
+    register_tags: &mut [u8],
+    register_words: &[u64],
+    data_tags: &mut [u8],
+    data_words: &mut [u64],
+) -> Course
+    ensures { λ r. ⌜ ((row : Row) (code flag fresh : ℕ) (program : List ℕ) → Spans row cb base end → Span (dataWindow row) data_base data_end → psw ≡ getD (now (psws .entry)) pt 0 → Performs row (decideListed (roles Source Source Source) (StoreIndexed low) (environmentOf row psw flag program (now (constants .entry)) (memory (now («register_tags» .entry)) (now («register_words» .entry))) (memory (now (data_tags .entry)) (now (data_words .entry)))) (instruction code first second third)) pt fresh r (now (psws .entry)) (now (psws .exit)) (memory (now («register_tags» .entry)) (now («register_words» .entry))) (memory (now («register_tags» .exit)) (now («register_words» .entry))) (memory (now (data_tags .entry)) (now (data_words .entry))) (memory (now (data_tags .exit)) (now (data_words .exit)))) ⌝ }
 {
     if illegal_store_sources(low, first, second, third) {
-        return Decision::Traps(Trap::IllegalInstruction, psw);
+        return Course::IllegalInstruction;
     }
-    let Lookup::Found(d) = operand::lookup_of(Role::Source, row, psw, first) else {
-        return Decision::Traps(Trap::ProtectionViolation, psw);
+    let Lookup::Found(c) = operand::source(cb, base, end, psw, first) else {
+        return Course::ProtectionViolation;
     };
-    let Lookup::Found(a) = operand::lookup_of(Role::Source, row, psw, second) else {
-        return Decision::Traps(Trap::ProtectionViolation, psw);
+    let t = operand::cell(register_tags, register_words, constants, c);
+    let Lookup::Found(a) = operand::source(cb, base, end, psw, second) else {
+        return Course::ProtectionViolation;
     };
-    let Lookup::Found(b) = operand::lookup_of(Role::Source, row, psw, third) else {
-        return Decision::Traps(Trap::ProtectionViolation, psw);
+    let x = operand::cell(register_tags, register_words, constants, a);
+    let Lookup::Found(b) = operand::source(cb, base, end, psw, third) else {
+        return Course::ProtectionViolation;
     };
+    let y = operand::cell(register_tags, register_words, constants, b);
     store_indexed_found(
         low,
-        row,
+        data_base,
+        data_end,
+        psws,
+        pt,
         psw,
         first,
+        operand::number(c),
+        t.tag,
+        t.word,
         second,
+        operand::number(a),
+        x.tag,
+        x.word,
         third,
-        d,
-        a,
-        b,
-        tags,
-        words,
-        constants,
+        operand::number(b),
+        y.tag,
+        y.word,
+        register_tags,
+        register_words,
         data_tags,
+        data_words,
     )
 }

@@ -1,8 +1,10 @@
-use mathlib.Core.Path.{refl, _∙_}
-use Rattle.operand.specs.Field.{lookupOf}
 use Rattle.operation.specs.Roles.{illegalInstruction, illegalAccess, illegalFields}
-use Rattle.operation.specs.Environment.{environmentOf}
-use Rattle.operation.specs.Laws.Found.{told, refused, no-first, no-second, all-found}
+use Rattle.operation.specs.Laws.Found.{told}
+use mathlib.Core.Path.{refl}
+use Rattle.operand.specs.Field.{lookupOf}
+use Rattle.operand.specs.Laws.Spans.{source-told, destination-told}
+use Rattle.checks.specs.Laws.Operands.{destined, sourced}
+use Rattle.checks.specs.Laws.Listed.{listed-illegal, first-violated, second-violated, listed-found}
 use borrow.Author.Needs.{needs}
 use Rattle.data_operations.proofs.load_indirect.Statement.{statement}
 use Rattle.data_operations.proofs.load_indirect.Tie as tie
@@ -12,10 +14,10 @@ illegal-load-d-s1-requires c κs = search needs
 
 returns : tie.Need-returns
 unfolding illegalInstruction illegalAccess illegalFields
-returns c = λ code flag program. refused _ _ _ _ _ _ _ _ _ _ (told (c .before .illegal-load-d-s1 .ensures) (c .if1 .taken))
+returns c = λ row code flag fresh program s span own. listed-illegal _ _ _ _ _ _ _ _ _ _ _ _ _ own (told (c .before .illegal-load-d-s1 .ensures) (c .if1 .taken))
 
-lookup-of-requires : tie.Need-lookup-of-requires
-lookup-of-requires c κs = search needs
+destination-requires : tie.Need-destination-requires
+destination-requires c κs = search needs
 
 enum-known-d : tie.Need-enum-known-d
 enum-known-d c = search needs
@@ -25,10 +27,10 @@ enum-told c = search needs
 
 returns-2 : tie.Need-returns-2
 unfolding illegalInstruction illegalAccess illegalFields
-returns-2 c = λ code flag program. no-first _ _ _ _ _ _ _ _ _ _ (told (c .before .before .before .before .illegal-load-d-s1 .ensures) (c .before .before .before .if1 .left)) (told (c .before .before .lookup-of .ensures) (c .enum-told .given .1))
+returns-2 c = λ row code flag fresh program s span own. first-violated _ _ _ _ _ _ _ _ _ _ _ _ _ (told (c .before .before .before .before .illegal-load-d-s1 .ensures) (c .before .before .before .if1 .left)) own (destination-told row _ _ _ s _ _ _ _ (c .before .before .destination .ensures) (c .enum-told .given .1))
 
-lookup-of-requires-2 : tie.Need-lookup-of-requires-2
-lookup-of-requires-2 c κs = search needs
+source-requires : tie.Need-source-requires
+source-requires c κs = search needs
 
 enum-known-a : tie.Need-enum-known-a
 enum-known-a c = search needs
@@ -38,14 +40,35 @@ enum-told-2 c = search needs
 
 returns-3 : tie.Need-returns-3
 unfolding illegalInstruction illegalAccess illegalFields
-returns-3 c = λ code flag program. no-second _ _ _ _ _ _ _ _ _ _ (told (c .before .before .before .before .before .before .before .before .illegal-load-d-s1 .ensures) (c .before .before .before .before .before .before .before .if1 .left)) _ (told (c .before .before .before .before .before .before .lookup-of .ensures) (c .before .before .before .before .d .given .1)) (told (c .before .before .lookup-of2 .ensures) (c .enum-told2 .given .1))
+returns-3 c = λ row code flag fresh program s span own. second-violated _ _ _ _ _ _ _ _ _ _ _ _ _ (told (c .before .before .before .before .before .before .before .before .illegal-load-d-s1 .ensures) (c .before .before .before .before .before .before .before .if1 .left)) own _ (destination-told row _ _ _ s _ _ _ _ (c .before .before .before .before .before .before .destination .ensures) (c .before .before .before .before .d .given .1)) (source-told row _ _ _ s _ _ _ _ (c .before .before .source .ensures) (c .enum-told2 .given .1))
+
+cell-requires : tie.Need-cell-requires
+cell-requires c κs = search needs
+
+number-requires : tie.Need-number-requires
+number-requires c κs = search needs
+
+number-requires-2 : tie.Need-number-requires-2
+number-requires-2 c κs = search needs
 
 load-indirect-found-requires : tie.Need-load-indirect-found-requires
 load-indirect-found-requires c κs = search needs
 
+same-length : tie.Need-same-length
+same-length c = search needs
+
+same-length-2 : tie.Need-same-length-2
+same-length-2 c = search needs
+
+same-length-3 : tie.Need-same-length-3
+same-length-3 c = search needs
+
+same-length-4 : tie.Need-same-length-4
+same-length-4 c = search needs
+
 returns-4 : tie.Need-returns-4
-unfolding illegalInstruction illegalAccess illegalFields environmentOf lookupOf
-returns-4 c = λ code flag program. c .load-indirect-found .ensures _ _ flag program ∙ all-found _ _ _ _ _ _ _ _ _ _ (told (c .before .before .before .before .before .before .before .before .before .before .illegal-load-d-s1 .ensures) (c .before .before .before .before .before .before .before .before .before .if1 .left)) _ _ _ (told (c .before .before .before .before .before .before .before .before .lookup-of .ensures) (c .before .before .before .before .before .before .d .given .1)) (told (c .before .before .before .before .lookup-of2 .ensures) (c .before .before .a .given .1)) refl
+unfolding illegalInstruction illegalAccess illegalFields lookupOf
+returns-4 c = λ row code flag fresh program s span own. listed-found _ _ _ _ _ _ _ _ _ _ _ _ _ (told (c .before .before .before .before .before .before .before .before .before .before .before .before .before .before .before .before .before .before .before .before .before .before .before .before .before .before .before .illegal-load-d-s1 .ensures) (c .before .before .before .before .before .before .before .before .before .before .before .before .before .before .before .before .before .before .before .before .before .before .before .before .before .before .if1 .left)) _ _ _ (destination-told row _ _ _ s _ _ _ _ (c .before .before .before .before .before .before .before .before .before .before .before .before .before .before .before .before .before .before .before .before .before .before .before .before .before .destination .ensures) (c .before .before .before .before .before .before .before .before .before .before .before .before .before .before .before .before .before .before .before .before .before .before .before .d .given .1)) (source-told row _ _ _ s _ _ _ _ (c .before .before .before .before .before .before .before .before .before .before .before .before .before .before .before .before .before .before .before .before .before .source .ensures) (c .before .before .before .before .before .before .before .before .before .before .before .before .before .before .before .before .before .before .before .a .given .1)) refl _ _ _ _ (c .before .before .before .before .before .before .before .before .load-indirect-found .ensures row _ flag fresh program _ _ _ _ span own (destined row _ _ _ _ (destination-told row _ _ _ s _ _ _ _ (c .before .before .before .before .before .before .before .before .before .before .before .before .before .before .before .before .before .before .before .before .before .before .before .before .before .destination .ensures) (c .before .before .before .before .before .before .before .before .before .before .before .before .before .before .before .before .before .before .before .before .before .before .before .d .given .1)) (c .before .before .before .before .before .before .before .before .before .before .before .before .before .number .ensures)) (sourced row _ _ _ _ _ _ _ _ (source-told row _ _ _ s _ _ _ _ (c .before .before .before .before .before .before .before .before .before .before .before .before .before .before .before .before .before .before .before .before .before .source .ensures) (c .before .before .before .before .before .before .before .before .before .before .before .before .before .before .before .before .before .before .before .a .given .1)) (c .before .before .before .before .before .before .before .before .before .before .before .before .before .before .before .cell .ensures) (c .before .before .before .before .before .before .before .before .before .before .before .before .number2 .ensures)))
 
 pub load-indirect-spec : {M : Type 1} → statement M
 load-indirect-spec =
@@ -53,13 +76,20 @@ load-indirect-spec =
     (tie.spec
     illegal-load-d-s1-requires
     returns
-    lookup-of-requires
+    destination-requires
     enum-known-d
     enum-told
     returns-2
-    lookup-of-requires-2
+    source-requires
     enum-known-a
     enum-told-2
     returns-3
+    cell-requires
+    number-requires
+    number-requires-2
     load-indirect-found-requires
+    same-length
+    same-length-2
+    same-length-3
+    same-length-4
     returns-4)
