@@ -30,7 +30,7 @@ use operation::Course;
 use window::Place;
 
 // What check 7 answers: the data word by real address, or why the step traps.
-pub enum Reached {
+enum Reached {
     Word(usize),
     Violation,
     Simulated,
