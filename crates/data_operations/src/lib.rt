@@ -30,7 +30,7 @@ use operation::Course;
 use window::Place;
 
 // What check 7 answers: the data word by real address, or why the step traps.
-pub enum Reached {
+enum Reached {
     Word(usize),
     Violation,
     Simulated,
@@ -137,7 +137,7 @@ fn load_indirect_found(
         Reached::Simulated => Course::SimulatedInstruction,
         Reached::Word(p) => {
             if load_waits(low, window::tag_at(data_tags, p)) {
-                return Course::Waits;
+                return Course::Waits; // an unmet data state waits
             }
             let word = window::word_at(data_words, p);
             checks::write_d_s1(
