@@ -1,82 +1,70 @@
+use mathlib.Core.Path.{refl}
+use Rattle.operation.specs.declared.Trap.the-variants as trap
+use Rattle.operation.specs.Environment.{environmentOf}
+use Rattle.operation.specs.Decide.{decideCode}
+use Rattle.step.specs.Performs.{trapCourse}
+use Rattle.dispatch.specs.Laws.Codes.{code-told, code-traps}
 use borrow.Author.Needs.{needs}
 use Rattle.dispatch.proofs.perform_code.Statement.{statement}
 use Rattle.dispatch.proofs.perform_code.Tie as tie
-use Rattle.dispatch.proofs.perform_code.Reads as reads
-use Rattle.dispatch.proofs.perform_code.Lts as lts
-use Rattle.control_operations.proofs.svc.Reads as svc-reads
-use Rattle.dispatch.proofs.perform_listed.Reads as perform-listed-reads
 
--- src/lib.rt:316:29
 enum-told : tie.Need-enum-told
 enum-told c = search needs
 
--- src/lib.rt:317:28
 enum-told-2 : tie.Need-enum-told-2
 enum-told-2 c = search needs
 
--- src/lib.rt:318:46
 enum-told-3 : tie.Need-enum-told-3
 enum-told-3 c = search needs
 
--- src/lib.rt:318:22
 svc-requires : tie.Need-svc-requires
 svc-requires c κs = search needs
 
--- src/lib.rt:319:22
 enum-known-code : tie.Need-enum-known-code
 enum-known-code c = search needs
 
--- src/lib.rt:319:29
 perform-listed-requires : tie.Need-perform-listed-requires
 perform-listed-requires c κs = search needs
 
--- src/lib.rt:340:27
 enum-told-4 : tie.Need-enum-told-4
 enum-told-4 c = search needs
 
--- src/lib.rt:292:1
 returns : tie.Need-returns
-returns c = ?
+unfolding decideCode environmentOf trapCourse
+returns c = λ row k program s d own. code-traps row _ _ _ _ _ _ _ _ _ trap.PrivilegedInstruction _ (c .enum-told .given .1) refl refl own
 
--- src/lib.rt:292:1
 returns-2 : tie.Need-returns-2
-returns-2 c = ?
+unfolding decideCode environmentOf trapCourse
+returns-2 c = λ row k program s d own. code-traps row _ _ _ _ _ _ _ _ _ trap.SimulatedInstruction _ (c .enum-told2 .given .1) refl refl own
 
--- src/lib.rt:292:1
 same-length : tie.Need-same-length
 same-length c = search needs
 
--- src/lib.rt:292:1
 returns-3 : tie.Need-returns-3
-returns-3 c = ?
+unfolding environmentOf
+returns-3 c = λ row k program s d own. code-told row _ _ _ _ _ _ _ _ _ _ _ _ _ (c .before .before .before .before .enum-told3 .given .1) (c .before .before .svc .ensures row _ _ _ _ _ _ refl own)
 
--- src/lib.rt:292:1
 same-length-2 : tie.Need-same-length-2
 same-length-2 c = search needs
 
--- src/lib.rt:292:1
 same-length-3 : tie.Need-same-length-3
 same-length-3 c = search needs
 
--- src/lib.rt:292:1
 same-length-4 : tie.Need-same-length-4
 same-length-4 c = search needs
 
--- src/lib.rt:292:1
 same-length-5 : tie.Need-same-length-5
 same-length-5 c = search needs
 
--- src/lib.rt:292:1
 same-length-6 : tie.Need-same-length-6
 same-length-6 c = search needs
 
--- src/lib.rt:292:1
 returns-4 : tie.Need-returns-4
-returns-4 c = ?
+returns-4 c = λ row k program s d own. code-told row _ _ _ _ _ _ _ _ _ _ _ _ _ (c .before .before .before .before .before .before .before .before .before .before .before .before .before .before .before .before .before .code .given .1) (c .before .before .before .before .before .before .before .before .before .before .perform-listed .ensures row _ _ s d own)
 
--- src/lib.rt:292:1
 returns-5 : tie.Need-returns-5
-returns-5 c = ?
+unfolding decideCode environmentOf trapCourse
+returns-5 c = λ row k program s d own. code-traps row _ _ _ _ _ _ _ _ _ trap.IllegalInstruction _ (c .enum-told4 .given .1) refl refl own
 
 pub perform-code-spec : {M : Type 1} → statement M
 perform-code-spec =

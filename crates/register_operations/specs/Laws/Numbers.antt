@@ -154,3 +154,28 @@ module _ (op : Operation) (k : ℕ) (e : k ≡ numberOf op) where
   pub one-roles : 16 ≤ k → k < 18 → rolesOf op ≡ roles Destination Unused Unused
   unfolding rolesAt
   one-roles g h = rw (le-ltb k 16 g, le-ltb k 10 (omega arith)) at (three-at h)
+
+-- the number of any other operation
+family-below : (op : Operation) → Family op → numberOf op < 18
+unfolding numberOf vectorNumber bitNumber integerNumber
+family-below _ (vector Eor) = omega arith
+family-below _ (vector Eqv) = omega arith
+family-below _ (vector Nand) = omega arith
+family-below _ (vector Nor) = omega arith
+family-below _ (vector Or) = omega arith
+family-below _ (vector Mov) = omega arith
+family-below _ (vector Not) = omega arith
+family-below _ (vector Clr) = omega arith
+family-below _ (vector One) = omega arith
+family-below _ (bit Bitclr) = omega arith
+family-below _ (bit Bitset) = omega arith
+family-below _ (bit Encode0) = omega arith
+family-below _ (bit Encode1) = omega arith
+family-below _ (integer Add) = omega arith
+family-below _ (integer Sub) = omega arith
+family-below _ (integer Mul) = omega arith
+family-below _ (integer Inc) = omega arith
+family-below _ (integer Dec) = omega arith
+
+pub other-number : (op p : Operation) → op ≡ p → Family p → 18 ≤ numberOf op → ⊥
+other-number op p e f h = let z : numberOf op ≡ numberOf p = ap numberOf e in omega (arith, family-below p f)
