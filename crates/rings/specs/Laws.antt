@@ -1,0 +1,7 @@
+-- The laws of the definitions: nothing here need be believed.
+pub mod Rings
+pub mod Mask
+pub mod Live
+pub mod Copies
+pub mod Held
+pub mod Records

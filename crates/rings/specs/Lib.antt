@@ -1,0 +1,4 @@
+pub mod Rings
+pub mod Mask
+pub mod Held
+pub mod Laws
