@@ -5,3 +5,7 @@ pub mod Live
 pub mod Copies
 pub mod Held
 pub mod Records
+pub mod Rows
+pub mod Spans
+pub mod Settled
+pub mod Numbers
