@@ -20,6 +20,7 @@ pub record Windows (spans : List ℕ) (t : ℕ) (r : Row) : Type 0 where
 -- a row whose numbers fit in 32 bits
 pub record Narrow (r : Row) : Type 0 where
   pub base : r .db < 2 ^ 24
+  pub last : r .dl < 2 ^ 24
   pub limit : r .db ≤ r .dl → r .dl < 2 ^ 20
 
 -- the numbers with the windows of a row for those of task t

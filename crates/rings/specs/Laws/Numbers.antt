@@ -208,6 +208,10 @@ module _ (rs : List Row) (sp ks ss a b c ps : List ℕ) (fl z : ℕ) (cs g w pr 
     head-lt pt e =
         omega (arith, e, held-head 7 1 a b c z (queuesIn a b c) held t low upto, held-head-lt 7 1 a b c z (queuesIn a b c) held t low upto once alive)
 
+    -- it has a PSW also where the PSWs have changed
+    pub head-inside : (pt : ℕ) (ps′ : List ℕ) → pt ≡ getD a (64 * t + getD b t 0 % 64) 0 → length ps′ ≡ length ps → pt < length ps′
+    head-inside pt ps′ e k = omega (arith, k, head-lt pt e, psws-wide)
+
     head-is : (pt : ℕ) → pt ≡ getD a (64 * t + getD b t 0 % 64) 0 → pt ≡ headOf (queueIn (queuesIn a b c) t)
     unfolding queueIn
     head-is pt e = e ∙ sym (held-head 7 1 a b c z (queuesIn a b c) held t low upto)

@@ -127,6 +127,7 @@ narrow b nr np nd r e w h =
     let v = and-right (endsIn (programWindow r) np) _ (and-right (endsIn (registerWindow r) nr) _ w) in
     record {
       base = ltb-true (r .db) (2 ^ 24) (and-left (bits 24 (r .db)) _ z);
+      last = ltb-true (r .dl) (2 ^ 24) (and-right (bits 24 (r .db)) (bits 24 (r .dl)) z);
       limit = λ l. go (ltb (r .dl * 32 + 31) (r .db * 32)) refl l v;
     }
   where

@@ -23,6 +23,7 @@ use Rattle.step.specs.State.{noQueue, queueIn, withQueue}
 use Rattle.step.specs.Parts.{hasRoom, result, movedQueue, flagAfter}
 use Rattle.step.specs.Performs.{courseResult}
 use Rattle.step.specs.Laws.Occurrences.{Free}
+use Rattle.step.specs.Laws.Queues.{Shaped}
 use Rattle.rings.specs.Rings.{queuesFrom, queuesIn, Moves}
 use Rattle.rings.specs.Mask.{Frees}
 use Rattle.rings.specs.Held.{Held}
@@ -60,6 +61,14 @@ module _ (t : ℕ) (x : Course) (a b c : List ℕ) (z : ℕ) (l : 1 ≤ t) (u : 
   full : getD qs (t - 1) noQueue .len ≢ 0
   unfolding qs
   full e = omega (arith, e, held-len 7 1 a b c z qs held t l below, r .some)
+
+  pub turner-fits : getD c t 0 ≤ 64
+  unfolding queueIn
+  turner-fits = omega (arith, held-len 7 1 a b c z (queuesIn a b c) held t l below, r .shaped .fits)
+
+  -- the course told
+  pub ready-creates : x ≡ go.Creates → Ready t go.Creates a b c z
+  ready-creates k = subst (λ (y : Course). Ready t y a b c z) k r
 
   stays : Queued t (λ q. q) a b c a b c z
   unfolding withQueue queueIn

@@ -69,7 +69,7 @@ slice-aggregate-run-items : tie.Need-slice-aggregate-run-items
 slice-aggregate-run-items c = search needs
 
 run-items-requires : tie.Need-run-items-requires
-run-items-requires c κs = sym (c .before .before .before .before .before .before .before .before .items-sound .ensures) ∙ not-false (c .before .before .before .before .before .before .before .before .items-sound .result) (c .before .before .before .before .before .before .before .if3 .left)
+run-items-requires c κs = (sym (c .before .before .before .before .before .before .before .before .items-sound .ensures) ∙ not-false (c .before .before .before .before .before .before .before .before .items-sound .result) (c .before .before .before .before .before .before .before .if3 .left), sym (c .before .before .before .before .before .before .before .before .before .before .before .sound .ensures) ∙ not-false (c .before .before .before .before .before .before .before .before .before .before .before .sound .result) (c .before .before .before .before .before .before .before .before .before .before .if1 .left))
 
 same-length-13 : tie.Need-same-length-13
 same-length-13 c = search needs
