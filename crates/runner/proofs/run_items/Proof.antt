@@ -1,3 +1,4 @@
+use Prim.Native.Nat.{_+_, _-_, _<_}
 use native.Mathlib.Omega.{arith}
 use borrow.Author.Needs.{needs}
 use Rattle.runner.specs.Laws.Numbers.{few, narrow-rows, task-in, state-start, numbers-start, state-end}
@@ -7,12 +8,11 @@ use Rattle.run.specs.Run.{Ran, run}
 use Rattle.rings.specs.Numbers.{stateFrom, Numbers}
 use lib.ListN.{length, take}
 use mathlib.Core.Path.{_≡_, refl, sym, ap, _∙_}
-use Prim.Native.Nat.{_-_}
 use Rattle.runner.proofs.run_items.Statement.{statement}
 use Rattle.runner.proofs.run_items.Tie as tie
 
 abbrev Inv-loop : tie.InvT-loop
-Inv-loop rows n flag psws₀ schedule constants register-tags₀ register-words₀ program data-tags₀ data-words₀ pts₀ heads₀ lens₀ kinds₀ stored₀ spans free₀ flag₀ counts₀ i₀ psws register-tags register-words data-tags data-words pts heads lens kinds stored free flag' counts i = 
+Inv-loop rows n flag psws₀ schedule constants register-tags₀ register-words₀ program data-tags₀ data-words₀ pts₀ heads₀ lens₀ kinds₀ stored₀ spans free₀ flag₀ counts₀ i₀ psws register-tags register-words data-tags data-words pts heads lens kinds stored free flag' counts i =
     Running schedule i (stateFrom (take n rows) kinds₀ stored₀ pts₀ heads₀ lens₀ psws₀ flag₀ constants register-tags₀ register-words₀ program data-tags₀ data-words₀)
     (stateFrom (take n rows) kinds stored pts heads lens psws flag' constants register-tags register-words program data-tags data-words) counts
     × Numbers (take n rows) spans kinds stored pts heads lens psws flag' free constants register-tags register-words program data-tags data-words
@@ -81,13 +81,13 @@ step-task-requires : tie.Need-step-task-requires Inv-loop μ-loop
 step-task-requires c κs = let s = c .before .before .before .before .before .before .before .before .before .before .before .before .before .before .before .before .before .before .before .before .before .before .before .before .before .before .before .before .before .before .before .before .before .before .before .before .before .before .before in let a = s .args in let l = c .before .before .before .before .before .before .before .before .before .before .before .before .before .before .before .loop in let d = item-in (a .schedule .now) (l .i) (s .pre .0) (c .before .before .before .before .before .before .before .before .before .before .before .before .before .before .loop-test .taken) in (d .0, d .1, omega (arith, c .before .before .before .before .before .before .before .before .before .before .before .before .before .before .before .before .before .before .before .before .number-tasks .kept .1 .1 .1 .1 .0), omega (arith, l .inv .5), omega (arith, l .inv .6), omega (arith, l .inv .2), omega (arith, l .inv .3), omega (arith, l .inv .4), record { rows = take (a .n) (a .rows); numbers = l .inv .1 })
 
 counted-requires : tie.Need-counted-requires Inv-loop μ-loop
-counted-requires c κs = omega (arith, c .before .before .before .before .before .before .before .before .before .before .before .before .before .before .before .before .before .before .before .before .before .before .before .before .before .before .before .before .before .before .before .loop .inv .0 .counts, c .before .before .before .before .before .before .before .before .before .before .before .before .before .before .before .before .before .before .before .before .before .before .before .before .before .before .before .before .before .before .loop-test .taken)
+counted-requires c κs = let l = c .before .before .before .before .before .before .before .before .before .before .before .before .before .before .before .before .before .before .before .before .before .before .before .before .before .before .before .before .before .before .before .loop in let k = l .counts in let g : k .executed + k .waved + k .trapped + k .idle < 18446744073709551615 = omega (arith, l .inv .0 .counts, c .before .before .before .before .before .before .before .before .before .before .before .before .before .before .before .before .before .before .before .before .before .before .before .before .before .before .before .before .before .before .loop-test .taken, c .before .before .before .before .before .before .before .before .before .before .before .before .before .before .before .before .before .before .before .before .before .before .before .before .before .before .before .before .before .before .before .before .before .before .before .before .before .before .before .before .before .before .before .before .before .before .before .before .before .before .before .before .before .before .before .good .1 .1 .1 .1 .1 .0) in g
 
 add-i : tie.Need-add-i Inv-loop μ-loop
-add-i c = search needs
+add-i c = omega (arith, c .before .before .before .before .before .before .before .before .before .before .before .before .before .before .before .before .before .before .before .before .before .before .before .before .before .before .before .before .before .before .before .loop-test .taken, c .before .before .before .before .before .before .before .before .before .before .before .before .before .before .before .before .before .before .before .before .before .before .before .before .before .before .before .before .before .before .before .before .before .before .before .before .before .before .before .before .before .before .before .before .before .before .before .before .before .before .before .before .before .before .before .before .good .1 .1 .1 .1 .1 .0)
 
 loop-less : tie.Need-loop-less Inv-loop μ-loop
-loop-less c = search needs
+loop-less c = omega (arith, c .before .before .before .before .before .before .before .before .before .before .before .before .before .before .before .before .before .before .before .before .before .before .before .before .before .before .before .before .before .before .before .loop-test .taken)
 
 loop-again : tie.Need-loop-again Inv-loop μ-loop
 loop-again c = let s = c .before .before .before .before .before .before .before .before .before .before .before .before .before .before .before .before .before .before .before .before .before .before .before .before .before .before .before .before .before .before .before .before .before .before .before .before .before .before .before .before .before .before .before .before .before .before .before .before .before .before .before .before .before .before .before .before in let a = s .args in let l = c .before .before .before .before .before .before .before .before .before .before .before .before .before .before .before .before .before .before .before .before .before .before .before .before .before .before .before .before .before .before .before .before .loop in let x = c .before .before .before .before .before .before .before .before .before .before .before .before .before .before .before .before .step-task .ensures (take (a .n) (a .rows)) (l .inv .1) in (goes-on (a .schedule .now) (l .i) _ _ _ (l .counts) _ _ (l .inv .0) (c .before .before .before .before .before .before .before .before .before .before .before .before .before .before .before .before .before .before .before .before .before .before .before .before .before .before .before .before .before .before .before .loop-test .taken) (x .steps) (c .counted .ensures), x .numbers, c .before .before .before .before .before .before .before .before .before .before .before .before .before .before .before .before .step-task .kept .1 .1 .1 .1 .0 ∙ l .inv .2, c .before .before .before .before .before .before .before .before .before .before .before .before .before .before .before .before .step-task .kept .1 .1 .1 .1 .1 .0 ∙ l .inv .3, c .before .before .before .before .before .before .before .before .before .before .before .before .before .before .before .before .step-task .kept .1 .1 .1 .1 .1 .1 .0 ∙ l .inv .4, c .before .before .before .before .before .before .before .before .before .before .before .before .before .before .before .before .step-task .kept .1 .1 .0 ∙ l .inv .5, c .before .before .before .before .before .before .before .before .before .before .before .before .before .before .before .before .step-task .kept .1 .1 .1 .0 ∙ l .inv .6, c .before .before .before .before .before .before .before .before .before .before .before .before .before .before .before .before .step-task .kept .1 .1 .1 .1 .1 .1 .1 .0 ∙ l .inv .7, c .before .before .before .before .before .before .before .before .before .before .before .before .before .before .before .before .step-task .kept .1 .1 .1 .1 .1 .1 .1 .1 .1 .1 .1 .0 ∙ l .inv .8, c .before .before .before .before .before .before .before .before .before .before .before .before .before .before .before .before .step-task .kept .1 .1 .1 .1 .1 .1 .1 .1 .1 .1 .1 .1 .0 ∙ l .inv .9, c .before .before .before .before .before .before .before .before .before .before .before .before .before .before .before .before .step-task .kept .1 .1 .1 .1 .1 .1 .1 .1 .1 .1 .1 .1 .1 .1 .0 ∙ l .inv .10, c .before .before .before .before .before .before .before .before .before .before .before .before .before .before .before .before .step-task .kept .1 .1 .1 .1 .1 .1 .1 .1 .1 .1 .1 .1 .1 .1 .1 .0 ∙ l .inv .11)
