@@ -731,6 +731,9 @@ pub fn run(
     }
     let mut psw = table.psw;
     let queues = table.queues;
+    // As many words as tags: the tests of an index into either become one.
+    let m = tags.len();
+    let d = data_tags.len();
     let x = run_items(
         rows,
         n,
@@ -740,10 +743,10 @@ pub fn run(
         schedule,
         constants,
         tags,
-        words,
+        &mut words[..m],
         program,
         data_tags,
-        data_words,
+        &mut data_words[..d],
     );
     let rows = x.rows;
     let queues = x.queues;

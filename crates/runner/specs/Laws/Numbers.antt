@@ -3,17 +3,18 @@ use Prim.Native.Nat.{ℕ, suc, _+_, _≤_, _<_, _^_}
 use mathlib.Core.Path.{_≡_, refl, sym, ap, ap₂, _∙_, subst}
 use mathlib.Core.Bool.{true}
 use mathlib.Core.Option.{some}
-use mathlib.Core.List.{List}
+use mathlib.Core.List.{List, _++_, append-nil}
 use native.Mathlib.Omega.{arith}
 use lib.Dec.{leb}
-use lib.ListN.{length, getD, take, drop}
-use lib.Seq.{length-take-le, getD-take}
+use lib.ListN.{length, getD, take, drop, drop-of-length-le}
+use lib.Seq.{length-take-le, getD-take, take-all}
 use borrow.Author.Tests.{leb-true}
 use Rattle.word.specs.Laws.Bools.{and-left, and-right}
 use Rattle.window.specs.declared.Row.{Row}
 use Rattle.window.specs.Memories.{memory}
-use Rattle.window.specs.Sound.{stateSound}
+use Rattle.window.specs.Sound.{tagSound, stateSound}
 use Rattle.step.specs.declared.Queue.{Queue}
+use Rattle.step.specs.declared.ProcessTable.{ProcessTable}
 use Rattle.step.specs.Queues.{livePts}
 use Rattle.step.specs.State.{State, state, findRow}
 use Rattle.step.specs.Act.{tableOf}
@@ -41,6 +42,32 @@ module _ (rows : List Row) (n : ℕ) (qs : List Queue) (fl : ℕ) (ps cs g w pr 
   parts : Sound (state (take n rows) (tableOf ps qs fl) cs (memory g w) pr (memory u v))
   unfolding stateIn
   parts = sound-parts _ whole
+
+  -- as many tags as words
+  pub even-registers : length g ≡ length w
+  even-registers = memory-parts 2048 tagSound (memory g w) (parts .memories .registers) .even
+
+  pub even-data : length u ≡ length v
+  even-data = memory-parts (2 ^ 20) stateSound (memory u v) (parts .memories .dataWords) .even
+
+  -- and so the words cut to as many as there are tags are the words
+  cut : (a b : List ℕ) → length a ≡ length b → take (length a) b ≡ b
+  cut a b e = take-all (length a) b (omega (arith, e))
+
+  joined-back : (a b c : List ℕ) → length a ≡ length b → c ++ drop (length a) b ≡ c
+  joined-back a b c e =
+      let h : length b ≤ length a = omega (arith, e) in ap (λ (l : List ℕ). c ++ l) (drop-of-length-le b h) ∙ append-nil c
+
+  pub cut-start : stateIn rows n (tableOf ps qs fl) cs g (take (length g) w) pr u (take (length u) v) ≡ stateIn rows n (tableOf ps qs fl) cs g w pr u v
+  cut-start = ap₂ (λ (x y : List ℕ). stateIn rows n (tableOf ps qs fl) cs g x pr u y) (cut g w even-registers) (cut u v even-data)
+
+  pub cut-sound : soundIn n (stateIn rows n (tableOf ps qs fl) cs g (take (length g) w) pr u (take (length u) v)) ≡ true
+  cut-sound = ap (soundIn n) cut-start ∙ h
+
+  pub cut-end : (rows′ : List Row) (table : ProcessTable) (g′ w′ u′ v′ : List ℕ)
+      → stateIn rows′ n table cs g′ (w′ ++ drop (length g) w) pr u′ (v′ ++ drop (length u) v) ≡ stateIn rows′ n table cs g′ w′ pr u′ v′
+  cut-end rows′ table g′ w′ u′ v′ =
+      ap₂ (λ (x y : List ℕ). stateIn rows′ n table cs g′ x pr u′ y) (joined-back g w w′ even-registers) (joined-back u v v′ even-data)
 
   -- the numbers of a row fit
   pub narrow-rows : (t : ℕ) (r : Row) → findRow t (take n rows) ≡ some r → Narrow r
