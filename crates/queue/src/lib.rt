@@ -85,7 +85,7 @@ fn without(free: u64, pt: u8) -> u64
 }
 
 // The word of free PTs without those of a queue.
-fn free_after(free: u64, q: Queue) -> u64
+pub fn free_after(free: u64, q: Queue) -> u64
     ensures { λ r. ⌜ r ≡ freeAfter (listOf q) free ⌝ }
 {
     let mut free = free;

@@ -2,3 +2,4 @@
 pub mod Places
 pub mod Items
 pub mod Answers
+pub mod Numbers

@@ -1,4 +1,9 @@
-use mathlib.Core.Path.{sym, _∙_}
+use Rattle.runner.specs.Laws.Numbers.{even-registers, even-data, cut-start, cut-sound, cut-end}
+use Rattle.run.specs.Run as run
+use mathlib.Core.Path.{sym, ap, _∙_}
+use lib.Seq.{length-take-le}
+use lib.ListN.{length}
+use native.Mathlib.Omega.{arith}
 use borrow.Author.Tests.{not-true, not-false}
 use Rattle.runner.specs.Laws.Answers.{unsound, too-long, out-of-range, accepted, counts, refuses}
 use borrow.Author.Needs.{needs}
@@ -68,8 +73,20 @@ returns-3 c = refuses _ _ _ _ _ _ _ _ _ _ _ _ (c .refused3 .ensures) (out-of-ran
 slice-aggregate-run-items : tie.Need-slice-aggregate-run-items
 slice-aggregate-run-items c = search needs
 
+slice-relend-prefix-run-items : tie.Need-slice-relend-prefix-run-items
+slice-relend-prefix-run-items c = let a = c .before .before .before .before .before .before .before .before .before .before .before .before .before .before .before .before .before .before .before .before .args in let h = (sym (c .before .before .before .before .before .before .before .before .sound .ensures) ∙ not-false (c .before .before .before .before .before .before .before .before .sound .result) (c .before .before .before .before .before .before .before .if1 .left)) in omega (arith, even-registers (a .rows) (a .n) (a .table .queues) (a .table .flag) (a .table .psw) (a .constants .now) (a .tags .now) (a .words .now) (a .program .now) (a .data-tags .now) (a .data-words .now) h)
+
+slice-aggregate-run-items-2 : tie.Need-slice-aggregate-run-items-2
+slice-aggregate-run-items-2 c = let a = c .before .before .before .before .before .before .before .before .before .before .before .before .before .before .before .before .before .before .before .before .before .args in let h = (sym (c .before .before .before .before .before .before .before .before .before .sound .ensures) ∙ not-false (c .before .before .before .before .before .before .before .before .before .sound .result) (c .before .before .before .before .before .before .before .before .if1 .left)) in sym (length-take-le (length (a .tags .now)) (a .words .now) (omega (arith, even-registers (a .rows) (a .n) (a .table .queues) (a .table .flag) (a .table .psw) (a .constants .now) (a .tags .now) (a .words .now) (a .program .now) (a .data-tags .now) (a .data-words .now) h)))
+
+slice-relend-prefix-run-items-2 : tie.Need-slice-relend-prefix-run-items-2
+slice-relend-prefix-run-items-2 c = let a = c .before .before .before .before .before .before .before .before .before .before .before .before .before .before .before .before .before .before .before .before .before .before .args in let h = (sym (c .before .before .before .before .before .before .before .before .before .before .sound .ensures) ∙ not-false (c .before .before .before .before .before .before .before .before .before .before .sound .result) (c .before .before .before .before .before .before .before .before .before .if1 .left)) in omega (arith, even-data (a .rows) (a .n) (a .table .queues) (a .table .flag) (a .table .psw) (a .constants .now) (a .tags .now) (a .words .now) (a .program .now) (a .data-tags .now) (a .data-words .now) h)
+
+slice-aggregate-run-items-3 : tie.Need-slice-aggregate-run-items-3
+slice-aggregate-run-items-3 c = let a = c .before .before .before .before .before .before .before .before .before .before .before .before .before .before .before .before .before .before .before .before .before .before .before .args in let h = (sym (c .before .before .before .before .before .before .before .before .before .before .before .sound .ensures) ∙ not-false (c .before .before .before .before .before .before .before .before .before .before .before .sound .result) (c .before .before .before .before .before .before .before .before .before .before .if1 .left)) in sym (length-take-le (length (a .data-tags .now)) (a .data-words .now) (omega (arith, even-data (a .rows) (a .n) (a .table .queues) (a .table .flag) (a .table .psw) (a .constants .now) (a .tags .now) (a .words .now) (a .program .now) (a .data-tags .now) (a .data-words .now) h)))
+
 run-items-requires : tie.Need-run-items-requires
-run-items-requires c κs = sym (c .before .before .before .before .before .before .before .before .items-sound .ensures) ∙ not-false (c .before .before .before .before .before .before .before .before .items-sound .result) (c .before .before .before .before .before .before .before .if3 .left)
+run-items-requires c κs = let a = c .before .before .before .before .before .before .before .before .before .before .before .before .before .before .before .before .before .before .before .before .before .before .before .args in let h = (sym (c .before .before .before .before .before .before .before .before .before .before .before .sound .ensures) ∙ not-false (c .before .before .before .before .before .before .before .before .before .before .before .sound .result) (c .before .before .before .before .before .before .before .before .before .before .if1 .left)) in (sym (c .before .before .before .before .before .before .before .before .items-sound .ensures) ∙ not-false (c .before .before .before .before .before .before .before .before .items-sound .result) (c .before .before .before .before .before .before .before .if3 .left), cut-sound (a .rows) (a .n) (a .table .queues) (a .table .flag) (a .table .psw) (a .constants .now) (a .tags .now) (a .words .now) (a .program .now) (a .data-tags .now) (a .data-words .now) h)
 
 same-length-13 : tie.Need-same-length-13
 same-length-13 c = search needs
@@ -84,7 +101,7 @@ same-length-16 : tie.Need-same-length-16
 same-length-16 c = search needs
 
 returns-4 : tie.Need-returns-4
-returns-4 c = let a = counts _ _ _ _ _ (accepted _ _ _ (sym (c .before .before .before .before .before .before .before .before .before .before .before .before .before .before .before .before .before .before .before .before .before .before .before .before .sound .ensures) ∙ not-false (c .before .before .before .before .before .before .before .before .before .before .before .before .before .before .before .before .before .before .before .before .before .before .before .before .sound .result) (c .before .before .before .before .before .before .before .before .before .before .before .before .before .before .before .before .before .before .before .before .before .before .before .if1 .left)) (c .before .before .before .before .before .before .before .before .before .before .before .before .before .before .before .before .before .before .before .before .before .before .if2 .left) (sym (c .before .before .before .before .before .before .before .before .before .before .before .before .before .before .before .before .before .before .before .before .before .items-sound .ensures) ∙ not-false (c .before .before .before .before .before .before .before .before .before .before .before .before .before .before .before .before .before .before .before .before .before .items-sound .result) (c .before .before .before .before .before .before .before .before .before .before .before .before .before .before .before .before .before .before .before .before .if3 .left))) (c .before .before .before .before .before .before .before .before .before .before .before .before .run-items .ensures .0) in (a .0, a .1, c .before .before .before .before .before .before .before .before .before .before .before .before .run-items .ensures .1)
+returns-4 c = let a = c .before .before .before .before .before .before .before .before .before .before .before .before .before .before .before .before .before .before .before .before .before .before .before .before .before .before .before .before .before .before .before .before .before .before .before .before .args in let h = (sym (c .before .before .before .before .before .before .before .before .before .before .before .before .before .before .before .before .before .before .before .before .before .before .before .before .sound .ensures) ∙ not-false (c .before .before .before .before .before .before .before .before .before .before .before .before .before .before .before .before .before .before .before .before .before .before .before .before .sound .result) (c .before .before .before .before .before .before .before .before .before .before .before .before .before .before .before .before .before .before .before .before .before .before .before .if1 .left)) in let e = c .before .before .before .before .before .before .before .before .before .before .before .before .run-items .ensures in let x = counts _ _ _ _ _ (accepted _ _ _ h (c .before .before .before .before .before .before .before .before .before .before .before .before .before .before .before .before .before .before .before .before .before .before .if2 .left) (sym (c .before .before .before .before .before .before .before .before .before .before .before .before .before .before .before .before .before .before .before .before .before .items-sound .ensures) ∙ not-false (c .before .before .before .before .before .before .before .before .before .before .before .before .before .before .before .before .before .before .before .before .before .items-sound .result) (c .before .before .before .before .before .before .before .before .before .before .before .before .before .before .before .before .before .before .before .before .if3 .left))) (e .0 ∙ ap (run.run (a .schedule .now)) (cut-start (a .rows) (a .n) (a .table .queues) (a .table .flag) (a .table .psw) (a .constants .now) (a .tags .now) (a .words .now) (a .program .now) (a .data-tags .now) (a .data-words .now) h)) in (x .0, cut-end (a .rows) (a .n) (a .table .queues) (a .table .flag) (a .table .psw) (a .constants .now) (a .tags .now) (a .words .now) (a .program .now) (a .data-tags .now) (a .data-words .now) h _ _ _ _ _ _ ∙ x .1, e .1)
 
 pub run-spec : {M : Type 1} → statement M
 run-spec =
@@ -111,6 +128,10 @@ run-spec =
     same-length-12
     returns-3
     slice-aggregate-run-items
+    slice-relend-prefix-run-items
+    slice-aggregate-run-items-2
+    slice-relend-prefix-run-items-2
+    slice-aggregate-run-items-3
     run-items-requires
     same-length-13
     same-length-14

@@ -62,7 +62,7 @@ environment-sound s r psw m h =
     }
 
 -- what a task with sound PSWs decides
-decided-sound : (s : State) (r : Row) (psws : List ℕ) (d : Decision) → SoundMemories s → every pswSound psws ≡ true → rowDecides decide s r psws ≡ some d
+pub decided-sound : (s : State) (r : Row) (psws : List ℕ) (d : Decision) → SoundMemories s → every pswSound psws ≡ true → rowDecides decide s r psws ≡ some d
     → SoundDecision (s .table .flag) d
 unfolding rowDecides headDecides environment environmentOf
 decided-sound s r psws d m h e = go (eqb (r .kind) noTrap) psws h e
