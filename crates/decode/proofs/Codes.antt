@@ -13,6 +13,11 @@ use Rattle.operation.specs.declared.Code.the-variants.{Privileged, Simulated, U
 use Rattle.operation.specs.Codes.{Line, line, find, privileged, simulated, singleCodes, families, familyOf, singleOf, codeOf}
 use Rattle.decode.specs.Columns.{singles, kept, under, columnOf}
 
+-- naming this opens the tables
+unfoldable pub tables : ℕ
+unfolding columnOf under kept find singles privileged simulated singleCodes families
+tables = 0
+
 -- x is none of the keys, as the default of a `match` has it
 abbrev pub Others : List ℕ → ℕ → Type 0 → Type 0
 Others [] x N = N
@@ -98,7 +103,7 @@ outside f ks (l ∷ ls) x d t n = go (eqb x (l .key)) (eq? x (l .key)) (outside 
 
 -- a code with another left byte is illegal
 pub no-column : (x : ℕ) → Others lefts (x / 256) Unit → Unlisted ≡ codeOf x
-unfolding familyOf covered among lefts singles privileged simulated singleCodes families
+unfolding tables familyOf covered among lefts
 no-column x o =
     let n = absent lefts (x / 256) Unit o .1 in
     sym
