@@ -1,13 +1,25 @@
 #!/usr/bin/env bash
 # The proved library timed beside the emulator of hep-tools and beside a plain copy, all built for release, in one run. What is measured is
-# the archives of the proved crates.
+# the archives of the proved crates. It fails where a function that a step is to have inlined is still called: see `inlined`.
 #
 #     bash tests/bench.sh [--write]    --write: the tables go to docs/BENCHMARKS.md, below its line "## Measured"
 set -euo pipefail
 cd "$(dirname "$0")/.."
+inlined="dispatch::perform runner::step_task"
+# A function that is inlined at every call has no symbol of its own in the archive.
+check_inlined() {
+    local function symbols
+    symbols=$(nm "$1")
+    if ! grep -q :: <<< "$symbols"; then echo "bench: $1 names no function of a crate"; exit 1; fi
+    for function in $inlined; do
+        if ! grep -q "fn ${function#*::}(" crates/"${function%::*}"/src/*.rt; then echo "bench: there is no $function"; exit 1; fi
+        if grep -q " $function\(\.\|$\)" <<< "$symbols"; then echo "bench: $function is not inlined"; exit 1; fi
+    done
+}
 for crate in hep_c image_calls; do
     rt staticlib "$crate" > target/staticlib.log 2>&1 || { cat target/staticlib.log; exit 1; }
 done
+check_inlined target/staticlib/libhep_c.a
 cargo build --quiet --release --offline --manifest-path hep-trials/Cargo.toml --bin hep-bench
 measured() {
     echo "$(date +%F), commit $(git rev-parse --short HEAD), $(lscpu | sed -n 's/^Model name: *//p'), $(nproc) processors, load $(cut -d ' ' -f 1-2 /proc/loadavg) (1 and 5 minutes)."

@@ -1,7 +1,7 @@
 #!/usr/bin/env python3
 """Holds the definitions to the emulator of hep-tools: for random inputs, the output bytes and the image after the run that the
-definitions compute must be those of the emulator. The prover does the computing, in a repository of its own below target/ that
-has the crates' types and specs and no code.
+definitions compute must be those of the emulator. The prover does the computing, in a repository of its own below target/, over
+the crates as they are proved.
 
     python3 tests/definitions.py [SEED [COUNT]]
 """
@@ -40,18 +40,6 @@ imageAfter input = scheduled (scheduleCodec .dec input)
 """
 
 
-def declared_types(source):
-    """The `use` lines, structs and enums of a crate's source."""
-    kept, depth = [], 0
-    for line in source.splitlines():
-        if depth or re.match(r"pub (struct|enum) ", line):
-            kept.append(line)
-            depth += line.count("{") - line.count("}")
-        elif line.startswith("use "):
-            kept.append(line)
-    return "\n".join(["// The types of the crate."] + kept) + "\n"
-
-
 def byte_list(data):
     return " ∷ ".join([str(b) for b in data] + ["[]"])
 
@@ -66,42 +54,44 @@ def statements(number, data, output, image):
     return text
 
 
-def definition_crates():
-    """The crate report and those below it, with their dependencies: the definitions stand there."""
-    uses = {}
-    for line in (ROOT / "crates.txt").read_text().splitlines():
-        if ":" in line and not line.startswith("#"):
-            name, below = line.split(":")
-            uses[name.strip()] = below.split()
-    return {name: uses[name] for name in uses["report"] + ["report"]}
+def rt_check(name, folder):
+    return subprocess.run(["rt", "check", name], cwd=folder, capture_output=True, text=True)
 
 
-def copy_definitions():
+def lower_crates():
+    """The lines of crates.txt for the crate report and those below it, by name: the definitions stand there."""
+    lines = {line.split(":")[0]: line for line in (ROOT / "crates.txt").read_text().splitlines()}
+    return {name: lines[name] for name in lines["report"].replace(":", "").split()}
+
+
+def make_repository(vectors):
+    """The lower crates as they are proved, and above them the crate vectors."""
     shutil.rmtree(COPY, ignore_errors=True)
-    uses = definition_crates()
-    for name in uses:
-        crate = COPY / "crates" / name
-        (crate / "src").mkdir(parents=True)
-        (crate / "src" / "lib.rt").write_text(declared_types((ROOT / "crates" / name / "src" / "lib.rt").read_text()))
-        shutil.copytree(ROOT / "crates" / name / "specs", crate / "specs")
-    lines = [f"{name}: {' '.join(below)}" for name, below in uses.items()] + ["vectors: " + " ".join(uses)]
-    (COPY / "crates.txt").write_text("\n".join(lines) + "\n")
+    lines = lower_crates()
+    for folder in ("crates/vectors/src", "crates/vectors/specs", "target/rlib", "target/stamp"):
+        (COPY / folder).mkdir(parents=True)
+    for name in lines:
+        (COPY / "crates" / name).symlink_to(ROOT / "crates" / name)
+        shutil.copytree(ROOT / "target" / "rlib" / f"{name}.rlib", COPY / "target" / "rlib" / f"{name}.rlib")
+        shutil.copy(ROOT / "target" / "stamp" / name, COPY / "target" / "stamp" / name)
+    (COPY / "crates.txt").write_text("\n".join([*lines.values(), "vectors: " + " ".join(lines)]) + "\n")
+    crate = COPY / "crates" / "vectors"
+    (crate / "src" / "lib.rt").write_text("// No code.\n")
+    (crate / "specs" / "Lib.antt").write_text("pub mod Vectors\n")
+    (crate / "specs" / "Vectors.antt").write_text(vectors)
 
 
 def main():
     seed = int(sys.argv[1]) if len(sys.argv) > 1 else 1
     count = int(sys.argv[2]) if len(sys.argv) > 2 else 60
-    copy_definitions()
-    vectors = COPY / "crates" / "vectors"
-    (vectors / "src").mkdir(parents=True)
-    (vectors / "specs").mkdir()
-    (vectors / "src" / "lib.rt").write_text("// No code.\n")
-    (vectors / "specs" / "Lib.antt").write_text("pub mod Vectors\n")
+    below = rt_check("report", ROOT)
+    if below.returncode:
+        sys.exit(below.stdout + below.stderr)
     inputs = hep_tools.generated("--small", seed, count)
     answered = zip(inputs, hep_tools.answers(inputs), strict=True)
     body = "".join(statements(number, data, *answer) for number, (data, answer) in enumerate(answered))
-    (vectors / "specs" / "Vectors.antt").write_text(HEADER + body)
-    done = subprocess.run(["rt", "check"], cwd=COPY, capture_output=True, text=True)
+    make_repository(HEADER + body)
+    done = rt_check("vectors", COPY)
     failed = sorted(set(re.findall(r"error: `((?:output|image)-\d+)`", done.stdout + done.stderr)))
     if done.returncode:
         print("\n".join((done.stdout + done.stderr).splitlines()[-20:]))

@@ -1,8 +1,10 @@
 // Codes: what a 16-bit code stands for.
 ghost use mathlib.Core.Path.{_≡_};
-ghost use mathlib.Core.List.{map};
-ghost use Rattle.operation.specs.declared.Code.the-variants.{Privileged, Simulated, Unlisted};
-ghost use Rattle.operation.specs.Codes.{line, find, privileged, simulated, callOf, quitOf, dataCodeOf, singleOf, codeOf};
+ghost use mathlib.Core.Bool.{cond};
+ghost use lib.Dec.{eqb};
+ghost use Rattle.operation.specs.declared.Code.the-variants.{Unlisted};
+ghost use Rattle.operation.specs.Codes.{callOf, quitOf, dataCodeOf, codeOf};
+ghost use Rattle.decode.specs.Columns.{columnOf};
 use operation::Code;
 use operation::Operation;
 use word::Bit;
@@ -42,90 +44,149 @@ fn data_code(op: Operation, low: u16) -> Code
     }
 }
 
-// A code that traps whatever its fields are.
-fn trapping_code(code: u16) -> Code
-    ensures { λ r. ⌜ r ≡ find (map (λ k. line k Privileged) privileged) code (find (map (λ k. line k Simulated) simulated) code Unlisted) ⌝ }
+// The only code under its left byte.
+fn only(low: u16, key: u16, code: Code) -> Code
+    ensures { λ r. ⌜ r ≡ cond (eqb low key) code Unlisted ⌝ }
 {
-    match code {
-        0x0700 => Code::Privileged,
-        0x3601 => Code::Privileged,
-        0x3700 => Code::Privileged,
-        0x3B7F => Code::Privileged,
-        0x3C00 => Code::Privileged,
-        0x4A00 => Code::Privileged,
-        0x5700 => Code::Privileged,
-        0x5800 => Code::Privileged,
-        0x7600 => Code::Privileged,
-        0x8700 => Code::Privileged,
-        0x8701 => Code::Privileged,
-        0x9900 => Code::Privileged,
-        0x9901 => Code::Privileged,
-        0x9902 => Code::Privileged,
-        0x9903 => Code::Privileged,
-        0xB700 => Code::Privileged,
-        0xC900 => Code::Privileged,
-        0xD700 => Code::Privileged,
-        0xE10E => Code::Privileged,
-        0xE11F => Code::Privileged,
-        0xE705 => Code::Privileged,
-        0xE706 => Code::Privileged,
-        0xE707 => Code::Privileged,
-        0xE97F => Code::Privileged,
-        0xEC00 => Code::Privileged,
-        0xF101 => Code::Privileged,
-        0xF10D => Code::Privileged,
-        0x7200 => Code::Simulated,
-        0x7F00 => Code::Simulated,
-        0x610A => Code::Simulated,
-        0x6108 => Code::Simulated,
+    if low == key { code } else { Code::Unlisted }
+}
+
+// One of two codes under a left byte that mean the same.
+fn either(low: u16, a: u16, b: u16, code: Code) -> Code
+    ensures { λ r. ⌜ r ≡ cond (eqb low a) code (cond (eqb low b) code Unlisted) ⌝ }
+{
+    if low == a {
+        return code;
+    }
+    only(low, b, code)
+}
+
+fn codes_41(low: u16) -> Code
+    ensures { λ r. ⌜ r ≡ columnOf 0x41 low ⌝ }
+{
+    match low {
+        0x1C => Code::Listed(Operation::Vector(Vector::Clr)),
+        0x13 => Code::Listed(Operation::Vector(Vector::One)),
         _ => Code::Unlisted,
     }
 }
 
-// A code that stands for itself.
-fn single_code(code: u16) -> Code
-    ensures { λ r. ⌜ r ≡ singleOf code Unlisted ⌝ }
+fn codes_61(low: u16) -> Code
+    ensures { λ r. ⌜ r ≡ columnOf 0x61 low ⌝ }
 {
-    match code {
-        0x0000 => Code::Listed(Operation::Nop),
-        0x611F => Code::Listed(Operation::Vector(Vector::Mov)),
-        0x411C => Code::Listed(Operation::Vector(Vector::Clr)),
-        0x4113 => Code::Listed(Operation::Vector(Vector::One)),
-        0x6110 => Code::Listed(Operation::Vector(Vector::Not)),
-        0x7119 => Code::Listed(Operation::Vector(Vector::Eor)),
-        0x7116 => Code::Listed(Operation::Vector(Vector::Eqv)),
-        0x7111 => Code::Listed(Operation::Vector(Vector::Nand)),
-        0x7114 => Code::Listed(Operation::Vector(Vector::Nor)),
-        0x711B => Code::Listed(Operation::Vector(Vector::Or)),
-        0x7728 => Code::Listed(Operation::Bit(Bit::Bitclr)),
-        0x7720 => Code::Listed(Operation::Bit(Bit::Bitset)),
-        0x6718 => Code::Listed(Operation::Bit(Bit::Encode0)),
-        0x6710 => Code::Listed(Operation::Bit(Bit::Encode1)),
-        0x7126 => Code::Listed(Operation::Integer(Integer::Add)),
-        0x7139 => Code::Listed(Operation::Integer(Integer::Sub)),
-        0x6130 => Code::Listed(Operation::Integer(Integer::Inc)),
-        0x612F => Code::Listed(Operation::Integer(Integer::Dec)),
-        0x7320 => Code::Listed(Operation::Integer(Integer::Mul)),
-        0x0900 => Code::Svc,
-        _ => trapping_code(code),
+    match low {
+        0x0A => Code::Simulated,
+        0x08 => Code::Simulated,
+        0x1F => Code::Listed(Operation::Vector(Vector::Mov)),
+        0x10 => Code::Listed(Operation::Vector(Vector::Not)),
+        0x30 => Code::Listed(Operation::Integer(Integer::Inc)),
+        0x2F => Code::Listed(Operation::Integer(Integer::Dec)),
+        _ => Code::Unlisted,
     }
 }
 
-// The families by their left eight bits first: no code that stands for itself has them.
+fn codes_67(low: u16) -> Code
+    ensures { λ r. ⌜ r ≡ columnOf 0x67 low ⌝ }
+{
+    match low {
+        0x18 => Code::Listed(Operation::Bit(Bit::Encode0)),
+        0x10 => Code::Listed(Operation::Bit(Bit::Encode1)),
+        _ => Code::Unlisted,
+    }
+}
+
+fn codes_71(low: u16) -> Code
+    ensures { λ r. ⌜ r ≡ columnOf 0x71 low ⌝ }
+{
+    match low {
+        0x19 => Code::Listed(Operation::Vector(Vector::Eor)),
+        0x16 => Code::Listed(Operation::Vector(Vector::Eqv)),
+        0x11 => Code::Listed(Operation::Vector(Vector::Nand)),
+        0x14 => Code::Listed(Operation::Vector(Vector::Nor)),
+        0x1B => Code::Listed(Operation::Vector(Vector::Or)),
+        0x26 => Code::Listed(Operation::Integer(Integer::Add)),
+        0x39 => Code::Listed(Operation::Integer(Integer::Sub)),
+        _ => Code::Unlisted,
+    }
+}
+
+fn codes_77(low: u16) -> Code
+    ensures { λ r. ⌜ r ≡ columnOf 0x77 low ⌝ }
+{
+    match low {
+        0x28 => Code::Listed(Operation::Bit(Bit::Bitclr)),
+        0x20 => Code::Listed(Operation::Bit(Bit::Bitset)),
+        _ => Code::Unlisted,
+    }
+}
+
+fn codes_99(low: u16) -> Code
+    ensures { λ r. ⌜ r ≡ columnOf 0x99 low ⌝ }
+{
+    match low {
+        0x00 => Code::Privileged,
+        0x01 => Code::Privileged,
+        0x02 => Code::Privileged,
+        0x03 => Code::Privileged,
+        _ => Code::Unlisted,
+    }
+}
+
+fn codes_e7(low: u16) -> Code
+    ensures { λ r. ⌜ r ≡ columnOf 0xE7 low ⌝ }
+{
+    match low {
+        0x05 => Code::Privileged,
+        0x06 => Code::Privileged,
+        0x07 => Code::Privileged,
+        _ => Code::Unlisted,
+    }
+}
+
+// By the left eight bits first, then by the right eight.
 pub fn decode(code: u16) -> Code
     ensures { λ r. ⌜ r ≡ codeOf code ⌝ }
 {
     let high = code / 256;
     let low = code % 256;
     match high {
+        0x00 => only(low, 0, Code::Listed(Operation::Nop)),
+        0x07 => only(low, 0, Code::Privileged),
+        0x09 => only(low, 0, Code::Svc),
+        0x19 => quit_code(low),
+        0x36 => only(low, 1, Code::Privileged),
+        0x37 => only(low, 0, Code::Privileged),
         0x38 => Code::Listed(Operation::Branch(low / 16, low % 16)),
         0x39 => Code::Listed(Operation::Create(low / 16, low % 16)),
-        0x79 => call_code(low),
-        0x19 => quit_code(low),
+        0x3B => only(low, 0x7F, Code::Privileged),
+        0x3C => only(low, 0, Code::Privileged),
+        0x41 => codes_41(low),
+        0x4A => only(low, 0, Code::Privileged),
+        0x57 => only(low, 0, Code::Privileged),
+        0x58 => only(low, 0, Code::Privileged),
+        0x61 => codes_61(low),
+        0x67 => codes_67(low),
         0x6C => data_code(Operation::LoadIndirect(low), low),
+        0x71 => codes_71(low),
+        0x72 => only(low, 0, Code::Simulated),
+        0x73 => only(low, 0x20, Code::Listed(Operation::Integer(Integer::Mul))),
+        0x76 => only(low, 0, Code::Privileged),
+        0x77 => codes_77(low),
+        0x79 => call_code(low),
         0x7C => data_code(Operation::LoadIndexed(low), low),
+        0x7F => only(low, 0, Code::Simulated),
+        0x87 => either(low, 0, 1, Code::Privileged),
+        0x99 => codes_99(low),
+        0xB7 => only(low, 0, Code::Privileged),
         0xBC => data_code(Operation::StoreIndirect(low), low),
+        0xC9 => only(low, 0, Code::Privileged),
+        0xD7 => only(low, 0, Code::Privileged),
+        0xE1 => either(low, 0x0E, 0x1F, Code::Privileged),
+        0xE7 => codes_e7(low),
+        0xE9 => only(low, 0x7F, Code::Privileged),
+        0xEC => only(low, 0, Code::Privileged),
+        0xF1 => either(low, 0x01, 0x0D, Code::Privileged),
         0xFC => data_code(Operation::StoreIndexed(low), low),
-        _ => single_code(code),
+        _ => Code::Unlisted,
     }
 }

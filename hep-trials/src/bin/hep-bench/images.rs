@@ -99,8 +99,8 @@ pub fn speeds() {
     println!("|---|---|---|---|---|");
     let rows = [
         ("memcpy", copy, ""),
-        ("read", reading, "2"),
-        ("write", writing, "2"),
+        ("read", reading, "1.35"),
+        ("write", writing, "1.1"),
         ("hep_run without items", whole, ""),
     ];
     for (name, time, bar) in rows {
