@@ -6,7 +6,7 @@ ghost use Prim.Native.Nat.{ℕ, _≤_};
 ghost use Rattle.window.specs.declared.Row.{Row};
 ghost use Rattle.window.specs.Windows.{programWindow, dataWindow};
 ghost use Rattle.window.specs.Spans.{Span};
-ghost use Rattle.window.specs.Memories.{Memory, memory};
+ghost use Rattle.window.specs.Memories.{memory};
 ghost use Rattle.operand.specs.Spans.{Spans};
 ghost use Rattle.operation.specs.declared.Code.the-variants.{Listed};
 ghost use Rattle.operation.specs.Environment.{environmentOf};

@@ -1,12 +1,8 @@
-// Queues by value: head to tail, leave and join; the lowest free PT and the room for one more over the queues of all tasks.
+// Queues by value: head to tail, leave and join; and the free PTs as a word, PT p at digit p from the right.
 ghost use mathlib.Core.Path.{_≡_};
-ghost use Rattle.step.specs.Queues.{headOf, afterHead, tailIndex, listOf, turned, shifted, joined, lowestFree};
-ghost use Rattle.step.specs.Parts.{hasRoom};
+ghost use Rattle.step.specs.Queues.{headOf, afterHead, tailIndex, listOf, turned, shifted, joined};
 ghost use Rattle.queue.specs.Mask.{without, freeAfter};
 use step::Queue;
-
-// A word of the free PTs, PT p at digit p from the right: all are free.
-const ALL: u64 = 0xffff_ffff_ffff_ffff;
 
 pub fn head_pt(q: Queue) -> u8
     ensures { λ r. ⌜ r ≡ headOf q ⌝ }
@@ -97,35 +93,4 @@ pub fn free_after(free: u64, q: Queue) -> u64
         left -= 1;
     }
     free
-}
-
-// The lowest free PT, 64 where none is.
-pub fn lowest_free(queues: [Queue; 7]) -> u8
-    ensures { λ r. ⌜ r ≡ lowestFree queues ⌝ }
-{
-    let mut free = ALL;
-    let mut k = 0;
-    while k < 7 {
-        if 0 < queues[k].len {
-            free = free_after(free, queues[k]);
-        }
-        k += 1;
-    }
-    u64::trailing_zeros(free) as u8
-}
-
-// One process more is fewer than 64.
-pub fn has_room(queues: [Queue; 7]) -> bool
-    ensures { λ r. ⌜ r ≡ hasRoom queues ⌝ }
-{
-    let mut room = 64;
-    let mut k = 0;
-    while k < 7 {
-        if room <= queues[k].len {
-            return false;
-        }
-        room -= queues[k].len;
-        k += 1;
-    }
-    1 < room
 }

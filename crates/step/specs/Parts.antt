@@ -6,7 +6,7 @@ use mathlib.Core.Path.{_≡_}
 use mathlib.Core.Bool.{Bool, true, false, cond}
 use mathlib.Core.Option.{Option, none, some}
 use mathlib.Core.List.{List, []}
-use lib.Dec.{leb, ltb}
+use lib.Dec.{ltb}
 use lib.ListN.{length, set}
 use Rattle.window.specs.declared.Row.{Row}
 use Rattle.window.specs.declared.Write.{Write}
@@ -101,28 +101,6 @@ movedQueue Leaves q = shifted q
 movedQueue (TurnsAndJoins p) q = joined (turned q) p
 movedQueue (Joins p) q = joined q p
 
--- which parts a motion has: the head leaves, or turns where there are two or more processes, then a created PT joins
-unfoldable pub headLeaves : Motion → Bool
-headLeaves Stays = false
-headLeaves Turns = false
-headLeaves Leaves = true
-headLeaves (TurnsAndJoins p) = false
-headLeaves (Joins p) = false
-
-unfoldable pub headTurns : Motion → (len : ℕ) → Bool
-headTurns Stays len = false
-headTurns Turns len = leb 2 len
-headTurns Leaves len = false
-headTurns (TurnsAndJoins p) len = leb 2 len
-headTurns (Joins p) len = false
-
-unfoldable pub ptJoins : Motion → Bool
-ptJoins Stays = false
-ptJoins Turns = false
-ptJoins Leaves = false
-ptJoins (TurnsAndJoins p) = true
-ptJoins (Joins p) = true
-
 -- the flag: the create that makes the last process raises it
 unfoldable pub flagAfter : Motion → (flag : ℕ) → ℕ
 flagAfter Stays flag = flag
@@ -137,13 +115,6 @@ rowAfter Executed r = r
 rowAfter Waved r = r
 rowAfter (Trapped k p) r = trappedRow r k p
 rowAfter ending.Idle r = r
-
--- whether the row changes
-unfoldable pub traps : Ending → Bool
-traps Executed = false
-traps Waved = false
-traps (Trapped k p) = true
-traps ending.Idle = false
 
 -- what is done about what is decided: the result, and every cell of the PSWs, the registers m and the data words n, before and after
 pub record Acts (r : Row) (d : Decided) (head free : ℕ) (room : Bool) (x : StepResult) (psw psw′ : List ℕ) (m m′ n n′ : Memory) : Type 0 where

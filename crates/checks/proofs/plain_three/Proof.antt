@@ -1,8 +1,6 @@
 use borrow.Author.Needs.{needs}
 use Rattle.checks.proofs.plain_three.Statement.{statement}
 use Rattle.checks.proofs.plain_three.Tie as tie
-use Rattle.checks.proofs.plain_three.Reads as reads
-use Rattle.checks.proofs.plain_three.Lts as lts
 use Rattle.checks.proofs.plain.Reads as plain-reads
 use Rattle.checks.proofs.plain_two.Reads as plain-two-reads
 

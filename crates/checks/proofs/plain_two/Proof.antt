@@ -1,8 +1,6 @@
 use borrow.Author.Needs.{needs}
 use Rattle.checks.proofs.plain_two.Statement.{statement}
 use Rattle.checks.proofs.plain_two.Tie as tie
-use Rattle.checks.proofs.plain_two.Reads as reads
-use Rattle.checks.proofs.plain_two.Lts as lts
 use Rattle.checks.proofs.plain.Reads as plain-reads
 
 -- src/lib.rt:114:8

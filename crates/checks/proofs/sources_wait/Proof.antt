@@ -1,8 +1,6 @@
 use borrow.Author.Needs.{needs}
 use Rattle.checks.proofs.sources_wait.Statement.{statement}
 use Rattle.checks.proofs.sources_wait.Tie as tie
-use Rattle.checks.proofs.sources_wait.Reads as reads
-use Rattle.checks.proofs.sources_wait.Lts as lts
 use Rattle.operand.proofs.access.Reads as access-reads
 use Rattle.operand.proofs.waits.Reads as waits-reads
 

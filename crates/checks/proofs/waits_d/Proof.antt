@@ -1,8 +1,6 @@
 use borrow.Author.Needs.{needs}
 use Rattle.checks.proofs.waits_d.Statement.{statement}
 use Rattle.checks.proofs.waits_d.Tie as tie
-use Rattle.checks.proofs.waits_d.Reads as reads
-use Rattle.checks.proofs.waits_d.Lts as lts
 use Rattle.operand.proofs.access.Reads as access-reads
 use Rattle.operand.proofs.waits.Reads as waits-reads
 use Rattle.window.proofs.tag_at.Reads as tag-at-reads

@@ -18,7 +18,7 @@ use Rattle.operand.specs.declared.Role.{Role}
 use Rattle.operand.specs.declared.Operand.{Operand}
 use Rattle.operand.specs.declared.Operand.the-variants.{Register}
 use Rattle.operand.specs.Field.{accessOf}
-use Rattle.operand.specs.Access.{operandCell, destinationTag, destinationLeft}
+use Rattle.operand.specs.Access.{destinationTag, destinationLeft}
 use Rattle.operation.specs.declared.Operation.{Operation}
 use Rattle.operation.specs.declared.FoundOperands.{FoundOperands}
 use Rattle.operation.specs.declared.Trap.the-variants as trap
@@ -28,7 +28,7 @@ use Rattle.operation.specs.declared.Fate.the-variants as fate
 use Rattle.operation.specs.declared.Course.{Course}
 use Rattle.operation.specs.declared.Course.the-variants as go
 use Rattle.operation.specs.declared.Decision.{Decision}
-use Rattle.operation.specs.declared.Decision.the-variants.{Waits, Traps}
+use Rattle.operation.specs.declared.Decision.the-variants.{Waits}
 use Rattle.operation.specs.Roles.{roles}
 use Rattle.operation.specs.Environment.{Environment}
 use Rattle.operation.specs.FoundOperands.{foundWith, foundAt, allFoundAt}

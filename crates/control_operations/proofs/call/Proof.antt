@@ -1,5 +1,5 @@
 use mathlib.Core.Path.{refl}
-use Rattle.operand.specs.Field.{illegalField, lookupOf}
+use Rattle.operand.specs.Field.{illegalField}
 use Rattle.operation.specs.Roles.{illegalAccess, illegalFields, illegalInstruction}
 use Rattle.operation.specs.Environment.{environmentOf}
 use Rattle.operation.specs.Laws.Found.{told}

@@ -3,9 +3,9 @@ use Rattle.operand.specs.Field.{illegalField, lookupOf}
 use Rattle.operation.specs.Roles.{illegalAccess, illegalFields, illegalInstruction}
 use Rattle.operation.specs.Environment.{environmentOf}
 use Rattle.operation.specs.Laws.Found.{told}
-use Rattle.operand.specs.Laws.Spans.{source-told, destination-told}
-use Rattle.checks.specs.Laws.Operands.{destined, sourced}
-use Rattle.checks.specs.Laws.Listed.{listed-illegal, first-violated, second-violated, third-violated, listed-found}
+use Rattle.operand.specs.Laws.Spans.{source-told}
+use Rattle.checks.specs.Laws.Operands.{sourced}
+use Rattle.checks.specs.Laws.Listed.{listed-illegal, third-violated, listed-found}
 use borrow.Author.Needs.{needs}
 use Rattle.control_operations.proofs.quit.Statement.{statement}
 use Rattle.control_operations.proofs.quit.Tie as tie

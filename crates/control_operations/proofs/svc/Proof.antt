@@ -1,4 +1,3 @@
-use mathlib.Core.Path.{refl}
 use Rattle.operation.specs.Laws.Found.{told}
 use Rattle.control_operations.specs.Laws.Performed.{svc-illegal, svc-traps}
 use borrow.Author.Needs.{needs}

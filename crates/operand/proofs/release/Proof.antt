@@ -1,4 +1,4 @@
-use borrow.Author.Tests.{lt-ltb, le-ltb, le-leb, lt-leb, eq-eqb, ne-eqb}
+use borrow.Author.Tests.{eq-eqb, ne-eqb}
 use Rattle.operand.specs.Spans.{released}
 use borrow.Author.Needs.{needs}
 use Rattle.operand.proofs.release.Statement.{statement}

@@ -7,11 +7,10 @@ use Rattle.window.specs.declared.Row.{Row}
 use Rattle.window.specs.declared.Place.{Place}
 use Rattle.window.specs.declared.Place.the-variants.{At, Violation}
 use Rattle.window.specs.Windows.{inside, registerWindow, placeIn, constantPlace}
-use Rattle.window.specs.Spans.{placeBelow}
 use Rattle.window.specs.Laws.Spans.{place-below}
 use Rattle.operand.specs.declared.Role.the-variants.{Destination, Source}
 use Rattle.operand.specs.declared.Operand.{Operand}
-use Rattle.operand.specs.declared.Operand.the-variants.{Register, Constant, Absent}
+use Rattle.operand.specs.declared.Operand.the-variants.{Register, Constant}
 use Rattle.operand.specs.declared.Lookup.{Lookup}
 use Rattle.operand.specs.declared.Lookup.the-variants.{Found}
 use Rattle.operand.specs.declared.Lookup.the-variants as lookup

@@ -1,17 +1,11 @@
 -- What an operation decides by what its lookups answer. An operand that is found lies in the window, so what is seen there is what stands there.
-use mathlib.Core.Path.{_≡_, refl, sym, ap, ap₂, _∙_, subst}
+use mathlib.Core.Path.{_≡_, refl, sym, ap, _∙_, subst}
 use lib.ListN.{getD}
 use mathlib.Core.Bool.{Bool, true, false, cond, not, _||_, true≢false}
 use lib.Dec.{eqb, leb}
 use mathlib.Core.List.{List}
 use Prim.Native.Nat.{ℕ, _/_, _%_, _^_}
 use Rattle.word.specs.declared.Instruction.{Instruction}
-use Rattle.word.specs.declared.Vector.{Vector}
-use Rattle.word.specs.declared.Vector.the-variants.{Mov, Clr, One, Not, Eor, Eqv, Nand, Nor, Or}
-use Rattle.word.specs.declared.Bit.{Bit}
-use Rattle.word.specs.declared.Bit.the-variants.{Bitclr, Bitset, Encode0, Encode1}
-use Rattle.word.specs.declared.Integer.{Integer}
-use Rattle.word.specs.declared.Integer.the-variants.{Add, Sub, Inc, Dec, Mul}
 use Rattle.window.specs.declared.Row.{Row}
 use Rattle.window.specs.declared.Place.{Place}
 use Rattle.window.specs.declared.Place.the-variants.{At, Violation}
@@ -21,7 +15,6 @@ use Rattle.window.specs.Memories.{Memory, cellAt, cellIn, seen}
 use Rattle.window.specs.Laws.Memories.{cell-inside, seen-inside}
 use Rattle.operand.specs.declared.Role.{Role}
 use Rattle.operand.specs.declared.Operand.{Operand}
-use Rattle.operand.specs.declared.Lookup.{Lookup}
 use Rattle.operand.specs.declared.Lookup.the-variants.{Found}
 use Rattle.operand.specs.declared.Lookup.the-variants as lookup
 use Rattle.operand.specs.Field.{lookupOf}
@@ -31,12 +24,11 @@ use Rattle.operation.specs.declared.Operation.{Operation}
 use Rattle.operation.specs.declared.Trap.the-variants as trap
 use Rattle.operation.specs.declared.Decision.the-variants.{Traps}
 use Rattle.operation.specs.declared.Reach.the-variants.{Reaches, Stops}
-use Rattle.operand.specs.declared.Role.the-variants.{Unused, Destination, Source}
 use Rattle.word.specs.Fields.{pcOf, instructionOf}
 use Rattle.operation.specs.declared.Code.{Code}
 use Rattle.operation.specs.declared.Code.the-variants.{Listed}
 use Rattle.operation.specs.Codes.{codeOf}
-use Rattle.operation.specs.Roles.{roles, vectorRoles, bitRoles, integerRoles, rolesOf, sourceIn, sourcesIn, illegalInstruction, bOf}
+use Rattle.operation.specs.Roles.{rolesOf, illegalInstruction, bOf}
 use Rattle.operation.specs.Perform.{wordPlace}
 use Rattle.operation.specs.Environment.{Environment, environmentOf}
 use Rattle.operation.specs.Decide.{foundOperand, decideFound, foundOperands, decideLookups, decideOperands, decideListed, decideCode, decideFetched, decide}
@@ -111,59 +103,10 @@ reached-inside row low e a = go (leb (2 ^ 31) e)
 pub reached-seen : (row : Row) (low e a : ℕ) → wordPlace low e (bytePlace row e) ≡ Reaches a → (m : Memory) → cellIn (dataWordWindow row) m a ≡ cellAt m a
 reached-seen row low e a q m = cell-inside (dataWordWindow row) m a (reached-inside row low e a q)
 
--- the roles by the number of sources; D and S1 are the fields of every operation on bits and integers
-abbrev byNumber : ℕ → Roles
-byNumber n = roles Destination (cond (eqb n 0) Unused Source) (cond (eqb n 2) Source Unused)
-
-abbrev byPair : Bool → Roles
-byPair b = roles Destination Source (cond b Source Unused)
-
-pub vector-roles : (op : Vector) (n : ℕ) → n ≡ sourcesIn (vectorRoles op) → vectorRoles op ≡ byNumber n
-unfolding vectorRoles sourceIn sourcesIn
-vector-roles op n e = rw e (go op)
-  where
-    go : (op : Vector) → vectorRoles op ≡ byNumber (sourcesIn (vectorRoles op))
-    go Mov = refl
-    go Clr = refl
-    go One = refl
-    go Not = refl
-    go Eor = refl
-    go Eqv = refl
-    go Nand = refl
-    go Nor = refl
-    go Or = refl
-
-pub bit-roles : (op : Bit) (b : Bool) → b ≡ eqb (sourcesIn (bitRoles op)) 2 → bitRoles op ≡ byPair b
-unfolding bitRoles sourceIn sourcesIn
-bit-roles op b e = rw e (go op)
-  where
-    go : (op : Bit) → bitRoles op ≡ byPair (eqb (sourcesIn (bitRoles op)) 2)
-    go Bitclr = refl
-    go Bitset = refl
-    go Encode0 = refl
-    go Encode1 = refl
-
-pub integer-roles : (op : Integer) (b : Bool) → b ≡ eqb (sourcesIn (integerRoles op)) 2 → integerRoles op ≡ byPair b
-unfolding integerRoles sourceIn sourcesIn
-integer-roles op b e = rw e (go op)
-  where
-    go : (op : Integer) → integerRoles op ≡ byPair (eqb (sourcesIn (integerRoles op)) 2)
-    go Add = refl
-    go Sub = refl
-    go Inc = refl
-    go Dec = refl
-    go Mul = refl
-
 -- an operation under its own roles
 pub under : (r : Roles) (op : Operation) (v : Environment) (i : Instruction) → rolesOf op ≡ r → decideListed r op v i ≡ decideCode (Listed op) v i
 unfolding decideCode
 under r op v i e = ap (λ (x : Roles). decideListed x op v i) (sym e)
-
-pub under-tested : (op : Operation) (v : Environment) (i : Instruction) (b d s t : Bool)
-    → rolesOf op ≡ roles Destination (cond b Unused Source) (cond d Source Unused) → b ≡ s → d ≡ t
-    → decideListed (roles Destination (cond s Unused Source) (cond t Source Unused)) op v i ≡ decideCode (Listed op) v i
-under-tested op v i b d s t e f g =
-    under _ op v i (e ∙ ap₂ {C = Roles} (λ (x y : Bool). roles Destination (cond x Unused Source) (cond y Source Unused)) f g)
 
 -- a program word that is reached is seen
 pub fetched : (row : Row) (e a : ℕ) → placeIn (programWindow row) e ≡ At a → (l : List ℕ) → seen (programWindow row) l a ≡ getD l a 0

@@ -1,4 +1,4 @@
-use Rattle.queue.proofs.Free.{digit-le}
+use Rattle.queue.specs.Laws.Digits.{digit-le}
 use Rattle.queue.specs.Mask.{without}
 use Rattle.word.proofs.Laws.{shifted-one}
 use borrow.Author.Tests.{le-leb, lt-leb, eq-eqb, ne-eqb}

@@ -4,10 +4,10 @@ use Rattle.operand.specs.Field.{lookupOf}
 use Rattle.operation.specs.Roles.{illegalFields}
 use Rattle.operation.specs.Environment.{environmentOf}
 use Rattle.operation.specs.Laws.Found.{told}
-use Rattle.operand.specs.Laws.Spans.{source-told, destination-told}
-use Rattle.checks.specs.Laws.Operands.{destined, sourced}
+use Rattle.operand.specs.Laws.Spans.{destination-told}
+use Rattle.checks.specs.Laws.Operands.{destined}
 use Rattle.register_operations.specs.Laws.Numbers.{number-illegal, few}
-use Rattle.checks.specs.Laws.Listed.{listed-illegal, first-violated, second-violated, third-violated, listed-found}
+use Rattle.checks.specs.Laws.Listed.{listed-illegal, first-violated, listed-found}
 use borrow.Author.Needs.{needs}
 use Rattle.register_operations.proofs.one.Statement.{statement}
 use Rattle.register_operations.proofs.one.Tie as tie

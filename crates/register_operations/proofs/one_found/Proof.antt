@@ -1,7 +1,7 @@
 use Rattle.register_operations.specs.Laws.Numbers.{number-performs, few}
 use native.Mathlib.Omega.{arith}
 use mathlib.Core.Path.{refl, _∙_}
-use Rattle.checks.specs.Laws.Found.{found-waits, found-masked, found-result}
+use Rattle.checks.specs.Laws.Found.{found-waits, found-result}
 use Rattle.checks.specs.Laws.Operands.{or-none, unused-operated, destination-operated}
 use borrow.Author.Needs.{needs}
 use Rattle.register_operations.proofs.one_found.Statement.{statement}

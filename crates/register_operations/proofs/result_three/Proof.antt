@@ -1,5 +1,5 @@
 use Rattle.register_operations.specs.Laws.Numbers.{known-number, from-five, is-nine}
-use mathlib.Core.Path.{_≡_, ap, _∙_}
+use mathlib.Core.Path.{ap, _∙_}
 use Rattle.operation.specs.Perform.{quality0}
 use Rattle.register_operations.specs.Numbers.{outcomeOf, operationAt, numbered}
 use borrow.Author.Needs.{needs}

@@ -1,6 +1,5 @@
 use native.Mathlib.Omega.{arith}
 use mathlib.Core.Path.{refl}
-use Rattle.operand.specs.Field.{lookupOf}
 use Rattle.operation.specs.Roles.{illegalFields}
 use Rattle.operation.specs.Environment.{environmentOf}
 use Rattle.operation.specs.Laws.Found.{told}

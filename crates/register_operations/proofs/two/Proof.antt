@@ -7,7 +7,7 @@ use Rattle.operation.specs.Laws.Found.{told}
 use Rattle.operand.specs.Laws.Spans.{source-told, destination-told}
 use Rattle.checks.specs.Laws.Operands.{destined, sourced}
 use Rattle.register_operations.specs.Laws.Numbers.{number-illegal, few}
-use Rattle.checks.specs.Laws.Listed.{listed-illegal, first-violated, second-violated, third-violated, listed-found}
+use Rattle.checks.specs.Laws.Listed.{listed-illegal, first-violated, second-violated, listed-found}
 use borrow.Author.Needs.{needs}
 use Rattle.register_operations.proofs.two.Statement.{statement}
 use Rattle.register_operations.proofs.two.Tie as tie

@@ -1,14 +1,13 @@
 -- The parts of a step make the step.
 use mathlib.Core.Path.{_≡_, refl, sym, ap, ap₂, _∙_, subst}
 use mathlib.Core.Logic.{_≢_}
-use mathlib.Core.Bool.{Bool, true, false, cond, true≢false}
+use mathlib.Core.Bool.{Bool, true, false, cond}
 use mathlib.Core.Option.{Option, none, some}
-use mathlib.Core.List.{List, [], _∷_}
-use Prim.Native.Nat.{ℕ, zero, suc, _-_, _≤_}
-use lib.Dec.{eqb, leb}
-use lib.ListN.{length, getD, set, List·getD-eq-default}
+use mathlib.Core.List.{List}
+use Prim.Native.Nat.{ℕ, _-_}
+use lib.ListN.{getD}
 use lib.Seq.{set-getD}
-use borrow.Author.Tests.{lt-ltb, leb-false, eq-eqb, ne-eqb}
+use borrow.Author.Tests.{eq-eqb, ne-eqb}
 use Rattle.window.specs.declared.Row.{Row}
 use Rattle.window.specs.Windows.{registerWindow, dataWordWindow}
 use Rattle.window.specs.Memories.{Memory, written, storedAll}
@@ -20,115 +19,24 @@ use Rattle.operation.specs.Decide.{decide}
 use Rattle.step.specs.declared.Queue.{Queue}
 use Rattle.step.specs.declared.ProcessTable.{ProcessTable}
 use Rattle.step.specs.declared.Ending.{Ending}
-use Rattle.step.specs.declared.Ending.the-variants.{Executed, Waved, Trapped}
+use Rattle.step.specs.declared.Ending.the-variants.{Trapped}
 use Rattle.step.specs.declared.Ending.the-variants as ending
 use Rattle.step.specs.declared.Decided.{Decided}
 use Rattle.step.specs.declared.Decided.the-variants.{Idle, Decides}
-use Rattle.step.specs.declared.Motion.{Motion}
-use Rattle.step.specs.declared.Motion.the-variants.{Stays, Turns, Leaves, TurnsAndJoins, Joins}
 use Rattle.step.specs.declared.StepResult.{StepResult}
-use Rattle.step.specs.Queues.{ring, listOf, headOf, turned, shifted, joined, lowestFree}
+use Rattle.step.specs.Queues.{ring, listOf, headOf, lowestFree}
 use Rattle.step.specs.State.{State, state, findRow, putRow, noQueue, queueIn, taskQueue, withQueue, pswsOf, processesOf, environment}
 use Rattle.step.specs.Act.{registerWrites, dataWrites, trappedRow, tableOf, Change, Stepped, changeOf, fateIn, createdIn, faultIn, createdPsw, headPsw, act}
 use Rattle.step.specs.Step.{noTrap, headDecides, rowDecides, acted, stepRow, stepBy, step}
-use Rattle.step.specs.Parts.{decidedAs, hasRoom, fateCreates, creates, fateResult, decisionResult, resultOf, fatePsws, decisionPsws, pswsAfter, registersWritten, dataWritten, movedQueue, headLeaves, headTurns, ptJoins, flagAfter, rowAfter, traps, Acts}
+use Rattle.step.specs.Parts.{decidedAs, hasRoom, fateCreates, creates, fateResult, decisionResult, resultOf, fatePsws, decisionPsws, pswsAfter, registersWritten, dataWritten, movedQueue, flagAfter, rowAfter, Acts}
 use Rattle.step.specs.Laws.Occurrences.{Heads}
 use Rattle.step.specs.Laws.Queues.{heads}
-use Rattle.step.specs.Laws.Step.{none-live}
 use Rattle.step.specs.Laws.Rows.{put-same, find-task}
 
 -- the task's own queue for its queue
 queue-same : (qs : List Queue) (t : ℕ) → withQueue qs t (queueIn qs t) ≡ qs
 unfolding withQueue queueIn
 queue-same qs t = set-getD qs (t - 1) noQueue
-
--- a queue after the first part of a motion, after the second, and after the third with the PT that joins
-abbrev pub leftQueue : Motion → Queue → Queue
-leftQueue m q = cond (headLeaves m) (shifted q) q
-
-abbrev pub turnedQueue : Motion → Queue → Queue
-turnedQueue m q = cond (headTurns m (q .len)) (turned q) q
-
-abbrev pub joinedQueue : Motion → (free : ℕ) → Queue → Queue
-joinedQueue m free q = cond (ptJoins m) (joined q free) q
-
--- the parts of a motion one after another make the motion
-turned-where : (q : Queue) → turned q ≡ cond (leb 2 (q .len)) (turned q) q
-unfolding turned
-turned-where q = go (leb 2 (q .len)) refl
-  where
-    go : (b : Bool) → leb 2 (q .len) ≡ b → turned q ≡ cond b (turned q) q
-    go true e = refl
-    go false e = simp (lt-ltb (q .len) 2 (leb-false 2 (q .len) e))
-
-module _ (free : ℕ) (room : Bool) (q : Queue) where
-  abbrev in-turn : Motion → Queue
-  in-turn m = joinedQueue m free (turnedQueue m (leftQueue m q))
-
-  fate-in-turn : (f : Fate) → movedQueue (fateResult free room f .motion) q ≡ in-turn (fateResult free room f .motion)
-  unfolding fateResult movedQueue headLeaves headTurns ptJoins
-  fate-in-turn (Continues p) = turned-where q
-  fate-in-turn Quits = refl
-  fate-in-turn (Creates p new) = go room
-    where
-      go : (b : Bool) → movedQueue (fateResult free b (Creates p new) .motion) q ≡ in-turn (fateResult free b (Creates p new) .motion)
-      go true = ap (λ (x : Queue). joined x free) (turned-where q)
-      go false = refl
-
-  moved-in-turn : (d : Decided) → movedQueue (resultOf free room d .motion) q ≡ in-turn (resultOf free room d .motion)
-  unfolding resultOf decisionResult movedQueue headLeaves headTurns ptJoins
-  moved-in-turn Idle = refl
-  moved-in-turn (Decides (Waits w)) = turned-where q
-  moved-in-turn (Decides (Traps k p)) = refl
-  moved-in-turn (Decides (Executes e)) = fate-in-turn (e .fate)
-
--- a part made at index k, and one left out
-pub part-made : (qs : List Queue) (k : ℕ) (b : Bool) (a q : Queue) → b ≡ true → q ≡ a → set qs k q ≡ set qs k (cond b a (getD qs k noQueue))
-part-made qs k b a q e p = rw (e, p)
-
-pub part-left : (qs : List Queue) (k : ℕ) (b : Bool) (a : Queue) → b ≡ false → qs ≡ set qs k (cond b a (getD qs k noQueue))
-part-left qs k b a e = rw e (sym (set-getD qs k noQueue))
-
--- two changes at one index
-set-again : (qs : List Queue) (k : ℕ) (a : Queue) (f : Queue → Queue) → set (set qs k a) k (f (getD (set qs k a) k noQueue)) ≡ set qs k (f a)
-set-again [] zero a f = refl
-set-again [] (suc k) a f = refl
-set-again (q ∷ qs) zero a f = refl
-set-again (q ∷ qs) (suc k) a f = ap (λ (l : List Queue). q ∷ l) (set-again qs k a f)
-
--- the queues after each part, at the index k of the task's queue
-pub queues-moved : (qs qs₁ qs₂ qs₃ : List Queue) (t k free : ℕ) (room : Bool) (d : Decided) (m : Motion) → k ≡ t - 1 → m ≡ resultOf free room d .motion
-    → qs₁ ≡ set qs k (leftQueue m (getD qs k noQueue))
-    → qs₂ ≡ set qs₁ k (turnedQueue m (getD qs₁ k noQueue))
-    → qs₃ ≡ set qs₂ k (joinedQueue m free (getD qs₂ k noQueue))
-    → qs₃ ≡ withQueue qs t (movedQueue m (queueIn qs t))
-unfolding withQueue queueIn
-queues-moved qs qs₁ qs₂ qs₃ t k free room d m e h a b c =
-    let q : Queue = getD qs k noQueue in
-    let q₁ : Queue = leftQueue m q in
-    let q₂ : Queue = turnedQueue m q₁ in
-    let second : qs₂ ≡ set qs k q₂ = b ∙ ap (λ (l : List Queue). set l k (turnedQueue m (getD l k noQueue))) a ∙ set-again qs k q₁ (turnedQueue m) in
-    let third : qs₃ ≡ set qs k (joinedQueue m free q₂) =
-    c ∙ ap (λ (l : List Queue). set l k (joinedQueue m free (getD l k noQueue))) second ∙ set-again qs k q₂ (joinedQueue m free) in
-    let made : movedQueue m q ≡ joinedQueue m free q₂ = subst (λ (n : Motion). movedQueue n q ≡ in-turn free room q n) (sym h) (moved-in-turn free room q d) in
-    third ∙ ap (set qs k) (sym made) ∙ ap (λ (i : ℕ). set qs i (movedQueue m (getD qs i noQueue))) e
-
--- the flag stays where none joins
-pub unraised : (m : Motion) (flag : ℕ) → ptJoins m ≡ false → flagAfter m flag ≡ flag
-unfolding ptJoins flagAfter
-unraised Stays flag e = refl
-unraised Turns flag e = refl
-unraised Leaves flag e = refl
-unraised (TurnsAndJoins p) flag e = refl
-unraised (Joins p) flag e = absurd (true≢false e)
-
--- a row that does not change
-pub untrapped : (e : Ending) (r : Row) → traps e ≡ false → rowAfter e r ≡ r
-unfolding traps rowAfter
-untrapped Executed r n = refl
-untrapped Waved r n = refl
-untrapped (Trapped k p) r n = absurd (true≢false n)
-untrapped ending.Idle r n = refl
 
 -- what is decided: a trapped task and one without processes decide nothing, else the head process does
 pub trapped-idle : (s : State) (r : Row) (psws : List ℕ) → r .kind ≢ noTrap → Idle ≡ decidedAs (rowDecides decide s r psws)
@@ -244,18 +152,3 @@ unfolding steppedBy
 step-made t s r r′ d x psw m n queues flag p a b c =
     let e : t ≡ r .task = sym (find-task t (s .rows) r (p .row)) in
     step-parts t s r d x psw m n p ∙ rw (a, b, c, e)
-
--- a task that has no queue is idle
-no-processes : (table : ProcessTable) (t : ℕ) → length (table .queues) ≤ t - 1 → processesOf table t ≡ []
-unfolding processesOf queueIn
-no-processes table t h =
-    ap (λ (q : Queue). pswsOf (table .psw) (listOf q)) (List·getD-eq-default (table .queues) noQueue {n = t - 1} h) ∙ none-live noQueue (table .psw) refl
-
-pub no-queue-idle : (t : ℕ) (s : State) (r : Row) → findRow t (s .rows) ≡ some r → length (s .table .queues) ≤ t - 1
-    → step t s ≡ after s (putRow t r (s .rows)) (s .table) (s .registers) (s .dataWords) ending.Idle
-unfolding step stepBy stepRow rowDecides acted headDecides
-no-queue-idle t s r e h = rw (e, no-processes (s .table) t h, put-same t (s .rows) r e) (go (eqb (r .kind) noTrap))
-  where
-    go : (b : Bool) → acted decide s r (cond b (headDecides decide s r []) none) ≡ after s (s .rows) (s .table) (s .registers) (s .dataWords) ending.Idle
-    go true = refl
-    go false = refl

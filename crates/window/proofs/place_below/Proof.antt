@@ -1,4 +1,4 @@
-use borrow.Author.Tests.{lt-ltb, le-ltb, le-leb, lt-leb, eq-eqb, ne-eqb}
+use borrow.Author.Tests.{lt-ltb, le-ltb}
 use Rattle.window.specs.Spans.{placeBelow}
 use borrow.Author.Needs.{needs}
 use Rattle.window.proofs.place_below.Statement.{statement}
