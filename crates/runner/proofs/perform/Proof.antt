@@ -1,7 +1,5 @@
 use Rattle.runner.proofs.perform.Statement.{statement}
 use Rattle.runner.proofs.perform.Tie as tie
-use Rattle.runner.proofs.perform.Reads as reads
-use Rattle.runner.proofs.perform.Lts as lts
 
 -- src/lib.rt:496:1
 returns : tie.Need-returns

@@ -3,7 +3,7 @@ use Rattle.rings.specs.Laws.Settled.{turner-fits, leaver-lt, given-fits, ready-
 use Rattle.step.specs.Performs.{courseResult}
 use Rattle.operation.specs.declared.Trap.the-variants as trap
 use lib.ListN.{getD}
-use mathlib.Core.Path.{refl, ap}
+use mathlib.Core.Path.{ap}
 use borrow.Author.Needs.{needs}
 use Rattle.runner.proofs.settle.Statement.{statement}
 use Rattle.runner.proofs.settle.Tie as tie
