@@ -3,10 +3,8 @@ use Prim.Native.Nat.{ℕ, suc, _+_, _-_, _≤_, _<_}
 use mathlib.Core.Path.{_≡_, ap, _∙_}
 use mathlib.Core.Bool.{Bool, _&&_}
 use mathlib.Core.List.{List, _∷_}
-use native.Mathlib.Numerals.{add-one}
 use native.Mathlib.Omega.{arith}
-use lib.ListN.{length, getD, drop, drop-of-length-le}
-use lib.Seq.{drop-cons}
+use lib.ListN.{getD}
 use Rattle.word.specs.Laws.Conjunctions.{and-assoc}
 use Rattle.step.specs.Soundness.{every}
 use Rattle.image.specs.Laws.Conjoined.{and-true}
@@ -14,14 +12,6 @@ use Rattle.image_words.specs.Reading.{listed, tagsAt}
 use Rattle.image_words.specs.Laws.Fields.{byte-at}
 
 module _ (f : ℕ → Bool) where
-  pub every-step : (l : List ℕ) (i : ℕ) (good : Bool) → i < length l → ((good && f (getD l i 0)) && every f (drop (i + 1) l)) ≡ (good && every f (drop i l))
-  unfolding every
-  every-step l i good h = rw (add-one i, drop-cons l i 0 h) (and-assoc good _ _)
-
-  pub every-end : (l : List ℕ) (i : ℕ) (good : Bool) → length l ≤ i → (good && every f (drop i l)) ≡ good
-  unfolding every
-  every-end l i good h = rw (drop-of-length-le l h) (and-true good)
-
   pub tags-step : (s : List ℕ) (p k : ℕ) (good : Bool) → 0 < k → ((good && f (getD s p 0)) && every f (tagsAt (k - 1) (p + 9) s)) ≡ (good && every f (tagsAt k p s))
   unfolding tagsAt listed every
   tags-step s p k good h =

@@ -1,8 +1,7 @@
 -- What becomes of task t by the course of its step: its ending, trap record, queue, the word of free PTs and the create fault flag.
 use mathlib.Core.Path.{_≡_}
 use mathlib.Core.List.{List}
-use Prim.Native.Nat.{ℕ, _+_, _*_, _%_, _<_}
-use lib.Count.{trailingZeros}
+use Prim.Native.Nat.{ℕ, _<_}
 use lib.ListN.{length, getD}
 use Rattle.operation.specs.declared.Course.{Course}
 use Rattle.operation.specs.declared.Course.the-variants.{Creates}

@@ -422,24 +422,24 @@ fn created(
     trap(kinds, stored, t, Trap::CreateFault, p)
 }
 
-// What becomes of task t, whose head process has the PT pt, by the course of its step; fresh is the lowest free PT.
+// What becomes of task t, whose head process has the PT pt and then the PSW p, by the course of its step; fresh is the lowest free PT.
 fn settle(
     c: Course,
     t: usize,
     len: usize,
     pt: usize,
     fresh: usize,
+    p: u64,
     kinds: &mut [u8],
     stored: &mut [u64],
     pts: &mut [u8],
     heads: &mut [usize],
     lens: &mut [usize],
-    psws: &[u64],
     flag: &mut u8,
     free: &mut u64,
 ) -> Ending
-    requires { ⌜ (1 ≤ t) × (t ≤ 7) × (8 ≤ length (now kinds)) × (8 ≤ length (now stored)) × (512 ≤ length (now pts)) × (8 ≤ length (now heads)) × (8 ≤ length (now lens)) × Ready t c (now pts) (now heads) (now lens) (now free) × (getD (now lens) t 0 ≡ len) × (pt ≡ getD (now pts) (64 * t + getD (now heads) t 0 % 64) 0) × (fresh ≡ trailingZeros 64 (now free)) × (pt < length (now psws)) ⌝ }
-    ensures { λ r. ⌜ Settled t (courseResult fresh (hasRoom (queuesIn (now (pts .entry)) (now (heads .entry)) (now (lens .entry)))) (getD (now (psws .entry)) pt 0) c) r (now (kinds .entry)) (now (stored .entry)) (now (pts .entry)) (now (heads .entry)) (now (lens .entry)) (now (flag .entry)) (now (kinds .exit)) (now (stored .exit)) (now (pts .exit)) (now (heads .exit)) (now (lens .exit)) (now (flag .exit)) (now (free .exit)) ⌝ }
+    requires { ⌜ (1 ≤ t) × (t ≤ 7) × (8 ≤ length (now kinds)) × (8 ≤ length (now stored)) × (512 ≤ length (now pts)) × (8 ≤ length (now heads)) × (8 ≤ length (now lens)) × Ready t c (now pts) (now heads) (now lens) (now free) × (getD (now lens) t 0 ≡ len) × (pt ≡ getD (now pts) (64 * t + getD (now heads) t 0 % 64) 0) × (fresh ≡ trailingZeros 64 (now free)) ⌝ }
+    ensures { λ r. ⌜ Settled t (courseResult fresh (hasRoom (queuesIn (now (pts .entry)) (now (heads .entry)) (now (lens .entry)))) p c) r (now (kinds .entry)) (now (stored .entry)) (now (pts .entry)) (now (heads .entry)) (now (lens .entry)) (now (flag .entry)) (now (kinds .exit)) (now (stored .exit)) (now (pts .exit)) (now (heads .exit)) (now (lens .exit)) (now (flag .exit)) (now (free .exit)) ⌝ }
 {
     match c {
         Course::Continues => {
@@ -458,7 +458,7 @@ fn settle(
             t,
             len,
             fresh,
-            psws[pt],
+            p,
             kinds,
             stored,
             pts,
@@ -467,25 +467,13 @@ fn settle(
             flag,
             free,
         ),
-        Course::CreateFault => trap(kinds, stored, t, Trap::CreateFault, psws[pt]),
-        Course::IllegalInstruction => trap(kinds, stored, t, Trap::IllegalInstruction, psws[pt]),
-        Course::ProtectionViolation => trap(kinds, stored, t, Trap::ProtectionViolation, psws[pt]),
-        Course::PrivilegedInstruction => trap(
-            kinds,
-            stored,
-            t,
-            Trap::PrivilegedInstruction,
-            psws[pt],
-        ),
-        Course::SupervisorCall => trap(kinds, stored, t, Trap::SupervisorCall, psws[pt]),
-        Course::SimulatedInstruction => trap(
-            kinds,
-            stored,
-            t,
-            Trap::SimulatedInstruction,
-            psws[pt],
-        ),
-        Course::DataException => trap(kinds, stored, t, Trap::DataException, psws[pt]),
+        Course::CreateFault => trap(kinds, stored, t, Trap::CreateFault, p),
+        Course::IllegalInstruction => trap(kinds, stored, t, Trap::IllegalInstruction, p),
+        Course::ProtectionViolation => trap(kinds, stored, t, Trap::ProtectionViolation, p),
+        Course::PrivilegedInstruction => trap(kinds, stored, t, Trap::PrivilegedInstruction, p),
+        Course::SupervisorCall => trap(kinds, stored, t, Trap::SupervisorCall, p),
+        Course::SimulatedInstruction => trap(kinds, stored, t, Trap::SimulatedInstruction, p),
+        Course::DataException => trap(kinds, stored, t, Trap::DataException, p),
     }
 }
 
@@ -541,18 +529,19 @@ fn step_task(
         data_tags,
         data_words,
     );
+    let p = psws[pt];
     settle(
         c,
         t,
         len,
         pt,
         fresh,
+        p,
         kinds,
         stored,
         pts,
         heads,
         lens,
-        psws,
         flag,
         free,
     )

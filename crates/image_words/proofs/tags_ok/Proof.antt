@@ -5,7 +5,7 @@ use mathlib.Core.Path.{_≡_, refl, sym, _∙_}
 use lib.ListN.{drop}
 use Rattle.step.specs.Soundness.{every}
 use Rattle.image_words.specs.Scanning.{tagTest}
-use Rattle.image_words.proofs.Testing.{every-step, every-end}
+use Rattle.step.specs.Laws.Every.{every-step, every-end}
 use borrow.Author.Needs.{needs}
 use Rattle.image_words.proofs.tags_ok.Statement.{statement}
 use Rattle.image_words.proofs.tags_ok.Tie as tie

@@ -1,14 +1,14 @@
 -- One step of the state of the numbers.
-use mathlib.Core.Path.{_≡_, refl, sym, ap, ap₂, _∙_, subst}
+use mathlib.Core.Path.{_≡_, refl, sym, ap, ap₂, _∙_}
 use mathlib.Core.Logic.{_≢_}
 use mathlib.Core.Bool.{Bool, true, false, cond, not, _&&_, true≢false, false≢true}
 use mathlib.Core.Option.{Option, none, some}
-use mathlib.Core.List.{List, [], _∷_}
-use Prim.Native.Nat.{ℕ, zero, suc, _+_, _-_, _*_, _%_, _^_, _≤_, _<_}
+use mathlib.Core.List.{List, []}
+use Prim.Native.Nat.{ℕ, zero, suc, _+_, _-_, _*_, _%_, _≤_, _<_}
 use native.Mathlib.Omega.{arith}
 use lib.Dec.{eqb, leb}
 use lib.Count.{trailingZeros}
-use lib.ListN.{length, getD, take}
+use lib.ListN.{length, getD}
 use borrow.Author.Tests.{eq-eqb, ne-eqb}
 use Rattle.word.specs.Laws.Bools.{Le?, below, above, le?}
 use Rattle.window.specs.declared.Row.{Row}
@@ -24,13 +24,12 @@ use Rattle.operation.specs.declared.Course.the-variants as go
 use Rattle.operation.specs.Decide.{decide}
 use Rattle.operation.specs.Environment.{environmentOf}
 use Rattle.operation.specs.Laws.SoundDecisions.{SoundFate, SoundDecision}
-use Rattle.step.specs.declared.Queue.{Queue}
 use Rattle.step.specs.declared.Ending.{Ending}
 use Rattle.step.specs.declared.Ending.the-variants.{Idle}
 use Rattle.step.specs.declared.Decided.the-variants.{Decides}
 use Rattle.step.specs.declared.StepResult.{StepResult}
 use Rattle.step.specs.Queues.{headOf, livePts, hit, occ, freeFrom, lowestFree}
-use Rattle.step.specs.State.{State, state, findRow, putRow, noQueue, queueIn, taskQueue, pswsOf, processesOf, environment}
+use Rattle.step.specs.State.{State, state, findRow, putRow, noQueue, queueIn, taskQueue, processesOf, environment}
 use Rattle.step.specs.Act.{tableOf, Stepped}
 use Rattle.step.specs.Step.{noTrap, rowDecides, acted, headDecides, stepRow, stepBy, step}
 use Rattle.step.specs.Parts.{decidedAs, hasRoom, rowAfter}
@@ -41,13 +40,12 @@ use Rattle.step.specs.Laws.Queues.{Shaped}
 use Rattle.step.specs.Laws.Step.{none-live}
 use Rattle.step.specs.Laws.Act.{Tidy}
 use Rattle.step.specs.Laws.Rows.{find-task}
-use Rattle.step.specs.Laws.Sound.{Sound, SoundTable, sound-parts, found-hasRow, tidy-of}
+use Rattle.step.specs.Laws.Sound.{Sound, sound-parts, found-hasRow, tidy-of}
 use Rattle.step.specs.Laws.TableKept.{own-sound}
 use Rattle.step.specs.Laws.SoundKept.{decided-sound, step-sound}
-use Rattle.step.specs.Laws.Parts.{Parts, step-made, trapped-idle, empty-idle, head-decides}
+use Rattle.step.specs.Laws.Parts.{Parts, step-made, head-decides}
 use Rattle.step.specs.Laws.Performs.{performs-acts}
-use Rattle.rings.specs.Rings.{queueAt, queuesIn}
-use Rattle.rings.specs.Mask.{Frees}
+use Rattle.rings.specs.Rings.{queuesIn}
 use Rattle.rings.specs.Held.{Held}
 use Rattle.rings.specs.Records.{rowIn, rowsIn}
 use Rattle.rings.specs.Spans.{Windows}
@@ -55,8 +53,8 @@ use Rattle.rings.specs.Settled.{Ready, Settled}
 use Rattle.rings.specs.Numbers.{stateFrom, Numbers, Steps}
 use Rattle.rings.specs.Laws.Live.{Once}
 use Rattle.rings.specs.Laws.Held.{held-len, held-head, held-head-lt, held-lowest, leaves}
-use Rattle.rings.specs.Laws.Records.{Rising, find-in, records-after}
-use Rattle.rings.specs.Laws.Rows.{rising-in, Listed, listed, listed-kind, Row-of, live-row}
+use Rattle.rings.specs.Laws.Records.{find-in, records-after}
+use Rattle.rings.specs.Laws.Rows.{rising-in, listed, listed-kind, Row-of, live-row}
 use Rattle.rings.specs.Laws.Spans.{windows-in}
 
 -- an unlisted task is idle

@@ -6,24 +6,22 @@ use mathlib.Core.Option.{Option, none, some}
 use mathlib.Core.List.{List, [], _∷_, _++_}
 use Prim.Native.Nat.{ℕ, zero, suc, _+_, _-_, _*_, _≤_, _<_, _^_}
 use native.Mathlib.Omega.{arith}
-use native.Mathlib.Numerals.{add-one}
 use lib.Dec.{eqb, leb, ltb}
-use lib.ListN.{length, getD, set, take, drop, length-take}
+use lib.ListN.{length, getD, set, take, drop}
 use lib.Seq.{length-take-le, take-suc, drop-cons, append-snoc, set-at, take-at, drop-at}
-use borrow.Author.Tests.{eqb-true, leb-true, ltb-true, ltb-false, le-ltb}
+use borrow.Author.Tests.{leb-true, ltb-true}
 use Rattle.word.specs.Laws.Bools.{and-left, and-right, Eq?, same, differ, eq?}
-use Rattle.word.specs.Laws.Conjunctions.{both}
 use Rattle.window.specs.declared.Row.{Row}
 use Rattle.window.specs.Windows.{windowOf, registerWindow, programWindow, dataWordWindow}
 use Rattle.window.specs.Sound.{bits}
 use Rattle.step.specs.declared.Queue.{Queue}
 use Rattle.step.specs.State.{findRow, noQueue}
-use Rattle.step.specs.Soundness.{taskSound, basesSound, kindSound, recordSound, rowSound, rowsSound, hasRow, endsIn, rowEndsIn, windowsSound, queuesSound}
-use Rattle.step.specs.Laws.Rows.{Found, here, there, found, find-task, none-some}
+use Rattle.step.specs.Soundness.{taskSound, basesSound, rowSound, rowsSound, hasRow, endsIn, rowEndsIn, windowsSound, queuesSound}
+use Rattle.step.specs.Laws.Rows.{find-here, find-there, here, there, found, find-task, none-some}
 use Rattle.step.specs.Laws.Sound.{found-hasRow, hasRow-range, queues-parts}
 use Rattle.rings.specs.Records.{withRecord, rowIn, rowsIn}
 use Rattle.rings.specs.Spans.{Narrow}
-use Rattle.rings.specs.Laws.Records.{Rising, ends, goes, find-here, find-there}
+use Rattle.rings.specs.Laws.Records.{Rising, ends, goes}
 
 -- ---- rows in ascending number
 
@@ -147,7 +145,7 @@ narrow-row b nr np nd t (y ∷ rs) r e w h f =
 
 -- ---- rows with their records one by one, the first i of an array having theirs
 
-pub length-rows : (ks ss : List ℕ) (rs : List Row) → length (rowsIn ks ss rs) ≡ length rs
+length-rows : (ks ss : List ℕ) (rs : List Row) → length (rowsIn ks ss rs) ≡ length rs
 unfolding rowsIn
 length-rows ks ss [] = refl
 length-rows ks ss (r ∷ rs) = ap suc (length-rows ks ss rs)

@@ -7,7 +7,7 @@ use Prim.Native.Nat.{ℕ, _+_, _-_, _*_, _%_, _^_, _≤_, _<_}
 use native.Mathlib.Omega.{arith}
 use lib.Dec.{eqb}
 use lib.Seq.{set-getD}
-use lib.ListN.{length, getD, set}
+use lib.ListN.{getD, set}
 use lib.Count.{trailingZeros}
 use Rattle.operation.specs.declared.Trap.{Trap}
 use Rattle.operation.specs.declared.Trap.the-variants.{CreateFault}
@@ -17,19 +17,17 @@ use Rattle.operation.specs.Environment.{kindOf}
 use Rattle.step.specs.declared.Queue.{Queue}
 use Rattle.step.specs.declared.Ending.{Ending}
 use Rattle.step.specs.declared.Ending.the-variants.{Executed, Waved, Trapped}
-use Rattle.step.specs.declared.Motion.the-variants.{Stays, Turns, Leaves, TurnsAndJoins, Joins}
+use Rattle.step.specs.declared.Motion.the-variants.{Stays}
 use Rattle.step.specs.Queues.{headOf, turned, shifted, joined, livePts, lowestFree}
 use Rattle.step.specs.State.{noQueue, queueIn, withQueue}
 use Rattle.step.specs.Parts.{hasRoom, result, movedQueue, flagAfter}
 use Rattle.step.specs.Performs.{courseResult}
-use Rattle.step.specs.Laws.Occurrences.{Free}
-use Rattle.step.specs.Laws.Queues.{Shaped}
-use Rattle.rings.specs.Rings.{queuesFrom, queuesIn, Moves}
+use Rattle.rings.specs.Rings.{queuesIn, Moves}
 use Rattle.rings.specs.Mask.{Frees}
 use Rattle.rings.specs.Held.{Held}
 use Rattle.rings.specs.Records.{kindsAfter, storedAfter}
 use Rattle.rings.specs.Settled.{Ready, Settled}
-use Rattle.rings.specs.Laws.Held.{held-length, held-len, held-head, held-lowest, held-turned, held-head-lt, held-given-lt, held-shifted, held-free, held-free-le, held-short, held-room, held-created}
+use Rattle.rings.specs.Laws.Held.{held-len, held-head, held-lowest, held-turned, held-head-lt, held-given-lt, held-shifted, held-free, held-free-le, held-short, held-room, held-created}
 
 held-of : (t : ℕ) (x : Course) (a b c : List ℕ) (z : ℕ) → Ready t x a b c z → Held 7 1 a b c z (queuesIn a b c)
 unfolding queuesIn

@@ -1,10 +1,10 @@
 -- Windows in numbers by task: the numbers of one task laid, those of the others as they are.
-use mathlib.Core.Path.{_≡_, refl, sym, ap, _∙_}
+use mathlib.Core.Path.{_≡_, sym, ap, _∙_}
 use mathlib.Core.Logic.{_≢_}
 use mathlib.Core.Bool.{Bool, true, false}
 use mathlib.Core.Option.{none, some}
 use mathlib.Core.List.{List}
-use Prim.Native.Nat.{ℕ, suc, _+_, _*_, _≤_, _<_}
+use Prim.Native.Nat.{ℕ, _+_, _*_, _≤_, _<_}
 use native.Mathlib.Omega.{arith}
 use lib.Dec.{eqb}
 use lib.ListN.{length, getD, set, length-set}
@@ -12,8 +12,7 @@ use lib.Seq.{getD-set-same, getD-set-other}
 use Rattle.word.specs.Laws.Bools.{Eq?, same, differ, eq?}
 use Rattle.window.specs.declared.Row.{Row}
 use Rattle.window.specs.Windows.{windowOf, registerWindow, programWindow, dataWindow}
-use Rattle.window.specs.Spans.{endOf, Span}
-use Rattle.operand.specs.Spans.{Spans}
+use Rattle.window.specs.Spans.{endOf}
 use Rattle.step.specs.State.{findRow}
 use Rattle.step.specs.Laws.Rows.{some-inj, none-some}
 use Rattle.rings.specs.Records.{withRecord}

@@ -1,17 +1,14 @@
-use Prim.Native.Nat.{_+_, _-_, _*_, _^_, _≤_}
-use mathlib.Core.Path.{_≡_, refl, ap, sym, _∙_, subst}
+use Prim.Native.Nat.{_-_, _^_, _≤_}
+use mathlib.Core.Path.{_≡_, refl}
 use native.Mathlib.Omega.{arith}
 use borrow.Author.Needs.{needs}
-use lib.ListN.{length, drop}
+use lib.ListN.{drop}
 use Rattle.step.specs.Queues.{livePts}
 use Rattle.queue.specs.Mask.{freeAfter}
 use Rattle.queue.proofs.Rings.{queues-go, queues-end}
 use Rattle.rings.specs.Laws.Mask.{frees-made}
 use Rattle.runner.proofs.free_mask.Statement.{statement}
 use Rattle.runner.proofs.free_mask.Tie as tie
-use Rattle.runner.proofs.free_mask.Reads as reads
-use Rattle.runner.proofs.free_mask.Lts as lts
-use Rattle.queue.proofs.free_after.Reads as free-after-reads
 
 abbrev Inv-loop : tie.InvT-loop
 Inv-loop queues free₀ k₀ free k = (k ≤ 7) × (freeAfter (livePts (drop k queues)) free ≡ freeAfter (livePts queues) (2 ^ 64 - 1))

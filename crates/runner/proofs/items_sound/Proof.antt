@@ -1,5 +1,5 @@
 use borrow.Author.Needs.{needs}
-use Rattle.runner.specs.Laws.Items.{items-step, items-end}
+use Rattle.step.specs.Laws.Every.{every-step, every-end}
 use Rattle.run.specs.Schedule.{itemSound}
 use Rattle.step.specs.Soundness.{every}
 use lib.ListN.{drop}
@@ -31,10 +31,10 @@ loop-less : tie.Need-loop-less Inv-loop μ-loop
 loop-less c = search needs
 
 loop-again : tie.Need-loop-again Inv-loop μ-loop
-loop-again c = rw (c .still .ensures) (items-step (c .before .before .before .before .before .args .schedule .now) (c .before .before .before .loop .i) (c .before .before .before .loop .good) (c .before .before .loop-test .taken) ∙ c .before .before .before .loop .inv)
+loop-again c = rw (c .still .ensures) (every-step itemSound (c .before .before .before .before .before .args .schedule .now) (c .before .before .before .loop .i) (c .before .before .before .loop .good) (c .before .before .loop-test .taken) ∙ c .before .before .before .loop .inv)
 
 returns : tie.Need-returns Inv-loop μ-loop
-returns c = sym (items-end _ _ _ (c .loop-test .left)) ∙ c .before .loop .inv
+returns c = sym (every-end _ _ _ _ (c .loop-test .left)) ∙ c .before .loop .inv
 
 pub items-sound-spec : {M : Type 1} → statement M
 items-sound-spec =

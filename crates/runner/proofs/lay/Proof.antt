@@ -7,8 +7,6 @@ use lib.Seq.{paste, paste-zero}
 use Rattle.rings.specs.Laws.Copies.{lay-goes}
 use Rattle.runner.proofs.lay.Statement.{statement}
 use Rattle.runner.proofs.lay.Tie as tie
-use Rattle.runner.proofs.lay.Reads as reads
-use Rattle.runner.proofs.lay.Lts as lts
 
 abbrev Inv-loop : tie.InvT-loop
 Inv-loop pts₀ k q j₀ pts j = (j ≤ 64) × (length pts ≡ length pts₀) × (pts ≡ paste pts₀ (64 * k) (q .pts) j)

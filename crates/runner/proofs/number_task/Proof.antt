@@ -3,7 +3,7 @@ use native.Mathlib.Omega.{arith}
 use mathlib.Core.Path.{sym, _∙_}
 use Rattle.rings.specs.Laws.Spans.{told-past, told-next}
 use Rattle.runner.specs.Place.{noRow}
-use Rattle.runner.specs.Laws.Places.{Stands, stands, unfound}
+use Rattle.runner.specs.Laws.Places.{stands, unfound}
 use borrow.Author.Needs.{needs}
 use Rattle.runner.proofs.number_task.Statement.{statement}
 use Rattle.runner.proofs.number_task.Tie as tie

@@ -1,11 +1,9 @@
-use Prim.Native.Nat.{_+_, _-_, _*_, _≤_}
-use mathlib.Core.Path.{_≡_, refl, ap, _∙_}
+use Prim.Native.Nat.{_-_}
+use mathlib.Core.Path.{refl}
 use native.Mathlib.Omega.{arith}
 use Rattle.rings.specs.Laws.Copies.{Taking, take-goes, take-done}
 use Rattle.runner.proofs.queue_of.Statement.{statement}
 use Rattle.runner.proofs.queue_of.Tie as tie
-use Rattle.runner.proofs.queue_of.Reads as reads
-use Rattle.runner.proofs.queue_of.Lts as lts
 
 abbrev Inv-loop : tie.InvT-loop
 Inv-loop pts heads lens k q₀ j₀ q j = Taking pts heads lens k q j

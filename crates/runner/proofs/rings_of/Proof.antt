@@ -1,14 +1,11 @@
-use Prim.Native.Nat.{_+_, _-_, _*_, _≤_}
-use mathlib.Core.Path.{_≡_, refl, ap, _∙_}
+use Prim.Native.Nat.{_-_, _≤_}
+use mathlib.Core.Path.{_≡_, refl, _∙_}
 use native.Mathlib.Omega.{arith}
 use lib.ListN.{length, take}
 use Rattle.rings.specs.Rings.{queuesFrom}
 use Rattle.rings.specs.Laws.Copies.{rings-start, rings-go, rings-full}
 use Rattle.runner.proofs.rings_of.Statement.{statement}
 use Rattle.runner.proofs.rings_of.Tie as tie
-use Rattle.runner.proofs.rings_of.Reads as reads
-use Rattle.runner.proofs.rings_of.Lts as lts
-use Rattle.runner.proofs.put.Reads as put-reads
 
 abbrev Inv-loop : tie.InvT-loop
 Inv-loop pts₀ heads₀ lens₀ queues i₀ pts heads lens i = (i ≤ 7) × (length pts ≡ length pts₀) × (length heads ≡ length heads₀) × (length lens ≡ length lens₀) × (queuesFrom i 1 pts heads lens ≡ take i queues)

@@ -1,6 +1,6 @@
 use native.Mathlib.Omega.{arith}
-use lib.ListN.{length, getD, set, length-set}
-use mathlib.Core.Path.{_≡_, refl, ap, _∙_}
+use lib.ListN.{length, set, length-set}
+use mathlib.Core.Path.{_≡_, ap, _∙_}
 use borrow.Author.Needs.{needs}
 use Rattle.runner.specs.Place.{noRow}
 use Rattle.rings.specs.Laws.Rows.{rowsWith, with-none, with-next, with-take, with-drop}

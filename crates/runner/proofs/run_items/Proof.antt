@@ -4,7 +4,7 @@ use borrow.Author.Needs.{needs}
 use Rattle.runner.specs.Laws.Numbers.{few, narrow-rows, task-in, state-start, numbers-start, state-end}
 use Rattle.runner.specs.Laws.Items.{item-in, Running, starts, goes-on, no-item}
 use Rattle.step.specs.State.{State}
-use Rattle.run.specs.Run.{Ran, run}
+use Rattle.run.specs.Run.{run}
 use Rattle.rings.specs.Numbers.{stateFrom, Numbers}
 use lib.ListN.{length, take}
 use mathlib.Core.Path.{_≡_, refl, sym, ap, _∙_}
@@ -173,3 +173,5 @@ run-items-spec =
     same-length-4
     same-length-5
     returns)
+
+-- t

@@ -200,3 +200,5 @@ span-spec =
     slice-write-spans-7
     same-length
     returns)
+
+-- t

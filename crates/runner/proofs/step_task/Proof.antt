@@ -132,8 +132,14 @@ shared-slice-read-perform-7 c = search needs
 perform-requires : tie.Need-perform-requires
 perform-requires c κs = search needs
 
+mul-p : tie.Need-mul-p
+mul-p c = let s = c .before .before .before .before .before .before .before .before .before .before .before .before .before .before .before .before .before .before .before .before .before .before .before .before .before .before .before .before .before .before .before .before .before .before .before .before .before .before .before .before .before .before .before .before .before .before in let a = s .args in let r = s .pre in omega (arith, head-lt (r .8 .rows) (a .spans .now) (a .kinds .now) (a .stored .now) (a .pts .now) (a .heads .now) (a .lens .now) (a .psws .now) (a .flag .now) (a .free .now) (a .constants .now) (a .register-tags .now) (a .register-words .now) (a .program .now) (a .data-tags .now) (a .data-words .now) (r .8 .numbers) (a .t) (r .0) (r .1) (c .before .before .before .before .before .before .before .before .before .before .before .before .before .before .before .before .before .before .before .before .before .before .before .before .before .before .before .before .before .if2 .left) _ refl)
+
+slice-read-p : tie.Need-slice-read-p
+slice-read-p c = let s = c .before .before .before .before .before .before .before .before .before .before .before .before .before .before .before .before .before .before .before .before .before .before .before .before .before .before .before .before .before .before .before .before .before .before .before .before .before .before .before .before .before .before .before .before .before .before .before in let a = s .args in let r = s .pre in head-inside (r .8 .rows) (a .spans .now) (a .kinds .now) (a .stored .now) (a .pts .now) (a .heads .now) (a .lens .now) (a .psws .now) (a .flag .now) (a .free .now) (a .constants .now) (a .register-tags .now) (a .register-words .now) (a .program .now) (a .data-tags .now) (a .data-words .now) (r .8 .numbers) (a .t) (r .0) (r .1) (c .before .before .before .before .before .before .before .before .before .before .before .before .before .before .before .before .before .before .before .before .before .before .before .before .before .before .before .before .before .before .if2 .left) _ (c .before .before .before .before .before .before .before .before .before .before .before .perform .last .1 .1 .1 .1 .1 .1 .1 .0) refl (c .before .before .before .before .before .before .before .before .before .before .before .perform .kept .1 .1 .1 .1 .1 .1 .1 .0)
+
 settle-requires : tie.Need-settle-requires
-settle-requires c κs = let s = c .before .before .before .before .before .before .before .before .before .before .before .before .before .before .before .before .before .before .before .before .before .before .before .before .before .before .before .before .before .before .before .before .before .before .before .before .before .before .before .before .before .before .before .before .before .before .before .before .before .before .before .before .before .before in let a = s .args in let r = s .pre in let alive = c .before .before .before .before .before .before .before .before .before .before .before .before .before .before .before .before .before .before .before .before .before .before .before .before .before .before .before .before .before .before .before .before .before .before .before .before .before .if2 .left in let y = live-listed (r .8 .rows) (a .spans .now) (a .kinds .now) (a .stored .now) (a .pts .now) (a .heads .now) (a .lens .now) (a .psws .now) (a .flag .now) (a .free .now) (a .constants .now) (a .register-tags .now) (a .register-words .now) (a .program .now) (a .data-tags .now) (a .data-words .now) (r .8 .numbers) (a .t) (r .0) (r .1) alive in let w = live-windows (r .8 .rows) (a .spans .now) (a .kinds .now) (a .stored .now) (a .pts .now) (a .heads .now) (a .lens .now) (a .psws .now) (a .flag .now) (a .free .now) (a .constants .now) (a .register-tags .now) (a .register-words .now) (a .program .now) (a .data-tags .now) (a .data-words .now) (r .8 .numbers) (a .t) (r .0) (r .1) alive in let p = c .before .before .before .before .before .before .before .before .before .before .before .before .before .before .before .before .before .before .perform .ensures (rowIn (a .kinds .now) (a .stored .now) (y .row)) (w .registers) (w .program) (w .bytes) refl in (r .0, r .1, r .3, r .4, r .5, r .6, r .7, live-ready (r .8 .rows) (a .spans .now) (a .kinds .now) (a .stored .now) (a .pts .now) (a .heads .now) (a .lens .now) (a .psws .now) (a .flag .now) (a .free .now) (a .constants .now) (a .register-tags .now) (a .register-words .now) (a .program .now) (a .data-tags .now) (a .data-words .now) (r .8 .numbers) (a .t) (r .0) (r .1) alive (c .before .before .before .before .before .before .before .before .before .before .before .before .before .before .before .before .before .before .before .before .before .before .before .before .before .before .before .before .before .before .before .before .before .before .before .before .before .before .before .if1 .left) _ _ _ _ _ _ refl (c .before .before .before .before .before .before .before .before .before .before .before .before .before .before .before .before .before .before .before .before .before .before .before .before .before .before .before .before .before .before .before .before .before .lowest .ensures) p, refl, refl, c .before .before .before .before .before .before .before .before .before .before .before .before .before .before .before .before .before .before .before .before .before .before .before .before .before .before .before .before .before .before .before .before .before .lowest .ensures, head-inside (r .8 .rows) (a .spans .now) (a .kinds .now) (a .stored .now) (a .pts .now) (a .heads .now) (a .lens .now) (a .psws .now) (a .flag .now) (a .free .now) (a .constants .now) (a .register-tags .now) (a .register-words .now) (a .program .now) (a .data-tags .now) (a .data-words .now) (r .8 .numbers) (a .t) (r .0) (r .1) alive _ (c .before .before .before .before .before .before .before .before .before .before .before .before .before .before .before .before .before .before .perform .last .1 .1 .1 .1 .1 .1 .1 .0) refl (c .before .before .before .before .before .before .before .before .before .before .before .before .before .before .before .before .before .before .perform .kept .1 .1 .1 .1 .1 .1 .1 .0))
+settle-requires c κs = let s = c .before .before .before .before .before .before .before .before .before .before .before .before .before .before .before .before .before .before .before .before .before .before .before .before .before .before .before .before .before .before .before .before .before .before .before .before .before .before .before .before .before .before .before .before .before .before .before .before .before .before .before .before .before .before in let a = s .args in let r = s .pre in let alive = c .before .before .before .before .before .before .before .before .before .before .before .before .before .before .before .before .before .before .before .before .before .before .before .before .before .before .before .before .before .before .before .before .before .before .before .before .before .if2 .left in let y = live-listed (r .8 .rows) (a .spans .now) (a .kinds .now) (a .stored .now) (a .pts .now) (a .heads .now) (a .lens .now) (a .psws .now) (a .flag .now) (a .free .now) (a .constants .now) (a .register-tags .now) (a .register-words .now) (a .program .now) (a .data-tags .now) (a .data-words .now) (r .8 .numbers) (a .t) (r .0) (r .1) alive in let w = live-windows (r .8 .rows) (a .spans .now) (a .kinds .now) (a .stored .now) (a .pts .now) (a .heads .now) (a .lens .now) (a .psws .now) (a .flag .now) (a .free .now) (a .constants .now) (a .register-tags .now) (a .register-words .now) (a .program .now) (a .data-tags .now) (a .data-words .now) (r .8 .numbers) (a .t) (r .0) (r .1) alive in let p = c .before .before .before .before .before .before .before .before .before .before .before .before .before .before .before .before .before .before .perform .ensures (rowIn (a .kinds .now) (a .stored .now) (y .row)) (w .registers) (w .program) (w .bytes) refl in (r .0, r .1, r .3, r .4, r .5, r .6, r .7, live-ready (r .8 .rows) (a .spans .now) (a .kinds .now) (a .stored .now) (a .pts .now) (a .heads .now) (a .lens .now) (a .psws .now) (a .flag .now) (a .free .now) (a .constants .now) (a .register-tags .now) (a .register-words .now) (a .program .now) (a .data-tags .now) (a .data-words .now) (r .8 .numbers) (a .t) (r .0) (r .1) alive (c .before .before .before .before .before .before .before .before .before .before .before .before .before .before .before .before .before .before .before .before .before .before .before .before .before .before .before .before .before .before .before .before .before .before .before .before .before .before .before .if1 .left) _ _ _ _ _ _ refl (c .before .before .before .before .before .before .before .before .before .before .before .before .before .before .before .before .before .before .before .before .before .before .before .before .before .before .before .before .before .before .before .before .before .lowest .ensures) p, refl, refl, c .before .before .before .before .before .before .before .before .before .before .before .before .before .before .before .before .before .before .before .before .before .before .before .before .before .before .before .before .before .before .before .before .before .lowest .ensures)
 
 same-length : tie.Need-same-length
 same-length c = search needs
@@ -214,6 +220,8 @@ step-task-spec =
     mul-perform-14
     shared-slice-read-perform-7
     perform-requires
+    mul-p
+    slice-read-p
     settle-requires
     same-length
     same-length-2
@@ -226,3 +234,5 @@ step-task-spec =
     same-length-9
     same-length-10
     returns-3)
+
+-- t

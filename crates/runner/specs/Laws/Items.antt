@@ -1,7 +1,7 @@
 -- A run goes on by one item.
 use Prim.Native.Nat.{ℕ, zero, suc, _+_, _≤_, _<_}
 use mathlib.Core.Path.{_≡_, refl, sym, ap, _∙_}
-use mathlib.Core.Bool.{Bool, true, _&&_}
+use mathlib.Core.Bool.{true}
 use mathlib.Core.List.{List, [], _∷_}
 use native.Mathlib.Numerals.{add-one}
 use native.Mathlib.Omega.{arith}
@@ -10,19 +10,17 @@ use lib.ListN.{length, getD, drop, drop-of-length-le}
 use lib.Seq.{drop-cons}
 use borrow.Author.Tests.{leb-true}
 use Rattle.word.specs.Laws.Bools.{and-left, and-right}
-use Rattle.word.specs.Laws.Conjunctions.{and-assoc}
 use Rattle.operation.specs.Decide.{decide}
 use Rattle.step.specs.declared.Ending.{Ending}
 use Rattle.step.specs.State.{State}
 use Rattle.step.specs.Act.{Stepped}
-use Rattle.step.specs.Step.{stepBy, step}
+use Rattle.step.specs.Step.{step}
 use Rattle.step.specs.Soundness.{every}
 use Rattle.step.specs.Laws.Every.{every-parts}
 use Rattle.run.specs.declared.Counts.{Counts}
 use Rattle.run.specs.Run.{Ran, noCounts, counted, runBy, run}
 use Rattle.run.specs.Schedule.{itemSound}
 use Rattle.run.specs.Laws.Run.{sum-counted}
-use Rattle.image.specs.Laws.Conjoined.{and-true}
 
 -- the item at i of a sound schedule
 sound-at : (l : List ℕ) (i : ℕ) → every itemSound l ≡ true → i < length l → itemSound (getD l i 0) ≡ true
@@ -36,18 +34,8 @@ item-in l i e h =
     let s : itemSound (getD l i 0) ≡ true = sound-at l i e h in
     (leb-true 1 (getD l i 0) (and-left (leb 1 (getD l i 0)) (leb (getD l i 0) 7) s), leb-true (getD l i 0) 7 (and-right (leb 1 (getD l i 0)) (leb (getD l i 0) 7) s))
 
--- a test of the items one by one, those from the ith on being left
-module _ (l : List ℕ) (i : ℕ) (good : Bool) where
-  pub items-step : i < length l → (good && itemSound (getD l i 0)) && every itemSound (drop (i + 1) l) ≡ good && every itemSound (drop i l)
-  unfolding every
-  items-step h = rw (add-one i, drop-cons l i 0 h) (and-assoc good _ _)
-
-  pub items-end : length l ≤ i → good && every itemSound (drop i l) ≡ good
-  unfolding every
-  items-end h = rw (drop-of-length-le l h) (and-true good)
-
 -- the items from the ith on do what that item and then those behind it do
-pub next-item : (l : List ℕ) (i : ℕ) (s s′ : State) (e : Ending) (c : Counts) {x : Ran} → i < length l → step (getD l i 0) s ≡ record { state = s′; ending = e }
+next-item : (l : List ℕ) (i : ℕ) (s s′ : State) (e : Ending) (c : Counts) {x : Ran} → i < length l → step (getD l i 0) s ≡ record { state = s′; ending = e }
     → runBy decide (drop i l) s c ≡ x → runBy decide (drop (i + 1) l) s′ (counted e c) ≡ x
 unfolding runBy step
 next-item l i s s′ e c h q p =

@@ -1,6 +1,6 @@
 -- The state that a run is given in numbers, and that of the numbers when it ends.
-use Prim.Native.Nat.{ℕ, suc, _+_, _≤_, _<_, _^_}
-use mathlib.Core.Path.{_≡_, refl, sym, ap, ap₂, _∙_, subst}
+use Prim.Native.Nat.{ℕ, _≤_, _<_, _^_}
+use mathlib.Core.Path.{_≡_, sym, ap, ap₂, _∙_, subst}
 use mathlib.Core.Bool.{true}
 use mathlib.Core.Option.{some}
 use mathlib.Core.List.{List, _++_, append-nil}
@@ -16,7 +16,7 @@ use Rattle.window.specs.Sound.{tagSound, stateSound}
 use Rattle.step.specs.declared.Queue.{Queue}
 use Rattle.step.specs.declared.ProcessTable.{ProcessTable}
 use Rattle.step.specs.Queues.{livePts}
-use Rattle.step.specs.State.{State, state, findRow}
+use Rattle.step.specs.State.{state, findRow}
 use Rattle.step.specs.Act.{tableOf}
 use Rattle.step.specs.Soundness.{sound}
 use Rattle.step.specs.Laws.Sound.{Sound, sound-parts, found-hasRow, hasRow-range}
@@ -24,7 +24,7 @@ use Rattle.step.specs.Laws.MemoriesKept.{memory-parts}
 use Rattle.rings.specs.Rings.{queuesIn}
 use Rattle.rings.specs.Mask.{Frees}
 use Rattle.rings.specs.Records.{rowsIn}
-use Rattle.rings.specs.Spans.{Windows, Narrow, Tells, Told}
+use Rattle.rings.specs.Spans.{Narrow, Tells, Told}
 use Rattle.rings.specs.Numbers.{stateFrom, Numbers}
 use Rattle.rings.specs.Laws.Rows.{rows-start, narrow-row, task-small}
 use Rattle.soundness.specs.Held.{stateIn, soundIn}

@@ -1,4 +1,4 @@
--- The place of a row is where a search finds it and where a row is put for it.
+-- The place of a row is where a search finds it.
 use Prim.Native.Nat.{ℕ, suc, _+_, _≤_, _<_, min}
 use mathlib.Core.Path.{_≡_, refl, sym, ap, _∙_}
 use mathlib.Core.Logic.{_≢_}
@@ -8,67 +8,59 @@ use mathlib.Core.List.{List, [], _∷_}
 use native.Mathlib.Numerals.{add-one}
 use native.Mathlib.Omega.{arith}
 use lib.Dec.{eqb}
-use lib.ListN.{length, getD, set, take, drop, length-take, drop-of-length-le}
-use lib.Seq.{drop-cons, getD-take, take-set-lt, drop-set-lt}
+use lib.ListN.{length, getD, take, drop, length-take, drop-of-length-le}
+use lib.Seq.{drop-cons, getD-take}
 use borrow.Author.Tests.{eq-eqb, ne-eqb}
 use Rattle.window.specs.declared.Row.{Row}
-use Rattle.step.specs.State.{findRow, putRow}
+use Rattle.step.specs.State.{findRow}
 use Rattle.runner.specs.declared.RowPlace.{RowPlace}
 use Rattle.runner.specs.declared.RowPlace.the-variants.{Listed, Unlisted}
 use Rattle.runner.specs.Place.{noRow, placeFrom}
 
--- what a search of rows finds, and the rows with another for the found one, by the place
-data Placed (k : ℕ) (rows : List Row) (found : Option Row) (put : Row → List Row) : RowPlace → Type 0 where
-  listed : (i j : ℕ) → i ≡ k + j → j < length rows → found ≡ some (getD rows j noRow) → ((x : Row) → put x ≡ set rows j x) → Placed k rows found put (Listed i)
-  unlisted : found ≡ none → Placed k rows found put Unlisted
+-- what a search of rows finds, by the place
+data Placed (k : ℕ) (rows : List Row) (found : Option Row) : RowPlace → Type 0 where
+  listed : (i j : ℕ) → i ≡ k + j → j < length rows → found ≡ some (getD rows j noRow) → Placed k rows found (Listed i)
+  unlisted : found ≡ none → Placed k rows found Unlisted
 
 -- behind one more row
-behind : (r : Row) (k : ℕ) (rows : List Row) (found : Option Row) (put : Row → List Row) (p : RowPlace) → Placed (suc k) rows found put p
-    → Placed k (r ∷ rows) found (λ x. r ∷ put x) p
-behind r k rows found put p (listed i j e h f g) = listed i (suc j) (omega arith) (omega arith) f (λ x. ap (λ (l : List Row). r ∷ l) (g x))
-behind r k rows found put p (unlisted f) = unlisted f
+behind : (r : Row) (k : ℕ) (rows : List Row) (found : Option Row) (p : RowPlace) → Placed (suc k) rows found p → Placed k (r ∷ rows) found p
+behind r k rows found p (listed i j e h f) = listed i (suc j) (omega arith) (omega arith) f
+behind r k rows found p (unlisted f) = unlisted f
 
-placed : (t k : ℕ) (rows : List Row) → Placed k rows (findRow t rows) (λ x. putRow t x rows) (placeFrom t k rows)
-unfolding findRow putRow placeFrom
+placed : (t k : ℕ) (rows : List Row) → Placed k rows (findRow t rows) (placeFrom t k rows)
+unfolding findRow placeFrom
 placed t k [] = unlisted refl
 placed t k (r ∷ rs) = go (eqb (r .task) t) (placed t (suc k) rs)
   where
-    go : (b : Bool) → Placed (suc k) rs (findRow t rs) (λ x. putRow t x rs) (placeFrom t (suc k) rs)
-        → Placed k (r ∷ rs) (cond b (some r) (findRow t rs)) (λ x. cond b (x ∷ rs) (r ∷ putRow t x rs)) (cond b (Listed k) (placeFrom t (suc k) rs))
-    go true p = listed k 0 (omega arith) (omega arith) refl (λ x. refl)
-    go false p = behind r k rs (findRow t rs) (λ x. putRow t x rs) (placeFrom t (suc k) rs) p
+    go : (b : Bool) → Placed (suc k) rs (findRow t rs) (placeFrom t (suc k) rs)
+        → Placed k (r ∷ rs) (cond b (some r) (findRow t rs)) (cond b (Listed k) (placeFrom t (suc k) rs))
+    go true p = listed k 0 (omega arith) (omega arith) refl
+    go false p = behind r k rs (findRow t rs) (placeFrom t (suc k) rs) p
 
 -- the row of task t stands at j of an array of which the first n count
 pub record Stands (t n : ℕ) (rows : List Row) (j : ℕ) : Type 0 where
   pub inside : j < length rows
   pub finds : findRow t (take n rows) ≡ some (getD rows j noRow)
-  pub puts : (x : Row) → putRow t x (take n rows) ≡ take n (set rows j x)
-  pub beyond : (x : Row) → drop n (set rows j x) ≡ drop n rows
 
 module _ (t n : ℕ) (rows : List Row) where
   pub stands : (j : ℕ) → Listed j ≡ placeFrom t 0 (take n rows) → Stands t n rows j
   stands j e = go (placeFrom t 0 (take n rows)) e (placed t 0 (take n rows))
     where
-      go : (p : RowPlace) → Listed j ≡ p → Placed 0 (take n rows) (findRow t (take n rows)) (λ x. putRow t x (take n rows)) p → Stands t n rows j
-      go p e (listed i k q h f g) =
+      go : (p : RowPlace) → Listed j ≡ p → Placed 0 (take n rows) (findRow t (take n rows)) p → Stands t n rows j
+      go p e (listed i k q h f) =
           let s : j ≡ i = cc in
           let m : j ≡ k = omega arith in
           let b : length (take n rows) ≡ min n (length rows) = length-take n rows in
           let a : k < n = omega arith in
           rw m
-          (record {
-            inside = omega arith;
-            finds = f ∙ ap some (getD-take n rows k noRow a);
-            puts = λ x. g x ∙ sym (take-set-lt n rows k x a);
-            beyond = λ x. drop-set-lt n rows k x a;
-          })
+          (record { inside = omega arith; finds = f ∙ ap some (getD-take n rows k noRow a) })
       go p e (unlisted f) = let z : _≡_ {A = ℕ} 0 1 = cc in absurd (omega arith)
 
   pub unfound : Unlisted ≡ placeFrom t 0 (take n rows) → findRow t (take n rows) ≡ none
   unfound e = go (placeFrom t 0 (take n rows)) e (placed t 0 (take n rows))
     where
-      go : (p : RowPlace) → Unlisted ≡ p → Placed 0 (take n rows) (findRow t (take n rows)) (λ x. putRow t x (take n rows)) p → findRow t (take n rows) ≡ none
-      go p e (listed i k q h f g) = let z : _≡_ {A = ℕ} 0 1 = cc in absurd (omega arith)
+      go : (p : RowPlace) → Unlisted ≡ p → Placed 0 (take n rows) (findRow t (take n rows)) p → findRow t (take n rows) ≡ none
+      go p e (listed i k q h f) = let z : _≡_ {A = ℕ} 0 1 = cc in absurd (omega arith)
       go p e (unlisted f) = f
 
 -- a search of the rows one by one, those from the ith on being left
