@@ -173,5 +173,3 @@ run-items-spec =
     same-length-4
     same-length-5
     returns)
-
--- t

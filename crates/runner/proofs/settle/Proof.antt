@@ -250,5 +250,3 @@ settle-spec =
     same-length-24
     same-length-25
     returns-11)
-
--- t

@@ -200,5 +200,3 @@ span-spec =
     slice-write-spans-7
     same-length
     returns)
-
--- t

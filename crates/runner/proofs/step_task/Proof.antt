@@ -234,5 +234,3 @@ step-task-spec =
     same-length-9
     same-length-10
     returns-3)
-
--- t
