@@ -5,7 +5,7 @@ use borrow.Author.Needs.{needs}
 use lib.ListN.{drop}
 use Rattle.step.specs.Queues.{livePts}
 use Rattle.queue.specs.Mask.{freeAfter}
-use Rattle.queue.proofs.Rings.{queues-go, queues-end}
+use Rattle.rings.specs.Laws.Live.{queues-go, queues-end}
 use Rattle.rings.specs.Laws.Mask.{frees-made}
 use Rattle.runner.proofs.free_mask.Statement.{statement}
 use Rattle.runner.proofs.free_mask.Tie as tie
