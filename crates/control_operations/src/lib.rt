@@ -275,7 +275,7 @@ fn created_fields(act: u16, psw: u64, s1: u64) -> u64
     word::psw(ci, ri, utm, pc)
 }
 
-// The same; ACT 1, which most programs use, takes PC alone, as CALL does.
+// The same; ACT 1 takes PC alone, as CALL does.
 fn created_psw(act: u16, psw: u64, s1: u64) -> u64
     ensures { λ r. ⌜ r ≡ created act psw s1 ⌝ }
 {
