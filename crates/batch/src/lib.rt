@@ -4,44 +4,48 @@ ghost use Prim.Native.Nat.{_≤_};
 ghost use lib.ListN.{length, replicate};
 ghost use Rattle.run.specs.Run.{run};
 ghost use Rattle.image.specs.Image.{decode};
-ghost use Rattle.calls.specs.Buffers.{fieldsIn};
-ghost use Rattle.calls.specs.Calls.{runRefusal};
-ghost use Rattle.buffered.specs.Held.{lentBuffers};
+ghost use Rattle.library.specs.Buffers.{fieldsIn};
+ghost use Rattle.library.specs.Calls.{runRefusal};
+ghost use Rattle.library.specs.Held.{lentBuffers};
 ghost use Rattle.report.specs.Report.{outputRead, outputOf};
-ghost use Rattle.reporting.specs.Texts.{room, shown, copiedInto};
+ghost use Rattle.report_text.specs.Texts.{reportRoom, shown, copiedInto};
 ghost use Rattle.batch.specs.Output.{runText, bytesCopied};
-use buffered::SizesRead;
-use calls::Sizes;
+use library::ReadAnswer;
+use library::RunAnswer;
+use library::Sizes;
 use refusal::Refusal;
-use reporting::Text;
-use runner::RunAnswer;
+use report_text::REPORT_ROOM;
+use report_text::Text;
 use step::ProcessTable;
 use window::Row;
+use window::TASKS;
 
-// No output is longer.
-pub const OUTPUT_ROOM: usize = 512;
+// The most bytes of an input, and the places of each memory: no section of so short an image has more values.
+pub const MOST_INPUT: usize = 65536;
+
+const MEMORY_ROOM: usize = 8192;
 
 // The text of a run on the state in buffers: its report, or the line of its refusal.
 fn run_text(
-    rows: [Row; 7],
+    rows: [Row; TASKS],
     table: ProcessTable,
     constants: &[u64],
-    tags: &mut [u8],
-    words: &mut [u64],
+    register_tags: &mut [u8],
+    register_words: &mut [u64],
     program: &[u64],
     data_tags: &mut [u8],
     data_words: &mut [u64],
     schedule: &[u8],
     n: Sizes,
 ) -> Text
-    ensures { λ r. ⌜ shown r ≡ runText (runRefusal n (lentBuffers rows table (now (constants .entry)) (now (tags .entry)) (now (words .entry)) (now (program .entry)) (now (data_tags .entry)) (now (data_words .entry))) (now (schedule .entry))) (run (now (schedule .entry)) (fieldsIn n (lentBuffers rows table (now (constants .entry)) (now (tags .entry)) (now (words .entry)) (now (program .entry)) (now (data_tags .entry)) (now (data_words .entry))))) ⌝ }
+    ensures { λ r. ⌜ shown r ≡ runText (runRefusal n (lentBuffers rows table (now (constants .entry)) (now («register_tags» .entry)) (now («register_words» .entry)) (now (program .entry)) (now (data_tags .entry)) (now (data_words .entry))) (now (schedule .entry))) (run (now (schedule .entry)) (fieldsIn n (lentBuffers rows table (now (constants .entry)) (now («register_tags» .entry)) (now («register_words» .entry)) (now (program .entry)) (now (data_tags .entry)) (now (data_words .entry))))) ⌝ }
 {
-    let x = hep_owner::run(
+    let x = hep::run_owned(
         rows,
         table,
         constants,
-        tags,
-        words,
+        register_tags,
+        register_words,
         program,
         data_tags,
         data_words,
@@ -49,11 +53,16 @@ fn run_text(
         n,
     );
     let answer = x.answer;
-    let rows_left = x.rows;
+    let rows_left = x.rows.at;
     let table_left = x.table;
     match answer {
-        RunAnswer::Refused(e) => reporting::refusal_text(e),
-        RunAnswer::Counted(counts) => reporting::report_text(rows_left, n.rows, table_left, counts),
+        RunAnswer::Refused(e) => report_text::refusal_text(e),
+        RunAnswer::Counted(counts) => report_text::report_text(
+            rows_left,
+            n.rows,
+            table_left,
+            counts,
+        ),
     }
 }
 
@@ -62,34 +71,34 @@ fn image_text(schedule: &[u8], image: &[u8]) -> Text
     requires { ⌜ length (now image) ≤ 65536 ⌝ }
     ensures { λ r. ⌜ shown r ≡ outputRead (now (schedule .entry)) (decode (now (image .entry))) ⌝ }
 {
-    let mut constants = [0; 8192];
-    let mut tags = [0; 8192];
-    let mut words = [0; 8192];
-    let mut program = [0; 8192];
-    let mut data_tags = [0; 8192];
-    let mut data_words = [0; 8192];
-    let x = hep_owner::read(
-        hep_owner::no_rows(),
-        hep_owner::no_processes(),
+    let mut constants = [0; MEMORY_ROOM];
+    let mut register_tags = [0; MEMORY_ROOM];
+    let mut register_words = [0; MEMORY_ROOM];
+    let mut program = [0; MEMORY_ROOM];
+    let mut data_tags = [0; MEMORY_ROOM];
+    let mut data_words = [0; MEMORY_ROOM];
+    let x = hep::read_owned(
+        hep::no_rows(),
+        hep::no_processes(),
         &mut constants,
-        &mut tags,
-        &mut words,
+        &mut register_tags,
+        &mut register_words,
         &mut program,
         &mut data_tags,
         &mut data_words,
         image,
     );
     let answer = x.answer;
-    let rows = x.rows;
+    let rows = x.rows.at;
     let table = x.table;
     match answer {
-        SizesRead::Refused(e) => reporting::refusal_text(e),
-        SizesRead::Read(n) => run_text(
+        ReadAnswer::Refused(e) => report_text::refusal_text(e),
+        ReadAnswer::Read(n) => run_text(
             rows,
             table,
             &constants,
-            &mut tags,
-            &mut words,
+            &mut register_tags,
+            &mut register_words,
             &program,
             &mut data_tags,
             &mut data_words,
@@ -103,34 +112,34 @@ fn image_text(schedule: &[u8], image: &[u8]) -> Text
 fn output(input: &[u8]) -> Text
     ensures { λ r. ⌜ shown r ≡ outputOf (now (input .entry)) ⌝ }
 {
-    if 65536 < input.len() {
-        return reporting::refusal_text(Refusal::InputTooLong);
+    if MOST_INPUT < input.len() {
+        return report_text::refusal_text(Refusal::InputTooLong);
     }
     if input.len() < 2 {
-        return reporting::refusal_text(Refusal::InputEnds);
+        return report_text::refusal_text(Refusal::InputEnds);
     }
-    let items = image_words::number_at(input, 0, 2) as usize;
+    let items = image_bytes::number_at(input, 0, 2) as usize;
     if input.len() - 2 < items {
-        return reporting::refusal_text(Refusal::InputEnds);
+        return report_text::refusal_text(Refusal::InputEnds);
     }
     let end = 2 + items;
     image_text(&input[2..end], &input[end..])
 }
 
 // A buffer that is long enough for every output.
-pub fn output_buffer() -> [u8; OUTPUT_ROOM]
-    ensures { λ r. ⌜ r ≡ replicate room 0 ⌝ }
+pub fn output_buffer() -> [u8; REPORT_ROOM]
+    ensures { λ r. ⌜ r ≡ replicate reportRoom 0 ⌝ }
 {
-    [0; OUTPUT_ROOM]
+    [0; REPORT_ROOM]
 }
 
 // The output goes to the front of a buffer that is long enough. The answer is how many bytes were copied.
 pub fn batch(input: &[u8], out: &mut [u8]) -> usize
     ensures answer { λ r. ⌜ r ≡ bytesCopied (outputOf (now (input .entry))) (now (out .entry)) ⌝ }
     ensures left { λ _. ⌜ now (out .exit) ≡ copiedInto (outputOf (now (input .entry))) (now (out .entry)) ⌝ }
-    ensures enough { λ _. ⌜ length (outputOf (now (input .entry))) ≤ room ⌝ }
+    ensures enough { λ _. ⌜ length (outputOf (now (input .entry))) ≤ reportRoom ⌝ }
 {
-    let n = reporting::copy_text(output(input), out);
+    let n = report_text::copy_text(output(input), out);
     if out.len() < n {
         return 0;
     }

@@ -1,6 +1,6 @@
 -- What the calls for C and Rust answer, and what they leave in the lent slices. A call answers the number of its refusal, 0 where there is
 -- none; on a refusal every lent number stays.
-use Prim.Native.Nat.{ℕ, _+_}
+use Prim.Native.Nat.{ℕ, _+_, _*_}
 use mathlib.Core.Path.{_≡_}
 use mathlib.Core.Bool.{Bool, cond, _&&_}
 use mathlib.Core.Option.{Option, none, some}
@@ -9,30 +9,24 @@ use lib.Dec.{leb, ltb}
 use lib.ListN.{length}
 use Rattle.refusal.specs.declared.Refusal.{Refusal}
 use Rattle.refusal.specs.declared.Refusal.the-variants.{ShortBuffer}
-use Rattle.refusal.specs.Numbers.{numberOf}
 use Rattle.run.specs.declared.Counts.{Counts}
 use Rattle.run.specs.Schedule.{scheduleRefusal}
 use Rattle.run.specs.Run.{Ran, noCounts, run}
-use Rattle.runner.specs.declared.RunAnswer.{RunAnswer}
-use Rattle.runner.specs.declared.RunAnswer.the-variants.{Refused, Counted}
-use Rattle.image.specs.Image.{Image, stateOf, Decoded, bad, good, decode, encode}
+use Rattle.library.specs.declared.RunAnswer.{RunAnswer}
+use Rattle.library.specs.declared.RunAnswer.the-variants.{Refused, Counted}
+use Rattle.image.specs.Image.{Image, stateOf, Decoded, bad, good, decode, encode, processLength}
 use Rattle.image.specs.Fields.{over}
-use Rattle.calls.specs.declared.Sizes.{Sizes}
-use Rattle.calls.specs.Buffers.{Room, fits, sizesOf}
-use Rattle.calls.specs.Calls.{Answer, refuses, answers, unless, orElse}
-use Rattle.buffered.specs.Held.{roomFrom}
+use Rattle.library.specs.declared.Sizes.{Sizes}
+use Rattle.library.specs.Buffers.{Room, fits, sizesOf}
+use Rattle.library.specs.Calls.{Answer, refuses, answers, unless, orElse}
+unfoldable pub use Rattle.library.specs.Numbers.{numberAnswered}
+use Rattle.library.specs.Held.{roomFrom}
 use Rattle.report.specs.Report.{reportOf}
+use Rattle.report_text.specs.Texts.{reportRoom}
+use Rattle.step.specs.Queues.{ptCount}
+use Rattle.window.specs.Limits.{tasks}
 
--- the refusal's number, or 0
-unfoldable pub numberAnswered : {A : Type 0} → Answer A → ℕ
-numberAnswered (refuses e) = numberOf e
-numberAnswered (answers a) = 0
-
--- ---- hep_check: 1 to 6
-
-unfoldable pub checkAnswer : Decoded → Answer Image
-checkAnswer (bad e) = refuses e
-checkAnswer (good i) = answers i
+-- hep_check answers the number of checkAnswer (library Calls): 1 to 6
 
 -- ---- hep_sizes: 1 to 6, then 7 where the slice of sizes is too short
 
@@ -80,11 +74,11 @@ slices constants registerTags registerWords program dataTags dataWords output co
 
 -- how much longer an image may get: 64 processes of 10 bytes
 abbrev pub growth : ℕ
-growth = 640
+growth = ptCount * processLength
 
 -- the output has room for the image and its growth, the counts for six numbers, the report for 512 bytes
 unfoldable pub resultsFit : (image output counts report : ℕ) → Bool
-resultsFit image output counts report = leb (image + growth) output && (leb 6 counts && leb 512 report)
+resultsFit image output counts report = leb (image + growth) output && (leb 6 counts && leb reportRoom report)
 
 -- 7: a memory is too short for the state, or a slice for its result; then 9 and 10. The call has places for seven rows itself
 unfoldable pub lengthsRefusal : (schedule : List ℕ) → Sizes → Room → (image output counts report : ℕ) → Option Refusal
@@ -93,7 +87,7 @@ lengthsRefusal schedule n memories image output counts report =
 
 unfoldable pub imageRunRefusal : (image schedule : List ℕ) → Sizes → Slices → Option Refusal
 imageRunRefusal image schedule n l =
-    lengthsRefusal schedule n (roomFrom 7 (length (l .constants)) (length (l .registerTags)) (length (l .registerWords)) (length (l .program)) (length (l .dataTags)) (length (l .dataWords)))
+    lengthsRefusal schedule n (roomFrom tasks (length (l .constants)) (length (l .registerTags)) (length (l .registerWords)) (length (l .program)) (length (l .dataTags)) (length (l .dataWords)))
     (length image) (length (l .output)) (length (l .counts)) (length (l .report))
 
 unfoldable pub imageRunAnswer : (image schedule : List ℕ) → Slices → Decoded → Answer Ran

@@ -5,22 +5,24 @@ use Prim.Native.Nat.{ℕ, _-_}
 use lib.ListN.{take, replicate}
 use Rattle.image.specs.Image.{decode}
 use Rattle.report.specs.Laws.Opened.{opened}
-use Rattle.calls.specs.Trials.{trialBytes, trialled}
-use Rattle.hep_c.specs.Answers.{numberAnswered, checkAnswer, sizesListed, listedAnswer, sizesAnswer, sizesLeft, Slices, slices, resultsFit, lengthsRefusal, imageRunRefusal, imageRunAnswer, countsListed, imageRunLeft}
+use Rattle.library.specs.Calls.{checkAnswer}
+use Rattle.library.specs.Trials.{trialBytes, trialled}
+use Rattle.hep_c.specs.Answers.{numberAnswered, sizesListed, listedAnswer, sizesAnswer, sizesLeft, Slices, slices, resultsFit, lengthsRefusal, imageRunRefusal, imageRunAnswer, countsListed, imageRunLeft}
+use Rattle.report_text.specs.Texts.{reportRoom}
 
 -- slices that are just long enough, each shorter by so many
 unfoldable pub slicesLess : (constants registerTags registerWords program dataTags dataWords output counts report : ℕ) → Slices
 slicesLess constants registerTags registerWords program dataTags dataWords output counts report =
     let zeros : ℕ → List ℕ = λ n. replicate n 0 in
     slices (zeros (1 - constants)) (zeros (2 - registerTags)) (zeros (2 - registerWords)) (zeros (16 - program)) (zeros (1 - dataTags)) (zeros (1 - dataWords))
-    (zeros (856 - output)) (zeros (6 - counts)) (zeros (512 - report))
+    (zeros (856 - output)) (zeros (6 - counts)) (zeros (reportRoom - report))
 
 unfoldable pub exactSlices : Slices
 exactSlices = slicesLess 0 0 0 0 0 0 0 0 0
 
 -- the number that a run of a schedule answers, and what it leaves
-unfoldable pub runNumber : (image schedule : List ℕ) → Slices → ℕ
-runNumber image schedule l = numberAnswered (imageRunAnswer image schedule l (decode image))
+unfoldable pub imageRunNumber : (image schedule : List ℕ) → Slices → ℕ
+imageRunNumber image schedule l = numberAnswered (imageRunAnswer image schedule l (decode image))
 
 unfoldable pub leftBySchedule : (schedule : List ℕ) → Slices → Slices
 leftBySchedule schedule l = imageRunLeft (imageRunAnswer trialBytes schedule l (decode trialBytes)) l
@@ -35,20 +37,20 @@ pub record SizesTrials : Type 0 where
 
 pub record ImageRunTrials : Type 0 where
   -- just enough room, and one place short of it in each slice: 7
-  pub enough : runNumber trialBytes (2 ∷ []) exactSlices ≡ 0
-  pub constants : runNumber trialBytes (2 ∷ []) (slicesLess 1 0 0 0 0 0 0 0 0) ≡ 7
-  pub registerTags : runNumber trialBytes (2 ∷ []) (slicesLess 0 1 0 0 0 0 0 0 0) ≡ 7
-  pub registerWords : runNumber trialBytes (2 ∷ []) (slicesLess 0 0 1 0 0 0 0 0 0) ≡ 7
-  pub program : runNumber trialBytes (2 ∷ []) (slicesLess 0 0 0 1 0 0 0 0 0) ≡ 7
-  pub dataTags : runNumber trialBytes (2 ∷ []) (slicesLess 0 0 0 0 1 0 0 0 0) ≡ 7
-  pub dataWords : runNumber trialBytes (2 ∷ []) (slicesLess 0 0 0 0 0 1 0 0 0) ≡ 7
-  pub output : runNumber trialBytes (2 ∷ []) (slicesLess 0 0 0 0 0 0 1 0 0) ≡ 7
-  pub counts : runNumber trialBytes (2 ∷ []) (slicesLess 0 0 0 0 0 0 0 1 0) ≡ 7
-  pub report : runNumber trialBytes (2 ∷ []) (slicesLess 0 0 0 0 0 0 0 0 1) ≡ 7
+  pub enough : imageRunNumber trialBytes (2 ∷ []) exactSlices ≡ 0
+  pub constants : imageRunNumber trialBytes (2 ∷ []) (slicesLess 1 0 0 0 0 0 0 0 0) ≡ 7
+  pub registerTags : imageRunNumber trialBytes (2 ∷ []) (slicesLess 0 1 0 0 0 0 0 0 0) ≡ 7
+  pub registerWords : imageRunNumber trialBytes (2 ∷ []) (slicesLess 0 0 1 0 0 0 0 0 0) ≡ 7
+  pub program : imageRunNumber trialBytes (2 ∷ []) (slicesLess 0 0 0 1 0 0 0 0 0) ≡ 7
+  pub dataTags : imageRunNumber trialBytes (2 ∷ []) (slicesLess 0 0 0 0 1 0 0 0 0) ≡ 7
+  pub dataWords : imageRunNumber trialBytes (2 ∷ []) (slicesLess 0 0 0 0 0 1 0 0 0) ≡ 7
+  pub output : imageRunNumber trialBytes (2 ∷ []) (slicesLess 0 0 0 0 0 0 1 0 0) ≡ 7
+  pub counts : imageRunNumber trialBytes (2 ∷ []) (slicesLess 0 0 0 0 0 0 0 1 0) ≡ 7
+  pub report : imageRunNumber trialBytes (2 ∷ []) (slicesLess 0 0 0 0 0 0 0 0 1) ≡ 7
   -- 1 comes before 7, and 7 before 10
-  pub first : runNumber (take 40 trialBytes) (0 ∷ []) (slicesLess 1 1 1 1 1 1 1 1 1) ≡ 1
-  pub second : runNumber trialBytes (0 ∷ []) (slicesLess 0 0 0 0 0 0 0 1 0) ≡ 7
-  pub item : runNumber trialBytes (2 ∷ 0 ∷ []) exactSlices ≡ 10
+  pub first : imageRunNumber (take 40 trialBytes) (0 ∷ []) (slicesLess 1 1 1 1 1 1 1 1 1) ≡ 1
+  pub second : imageRunNumber trialBytes (0 ∷ []) (slicesLess 0 0 0 0 0 0 0 1 0) ≡ 7
+  pub item : imageRunNumber trialBytes (2 ∷ 0 ∷ []) exactSlices ≡ 10
   -- a NOP, and a step of a task that has no row
   pub ran : leftBySchedule (2 ∷ 3 ∷ []) exactSlices .counts ≡ 1 ∷ 0 ∷ 0 ∷ 1 ∷ 216 ∷ 29 ∷ []
   -- refused: nothing is touched
@@ -59,7 +61,7 @@ unfolding trialled numberAnswered checkAnswer sizesListed listedAnswer sizesAnsw
 sizes-trials = record { accepted = refl; ends = refl; short = refl; first = refl; listed = refl; left = refl }
 
 pub image-run-trials : ImageRunTrials
-unfolding trialled opened numberAnswered resultsFit lengthsRefusal imageRunRefusal imageRunAnswer countsListed imageRunLeft slicesLess exactSlices runNumber leftBySchedule
+unfolding trialled opened numberAnswered resultsFit lengthsRefusal imageRunRefusal imageRunAnswer countsListed imageRunLeft slicesLess exactSlices imageRunNumber leftBySchedule
 image-run-trials = record {
   enough = refl;
   constants = refl;

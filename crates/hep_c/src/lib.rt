@@ -5,22 +5,29 @@ ghost use Prim.Native.Nat.{_≤_};
 ghost use lib.ListN.{length};
 ghost use Rattle.image.specs.Image.{decode};
 ghost use Rattle.image.specs.Fields.{over};
-ghost use Rattle.image_check.specs.declared.Checked.the-variants.{Sound};
-ghost use Rattle.image_check.specs.Checked.{checkedOf};
 ghost use Rattle.run.specs.Schedule.{scheduleRefusal};
-ghost use Rattle.calls.specs.Trials.{numbered};
-ghost use Rattle.buffered.specs.Held.{roomFrom};
-ghost use Rattle.buffered.specs.Left.{sizesCounted};
+ghost use Rattle.library.specs.declared.ReadAnswer.the-variants.{Read};
+ghost use Rattle.library.specs.Calls.{checkAnswer};
+ghost use Rattle.library.specs.Promises.{readAnswered};
+ghost use Rattle.library.specs.Trials.{numbered};
+ghost use Rattle.library.specs.Held.{roomFrom};
 ghost use Rattle.report.specs.Report.{outputOf};
-ghost use Rattle.reporting.specs.Texts.{copiedInto};
+ghost use Rattle.report_text.specs.Texts.{copiedInto};
 ghost use Rattle.batch.specs.Output.{bytesCopied};
-ghost use Rattle.hep_c.specs.Answers.{numberAnswered, checkAnswer, listedAnswer, sizesAnswer, sizesLeft, slices, resultsFit, lengthsRefusal, imageRunRefusal, imageRunAnswer, countsListed, imageRunLeft, ImageRunPromise, countsAnswered};
-use calls::Rows;
-use calls::Sizes;
-use image_check::Checked;
-use image_check::Counted;
+ghost use Rattle.hep_c.specs.Answers.{numberAnswered, listedAnswer, sizesAnswer, sizesLeft, slices, resultsFit, lengthsRefusal, imageRunRefusal, imageRunAnswer, countsListed, imageRunLeft, ImageRunPromise, countsAnswered};
+ghost use Rattle.window.specs.Limits.{tasks};
+use image::PROCESS_BYTES;
+use library::ReadAnswer;
+use library::RunAnswer;
+use library::Sizes;
+use report_text::REPORT_ROOM;
 use run::Counts;
-use runner::RunAnswer;
+use run::MOST_ITEMS;
+use step::PTS;
+use window::TASKS;
+
+// How much longer an image may get: every process in it.
+const GROWTH: usize = PTS * PROCESS_BYTES;
 
 // ---- numbers
 
@@ -45,31 +52,31 @@ pub extern "C" fn hep_check(image: &[u8]) -> u32
 {
     let found = image_check::check(image);
     match found {
-        Checked::Refused(e) => reporting::number(e) as u32,
-        Checked::Sound(_) => 0,
+        ReadAnswer::Refused(e) => refusal::number(e) as u32,
+        ReadAnswer::Read(_) => 0,
     }
 }
 
-// The counts of an image that was found sound: 7 where they have no room.
-fn put_sizes(z: Counted, sizes: &mut [u64]) -> u32
-    ensures answer { λ r. ⌜ r ≡ numberAnswered (listedAnswer (length (now (sizes .entry))) (sizesCounted z)) ⌝ }
-    ensures left { λ _. ⌜ now (sizes .exit) ≡ sizesLeft (listedAnswer (length (now (sizes .entry))) (sizesCounted z)) (now (sizes .entry)) ⌝ }
+// The sizes of an image that was found sound: 7 where they have no room.
+fn put_sizes(n: Sizes, sizes: &mut [u64]) -> u32
+    ensures answer { λ r. ⌜ r ≡ numberAnswered (listedAnswer (length (now (sizes .entry))) n) ⌝ }
+    ensures left { λ _. ⌜ now (sizes .exit) ≡ sizesLeft (listedAnswer (length (now (sizes .entry))) n) (now (sizes .entry)) ⌝ }
 {
     if sizes.len() < 5 {
         return 7;
     }
     let numbers = [
-        z.rows as u64,
-        z.constants as u64,
-        z.registers as u64,
-        z.program as u64,
-        z.data_words as u64,
+        n.rows as u64,
+        n.constants as u64,
+        n.registers as u64,
+        n.program as u64,
+        n.data_words as u64,
     ];
     put_numbers(&numbers, sizes);
     0
 }
 
-// The counts of rows, constants, registers, program and data words go to `sizes`: 1 to 6, then 7.
+// The sizes of rows, constants, registers, program and data words go to `sizes`: 1 to 6, then 7.
 #[no_mangle]
 pub extern "C" fn hep_sizes(image: &[u8], sizes: &mut [u64]) -> u32
     ensures answer { λ r. ⌜ r ≡ numberAnswered (sizesAnswer (length (now (sizes .entry))) (decode (now (image .entry)))) ⌝ }
@@ -77,25 +84,12 @@ pub extern "C" fn hep_sizes(image: &[u8], sizes: &mut [u64]) -> u32
 {
     let found = image_check::check(image);
     match found {
-        Checked::Refused(e) => reporting::number(e) as u32,
-        Checked::Sound(z) => put_sizes(z, sizes),
+        ReadAnswer::Refused(e) => refusal::number(e) as u32,
+        ReadAnswer::Read(n) => put_sizes(n, sizes),
     }
 }
 
 // ---- a run
-
-// The counts of an image that was found sound.
-fn sizes_counted(z: Counted) -> Sizes
-    ensures { λ r. ⌜ r ≡ sizesCounted z ⌝ }
-{
-    Sizes {
-        rows: z.rows,
-        constants: z.constants,
-        registers: z.registers,
-        program: z.program,
-        data_words: z.data_words,
-    }
-}
 
 fn counts_answered(answer: RunAnswer) -> Counts
     ensures { λ r. ⌜ r ≡ countsAnswered answer ⌝ }
@@ -115,26 +109,26 @@ fn counts_answered(answer: RunAnswer) -> Counts
 fn results_fit(image: usize, output: usize, counts: usize, report: usize) -> bool
     ensures { λ r. ⌜ r ≡ resultsFit image output counts report ⌝ }
 {
-    if output < 640 {
+    if output < GROWTH {
         return false;
     }
-    if output - 640 < image {
+    if output - GROWTH < image {
         return false;
     }
     if counts < 6 {
         return false;
     }
-    512 <= report
+    REPORT_ROOM <= report
 }
 
 // The number of 9 or 10; 0 where the schedule is accepted.
 fn schedule_number(schedule: &[u8]) -> u32
     ensures { λ r. ⌜ r ≡ numbered (scheduleRefusal (now (schedule .entry))) ⌝ }
 {
-    if 65535 < schedule.len() {
+    if MOST_ITEMS < schedule.len() {
         return 9;
     }
-    if !runner::items_sound(schedule) {
+    if !run_schedule::items_sound(schedule) {
         return 10;
     }
     0
@@ -145,8 +139,8 @@ fn lengths_number(
     schedule: &[u8],
     n: Sizes,
     constants: usize,
-    tags: usize,
-    words: usize,
+    register_tags: usize,
+    register_words: usize,
     program: usize,
     data_tags: usize,
     data_words: usize,
@@ -155,9 +149,18 @@ fn lengths_number(
     counts: usize,
     report: usize,
 ) -> u32
-    ensures { λ r. ⌜ r ≡ numbered (lengthsRefusal (now (schedule .entry)) n (roomFrom 7 constants tags words program data_tags data_words) image output counts report) ⌝ }
+    ensures { λ r. ⌜ r ≡ numbered (lengthsRefusal (now (schedule .entry)) n (roomFrom tasks constants «register_tags» «register_words» program data_tags data_words) image output counts report) ⌝ }
 {
-    if !buffered::fits(n, 7, constants, tags, words, program, data_tags, data_words) {
+    if !library_state::fits(
+        n,
+        TASKS,
+        constants,
+        register_tags,
+        register_words,
+        program,
+        data_tags,
+        data_words,
+    ) {
         return 7;
     }
     if !results_fit(image, output, counts, report) {
@@ -185,11 +188,11 @@ fn put_counts(c: Counts, image: usize, report: usize, counts: &mut [u64])
 // Reads, runs, writes and reports, where nothing is refused.
 fn run_accepted(
     image: &[u8],
-    z: Counted,
+    n: Sizes,
     schedule: &[u8],
     constants: &mut [u64],
-    tags: &mut [u8],
-    words: &mut [u64],
+    register_tags: &mut [u8],
+    register_words: &mut [u64],
     program: &mut [u64],
     data_tags: &mut [u8],
     data_words: &mut [u64],
@@ -197,65 +200,64 @@ fn run_accepted(
     counts: &mut [u64],
     report: &mut [u8],
 )
-    requires found { ⌜ checkedOf (decode (now image)) ≡ Sound z ⌝ }
-    requires fine { ⌜ imageRunRefusal (now image) (now schedule) (sizesCounted z) (slices (now constants) (now tags) (now words) (now program) (now data_tags) (now data_words) (now output) (now counts) (now report)) ≡ none ⌝ }
-    ensures { λ _. ⌜ slices (now (constants .exit)) (now (tags .exit)) (now (words .exit)) (now (program .exit)) (now (data_tags .exit)) (now (data_words .exit)) (now (output .exit)) (now (counts .exit)) (now (report .exit)) ≡ imageRunLeft (imageRunAnswer (now (image .entry)) (now (schedule .entry)) (slices (now (constants .entry)) (now (tags .entry)) (now (words .entry)) (now (program .entry)) (now (data_tags .entry)) (now (data_words .entry)) (now (output .entry)) (now (counts .entry)) (now (report .entry))) (decode (now (image .entry)))) (slices (now (constants .entry)) (now (tags .entry)) (now (words .entry)) (now (program .entry)) (now (data_tags .entry)) (now (data_words .entry)) (now (output .entry)) (now (counts .entry)) (now (report .entry))) ⌝ }
+    requires found { ⌜ readAnswered (checkAnswer (decode (now image))) ≡ Read n ⌝ }
+    requires fine { ⌜ imageRunRefusal (now image) (now schedule) n (slices (now constants) (now «register_tags») (now «register_words») (now program) (now data_tags) (now data_words) (now output) (now counts) (now report)) ≡ none ⌝ }
+    ensures { λ _. ⌜ slices (now (constants .exit)) (now («register_tags» .exit)) (now («register_words» .exit)) (now (program .exit)) (now (data_tags .exit)) (now (data_words .exit)) (now (output .exit)) (now (counts .exit)) (now (report .exit)) ≡ imageRunLeft (imageRunAnswer (now (image .entry)) (now (schedule .entry)) (slices (now (constants .entry)) (now («register_tags» .entry)) (now («register_words» .entry)) (now (program .entry)) (now (data_tags .entry)) (now (data_words .entry)) (now (output .entry)) (now (counts .entry)) (now (report .entry))) (decode (now (image .entry)))) (slices (now (constants .entry)) (now («register_tags» .entry)) (now («register_words» .entry)) (now (program .entry)) (now (data_tags .entry)) (now (data_words .entry)) (now (output .entry)) (now (counts .entry)) (now (report .entry))) ⌝ }
 {
-    let n = sizes_counted(z);
-    let x = hep_owner::read(
-        hep_owner::no_rows(),
-        hep_owner::no_processes(),
+    let x = hep::read_owned(
+        hep::no_rows(),
+        hep::no_processes(),
         constants,
-        tags,
-        words,
+        register_tags,
+        register_words,
         program,
         data_tags,
         data_words,
         image,
     );
-    let rows = x.rows;
+    let rows = x.rows.at;
     let table = x.table;
-    let y = hep_owner::run(
+    let y = hep::run_owned(
         rows,
         table,
         constants,
-        tags,
-        words,
+        register_tags,
+        register_words,
         program,
         data_tags,
         data_words,
         schedule,
         n,
     );
-    let at = y.rows;
+    let at = y.rows.at;
     let table = y.table;
     let answer = y.answer;
     let c = counts_answered(answer);
-    let w = buffered::write(
-        Rows { at, n: 7 },
+    let w = hep::write_owned(
+        at,
         table,
         constants,
-        tags,
-        words,
+        register_tags,
+        register_words,
         program,
         data_tags,
         data_words,
         output,
         n,
     );
-    let text = reporting::report_text(at, n.rows, table, c);
-    let k = reporting::copy_text(text, report);
+    let text = report_text::report_text(at, n.rows, table, c);
+    let k = report_text::copy_text(text, report);
     put_counts(c, image_write::length_written(w), k, counts);
 }
 
 // A run of an image that was found sound: 7, then 9, then 10.
 fn run_sound(
     image: &[u8],
-    z: Counted,
+    n: Sizes,
     schedule: &[u8],
     constants: &mut [u64],
-    tags: &mut [u8],
-    words: &mut [u64],
+    register_tags: &mut [u8],
+    register_words: &mut [u64],
     program: &mut [u64],
     data_tags: &mut [u8],
     data_words: &mut [u64],
@@ -263,15 +265,15 @@ fn run_sound(
     counts: &mut [u64],
     report: &mut [u8],
 ) -> u32
-    requires { ⌜ checkedOf (decode (now image)) ≡ Sound z ⌝ }
-    ensures { λ r. ⌜ ImageRunPromise (now (image .entry)) (now (schedule .entry)) (slices (now (constants .entry)) (now (tags .entry)) (now (words .entry)) (now (program .entry)) (now (data_tags .entry)) (now (data_words .entry)) (now (output .entry)) (now (counts .entry)) (now (report .entry))) r (slices (now (constants .exit)) (now (tags .exit)) (now (words .exit)) (now (program .exit)) (now (data_tags .exit)) (now (data_words .exit)) (now (output .exit)) (now (counts .exit)) (now (report .exit))) ⌝ }
+    requires { ⌜ readAnswered (checkAnswer (decode (now image))) ≡ Read n ⌝ }
+    ensures { λ r. ⌜ ImageRunPromise (now (image .entry)) (now (schedule .entry)) (slices (now (constants .entry)) (now («register_tags» .entry)) (now («register_words» .entry)) (now (program .entry)) (now (data_tags .entry)) (now (data_words .entry)) (now (output .entry)) (now (counts .entry)) (now (report .entry))) r (slices (now (constants .exit)) (now («register_tags» .exit)) (now («register_words» .exit)) (now (program .exit)) (now (data_tags .exit)) (now (data_words .exit)) (now (output .exit)) (now (counts .exit)) (now (report .exit))) ⌝ }
 {
     let number = lengths_number(
         schedule,
-        sizes_counted(z),
+        n,
         constants.len(),
-        tags.len(),
-        words.len(),
+        register_tags.len(),
+        register_words.len(),
         program.len(),
         data_tags.len(),
         data_words.len(),
@@ -285,11 +287,11 @@ fn run_sound(
     }
     run_accepted(
         image,
-        z,
+        n,
         schedule,
         constants,
-        tags,
-        words,
+        register_tags,
+        register_words,
         program,
         data_tags,
         data_words,
@@ -307,8 +309,8 @@ pub extern "C" fn hep_run(
     image: &[u8],
     schedule: &[u8],
     constants: &mut [u64],
-    tags: &mut [u8],
-    words: &mut [u64],
+    register_tags: &mut [u8],
+    register_words: &mut [u64],
     program: &mut [u64],
     data_tags: &mut [u8],
     data_words: &mut [u64],
@@ -316,18 +318,18 @@ pub extern "C" fn hep_run(
     counts: &mut [u64],
     report: &mut [u8],
 ) -> u32
-    ensures { λ r. ⌜ ImageRunPromise (now (image .entry)) (now (schedule .entry)) (slices (now (constants .entry)) (now (tags .entry)) (now (words .entry)) (now (program .entry)) (now (data_tags .entry)) (now (data_words .entry)) (now (output .entry)) (now (counts .entry)) (now (report .entry))) r (slices (now (constants .exit)) (now (tags .exit)) (now (words .exit)) (now (program .exit)) (now (data_tags .exit)) (now (data_words .exit)) (now (output .exit)) (now (counts .exit)) (now (report .exit))) ⌝ }
+    ensures { λ r. ⌜ ImageRunPromise (now (image .entry)) (now (schedule .entry)) (slices (now (constants .entry)) (now («register_tags» .entry)) (now («register_words» .entry)) (now (program .entry)) (now (data_tags .entry)) (now (data_words .entry)) (now (output .entry)) (now (counts .entry)) (now (report .entry))) r (slices (now (constants .exit)) (now («register_tags» .exit)) (now («register_words» .exit)) (now (program .exit)) (now (data_tags .exit)) (now (data_words .exit)) (now (output .exit)) (now (counts .exit)) (now (report .exit))) ⌝ }
 {
     let found = image_check::check(image);
     match found {
-        Checked::Refused(e) => reporting::number(e) as u32,
-        Checked::Sound(z) => run_sound(
+        ReadAnswer::Refused(e) => refusal::number(e) as u32,
+        ReadAnswer::Read(n) => run_sound(
             image,
-            z,
+            n,
             schedule,
             constants,
-            tags,
-            words,
+            register_tags,
+            register_words,
             program,
             data_tags,
             data_words,

@@ -43,12 +43,12 @@ pub record Codec (A : Type 0) : Type 0 where
   -- a value of the format
   pub ok : A → Bool
 
--- a number of w bytes: 1 where they are not all there, else e where the number is not good
-unfoldable pub num : (w : ℕ) (e : Refusal) (good : ℕ → Bool) → Codec ℕ
-num w e good = record {
-  dec = λ b. cond (ltb (length b) w) (refused InputEnds) (cond (good (field w b)) (accepted (field w b) (drop w b)) (refused e));
+-- a number of w bytes: 1 where they are not all there, else e where the number is not allowed
+unfoldable pub num : (w : ℕ) (e : Refusal) (allowed : ℕ → Bool) → Codec ℕ
+num w e allowed = record {
+  dec = λ b. cond (ltb (length b) w) (refused InputEnds) (cond (allowed (field w b)) (accepted (field w b) (drop w b)) (refused e));
   enc = digits w;
-  ok = λ v. ltb v (256 ^ w) && good v;
+  ok = λ v. ltb v (256 ^ w) && allowed v;
 }
 
 -- a count of w bytes: 2 where it is above `most`

@@ -9,14 +9,15 @@ use Rattle.window.specs.declared.Row.{Row}
 use Rattle.window.specs.declared.Cell.{Cell}
 use Rattle.window.specs.Memories.{Memory, memory, cell, tagOf, wordOf}
 use Rattle.step.specs.declared.Queue.{Queue}
-use Rattle.step.specs.Queues.{capacity, listOf}
+use Rattle.step.specs.Queues.{places, listOf, ptCount}
 use Rattle.step.specs.State.{State}
 use Rattle.window.specs.Sound.{bits, tagSound, stateSound}
-use Rattle.step.specs.Soundness.{taskSound, kindSound, recordSound, ptSound, flagSound, hasRow, distinct, roomSound, windowsSound}
+use Rattle.step.specs.Soundness.{taskSound, kindSound, recordSound, ptSound, flagSound, hasRow, distinct, totalSound, windowsSound}
 use Rattle.refusal.specs.declared.Refusal.{Refusal}
 use Rattle.refusal.specs.declared.Refusal.the-variants.{TaskField, ProcessField, CellField, BytesLeftOver, WindowPastMemory, ProcessesClash}
 use Rattle.image.specs.declared.Process.{Process}
 use Rattle.image.specs.Codec.{Codec, Result, refused, accepted, num, seq, via, section, listSection, uniformSection}
+use Rattle.window.specs.Limits.{tasks, mostConstants, mostRegisters, mostProgram, mostData}
 
 -- the fields of an image
 pub record Image : Type 0 where
@@ -60,7 +61,7 @@ abbrev pub rowTask : ℕ → Row → ℕ
 rowTask before r = r .task
 
 unfoldable pub tasksCodec : Codec (List Row)
-tasksCodec = listSection rowCodec rowTask 1 7 0
+tasksCodec = listSection rowCodec rowTask 1 tasks 0
 
 -- ---- processes: count 1 (to 64), flag 1 (0 or 1); PT 1, task 1, PSW 8, by ascending task, then queue order
 
@@ -86,7 +87,7 @@ processTask before p = p .task
 
 -- the flag, and the processes
 unfoldable pub processesCodec : List Row → Codec (ℕ × List Process)
-processesCodec rows = section (num 1 ProcessField flagSound) (processCodec rows) processTask 1 64 0
+processesCodec rows = section (num 1 ProcessField flagSound) (processCodec rows) processTask 1 ptCount 0
 
 -- ---- constants: count 2 (to 4,096), words. Registers: count 2 (to 2,048); tag 1, word. Program: count 4 (to 2^20), words. Data: count 4
 -- (to 2^20); state 1, word. Words are 8 bytes
@@ -108,11 +109,11 @@ abbrev pub fromCell : Cell → CellFields
 fromCell c = (c .tag, c .word)
 
 -- a tag or state, and a word
-unfoldable pub cellCodec : (good : ℕ → Bool) → Codec Cell
-cellCodec good = via toCell fromCell (seq (num 1 CellField good) (λ tag. wordCodec))
+unfoldable pub cellCodec : (allowed : ℕ → Bool) → Codec Cell
+cellCodec allowed = via toCell fromCell (seq (num 1 CellField allowed) (λ tag. wordCodec))
 
-unfoldable pub cellsCodec : (good : ℕ → Bool) → (w most : ℕ) → Codec (List Cell)
-cellsCodec good w most = uniformSection (cellCodec good) w most
+unfoldable pub cellsCodec : (allowed : ℕ → Bool) → (w most : ℕ) → Codec (List Cell)
+cellsCodec allowed w most = uniformSection (cellCodec allowed) w most
 
 -- ---- the whole
 
@@ -140,10 +141,17 @@ imageCodec =
     via toImage fromImage
     (seq tasksCodec (λ rows.
     seq (processesCodec rows) (λ processes.
-    seq (wordsCodec 2 4096) (λ constants.
-    seq (cellsCodec tagSound 2 2048) (λ registers.
-    seq (wordsCodec 4 (2 ^ 20)) (λ program.
-    cellsCodec stateSound 4 (2 ^ 20)))))))
+    seq (wordsCodec 2 mostConstants) (λ constants.
+    seq (cellsCodec tagSound 2 mostRegisters) (λ registers.
+    seq (wordsCodec 4 mostProgram) (λ program.
+    cellsCodec stateSound 4 mostData))))))
+
+-- the bytes of a row and of a process
+abbrev pub rowLength : ℕ
+rowLength = 28
+
+abbrev pub processLength : ℕ
+processLength = 10
 
 -- ---- the image as a state
 
@@ -157,7 +165,7 @@ ptsOf t (p ∷ ps) = cond (eqb (p .task) t) (p .pt ∷ ptsOf t ps) (ptsOf t ps)
 
 -- a queue of these PTs from the start of its array
 unfoldable pub queueOf : List ℕ → Queue
-queueOf pts = record { pts = pts ++ replicate (capacity - length pts) 0; head = 0; len = length pts }
+queueOf pts = record { pts = pts ++ replicate (places - length pts) 0; head = 0; len = length pts }
 
 -- the queues of n tasks from task t on
 unfoldable pub queuesOf : (n t : ℕ) → List Process → List Queue
@@ -166,7 +174,7 @@ queuesOf (suc n) t ps = queueOf (ptsOf t ps) ∷ queuesOf n (suc t) ps
 
 -- each process's PSW at its PT
 unfoldable pub pswTable : List Process → List ℕ
-pswTable [] = replicate capacity 0
+pswTable [] = replicate ptCount 0
 pswTable (p ∷ ps) = set (pswTable ps) (p .pt) (p .psw)
 
 unfoldable pub memoryOf : List Cell → Memory
@@ -176,7 +184,7 @@ memoryOf cells = memory (map tagOf cells) (map wordOf cells)
 unfoldable pub stateOf : Image → State
 stateOf i = record {
   rows = i .rows;
-  table = record { psw = pswTable (i .processes); queues = queuesOf 7 1 (i .processes); flag = i .flag };
+  table = record { psw = pswTable (i .processes); queues = queuesOf tasks 1 (i .processes); flag = i .flag };
   constants = i .constants;
   registers = memoryOf (i .registers);
   program = i .program;
@@ -225,7 +233,7 @@ afterSections (refused e) = bad e
 afterSections (accepted i (x ∷ r)) = bad BytesLeftOver
 afterSections (accepted i []) =
     cond (not (windowsSound (length (i .registers)) (length (i .program)) (length (i .dataWords)) (i .rows))) (bad WindowPastMemory)
-    (cond (not (distinct (map ptOf (i .processes)) && roomSound (length (i .processes)) (i .flag))) (bad ProcessesClash)
+    (cond (not (distinct (map ptOf (i .processes)) && totalSound (length (i .processes)) (i .flag))) (bad ProcessesClash)
     (good i))
 
 -- reading an image: refusals 1 to 3 in byte order, then 4, 5 and 6

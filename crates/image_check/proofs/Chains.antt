@@ -13,13 +13,13 @@ use Rattle.step.specs.Soundness.{taskSound}
 use Rattle.refusal.specs.declared.Refusal.the-variants.{TaskField}
 use Rattle.image.specs.Codec.{field, num}
 use Rattle.image.specs.Image.{rowCodec, toRow, fromRow, rowTask, tasksCodec, processTask, processesCodec, wordsCodec, cellsCodec, imageCodec, toImage, fromImage}
-use Rattle.image_words.specs.declared.Scan.{Scan}
-use Rattle.image_words.specs.declared.Scan.the-variants.{At}
-use Rattle.image_words.specs.Reading.{fieldAt, numberAt}
-use Rattle.image_words.specs.Scanning.{scan, valueAt}
-use Rattle.image_words.specs.Laws.Spans.{num-spans}
-use Rattle.image_words.specs.Laws.Scans.{field-scan, then-scan, seq-scan, via-scan}
-use Rattle.image_check.specs.Checked.{rowAt, rowsAt, processAt, trapCodec}
+use Rattle.image_bytes.specs.declared.Scan.{Scan}
+use Rattle.image_bytes.specs.declared.Scan.the-variants.{At}
+use Rattle.image_bytes.specs.Code.Reading.{fieldAt, numberAt}
+use Rattle.image_bytes.specs.Code.Scanning.{scan, valueAt}
+use Rattle.image_bytes.specs.Laws.Spans.{num-spans}
+use Rattle.image_bytes.specs.Laws.Scans.{field-scan, then-scan, seq-scan, via-scan}
+use Rattle.image_check.specs.Code.Places.{rowAt, rowsAt, processAt, trapCodec}
 use Rattle.image_check.specs.Laws.Sections.{first-rows, tasks-spans, processes-spans, words-spans, cells-spans}
 
 -- a row: its task, seven fields below a bound, and the trap record

@@ -5,31 +5,40 @@ ghost use Prim.Native.Nat.{_+_, _*_, _≤_, _<_};
 ghost use lib.Dec.{ltb, leb, eqb};
 ghost use lib.ListN.{drop};
 ghost use Rattle.step.specs.Queues.{occ};
-ghost use Rattle.step.specs.Soundness.{hasRow, windowsSound, distinct, roomSound};
+ghost use Rattle.step.specs.Soundness.{hasRow, windowsSound, distinct, totalSound};
 ghost use Rattle.image.specs.Codec.{num, decMany, accepted};
-ghost use Rattle.image.specs.Image.{rowCodec, rowTask, tasksCodec, processCodec, processTask, processesCodec, wordsCodec, cellsCodec, afterSections, decode};
-ghost use Rattle.image_words.specs.Reading.{fieldAt};
-ghost use Rattle.image_words.specs.Scanning.{scan, Within, tagTest};
-ghost use Rattle.image_check.specs.Checked.{rowAt, rowsAt, ptsAt, trapCodec, countsIn, imageAt, checkedOf};
-use image_words::Scan;
+ghost use Rattle.image.specs.Image.{rowCodec, rowTask, tasksCodec, processCodec, processTask, processesCodec, wordsCodec, cellsCodec, afterSections, decode, rowLength, processLength};
+ghost use Rattle.image_bytes.specs.Code.Reading.{fieldAt};
+ghost use Rattle.image_bytes.specs.Code.Scanning.{scan, Within, tagTest};
+ghost use Rattle.library.specs.Calls.{checkAnswer};
+ghost use Rattle.library.specs.Promises.{readAnswered};
+ghost use Rattle.image_check.specs.Code.Places.{rowAt, rowsAt, ptsAt, trapCodec, sizesIn, imageAt};
+use image::PROCESS_BYTES;
+use image::ROW_BYTES;
+use image_bytes::Scan;
+use library::ReadAnswer;
+use library::Sizes;
 use refusal::Refusal;
+use step::PTS;
+use window::MOST_CONSTANTS;
+use window::MOST_DATA;
+use window::MOST_PROGRAM;
+use window::MOST_REGISTERS;
 use window::Row;
+use window::TASKS;
 
-// How many values each section of an image has.
-pub struct Counted {
-    pub rows: usize,
-    pub processes: usize,
-    pub constants: usize,
-    pub registers: usize,
-    pub program: usize,
-    pub data_words: usize,
-}
+// The limits of an image as numbers that its bytes are compared with.
+const ROWS: u64 = TASKS as u64;
 
-// What checking an image finds.
-pub enum Checked {
-    Refused(Refusal),
-    Sound(Counted),
-}
+const PROCESSES: u64 = PTS as u64;
+
+const CONSTANTS: u64 = MOST_CONSTANTS as u64;
+
+const REGISTERS: u64 = MOST_REGISTERS as u64;
+
+const PROGRAM: u64 = MOST_PROGRAM as u64;
+
+const DATA: u64 = MOST_DATA as u64;
 
 // ---- rows
 
@@ -38,22 +47,22 @@ fn check_below(s: &[u8], c: Scan, w: usize, bound: u64, e: Refusal) -> Scan
     requires { ⌜ w ≤ 8 ⌝ }
     ensures { λ r. ⌜ r ≡ scan (num w e (λ v. ltb v bound) .dec) (now (s .entry)) c ⌝ }
 {
-    let v = image_words::value(s, c, 0, w);
-    image_words::check_number(s, c, w, v < bound, e)
+    let v = image_bytes::value(s, c, 0, w);
+    image_bytes::check_number(s, c, w, v < bound, e)
 }
 
 // The trap record of a row: its kind and its PSW.
 fn check_trap(s: &[u8], c: Scan) -> Scan
     ensures { λ r. ⌜ r ≡ scan (trapCodec .dec) (now (s .entry)) c ⌝ }
 {
-    let kind = image_words::value(s, c, 0, 1);
-    let c = image_words::check_number(s, c, 1, field_tests::kind_sound(kind), Refusal::TaskField);
-    let psw = image_words::value(s, c, 0, 8);
-    image_words::check_number(
+    let kind = image_bytes::value(s, c, 0, 1);
+    let c = image_bytes::check_number(s, c, 1, step_fields::kind_sound(kind), Refusal::TaskField);
+    let psw = image_bytes::value(s, c, 0, 8);
+    image_bytes::check_number(
         s,
         c,
         8,
-        field_tests::record_sound(kind, psw),
+        step_fields::record_sound(kind, psw),
         Refusal::TaskField,
     )
 }
@@ -62,12 +71,12 @@ fn check_trap(s: &[u8], c: Scan) -> Scan
 fn check_row(s: &[u8], c: Scan, before: u64) -> Scan
     ensures { λ r. ⌜ r ≡ scan (rowCodec before .dec) (now (s .entry)) c ⌝ }
 {
-    let task = image_words::value(s, c, 0, 1);
-    let c = image_words::check_number(
+    let task = image_bytes::value(s, c, 0, 1);
+    let c = image_bytes::check_number(
         s,
         c,
         1,
-        field_tests::task_sound(before, task),
+        step_fields::task_sound(before, task),
         Refusal::TaskField,
     );
     let c = check_below(s, c, 2, 4096, Refusal::TaskField);
@@ -89,7 +98,7 @@ fn check_rows(s: &[u8], first: Scan, n: u64) -> Scan
     let mut before: u64 = 0;
     let mut k = n;
     while 0 < k {
-        let task = image_words::value(s, c, 0, 1);
+        let task = image_bytes::value(s, c, 0, 1);
         c = check_row(s, c, before);
         before = task;
         k -= 1;
@@ -101,8 +110,8 @@ fn check_rows(s: &[u8], first: Scan, n: u64) -> Scan
 fn check_tasks(s: &[u8], c: Scan) -> Scan
     ensures { λ r. ⌜ r ≡ scan (tasksCodec .dec) (now (s .entry)) c ⌝ }
 {
-    let n = image_words::value(s, c, 0, 1);
-    let c = image_words::check_number(s, c, 1, n <= 7, Refusal::CountOverLimit);
+    let n = image_bytes::value(s, c, 0, 1);
+    let c = image_bytes::check_number(s, c, 1, n <= ROWS, Refusal::CountOverLimit);
     check_rows(s, c, n)
 }
 
@@ -116,10 +125,10 @@ fn has_row(s: &[u8], n: u64, t: u64) -> bool
     let mut p = 1;
     let mut k = n;
     while 0 < k {
-        if image_words::number_at(s, p, 1) == t {
+        if image_bytes::number_at(s, p, 1) == t {
             return true;
         }
-        p += 28;
+        p += ROW_BYTES;
         k -= 1;
     }
     false
@@ -141,17 +150,17 @@ fn check_process(s: &[u8], c: Scan, before: u64, n: u64) -> Scan
     requires { ⌜ n ≤ 255 ⌝ }
     ensures { λ r. ⌜ r ≡ scan (processCodec (rowsAt n (now (s .entry))) before .dec) (now (s .entry)) c ⌝ }
 {
-    let c = check_below(s, c, 1, 64, Refusal::ProcessField);
-    let task = image_words::value(s, c, 0, 1);
-    let c = image_words::check_number(
+    let c = check_below(s, c, 1, PROCESSES, Refusal::ProcessField);
+    let task = image_bytes::value(s, c, 0, 1);
+    let c = image_bytes::check_number(
         s,
         c,
         1,
         task_listed(s, n, before, task),
         Refusal::ProcessField,
     );
-    let psw = image_words::value(s, c, 0, 8);
-    image_words::check_number(s, c, 8, word::psw_sound(psw), Refusal::ProcessField)
+    let psw = image_bytes::value(s, c, 0, 8);
+    image_bytes::check_number(s, c, 8, word::psw_sound(psw), Refusal::ProcessField)
 }
 
 // m processes, where there are n rows.
@@ -163,7 +172,7 @@ fn check_each_process(s: &[u8], first: Scan, m: u64, n: u64) -> Scan
     let mut before: u64 = 0;
     let mut k = m;
     while 0 < k {
-        let task = image_words::value(s, c, 1, 1);
+        let task = image_bytes::value(s, c, 1, 1);
         c = check_process(s, c, before, n);
         before = task;
         k -= 1;
@@ -176,10 +185,10 @@ fn check_processes(s: &[u8], c: Scan, n: u64) -> Scan
     requires { ⌜ n ≤ 255 ⌝ }
     ensures { λ r. ⌜ r ≡ scan (processesCodec (rowsAt n (now (s .entry))) .dec) (now (s .entry)) c ⌝ }
 {
-    let m = image_words::value(s, c, 0, 1);
-    let c = image_words::check_number(s, c, 1, m <= 64, Refusal::CountOverLimit);
-    let flag = image_words::value(s, c, 0, 1);
-    let c = image_words::check_number(s, c, 1, flag <= 1, Refusal::ProcessField);
+    let m = image_bytes::value(s, c, 0, 1);
+    let c = image_bytes::check_number(s, c, 1, m <= PROCESSES, Refusal::CountOverLimit);
+    let flag = image_bytes::value(s, c, 0, 1);
+    let c = image_bytes::check_number(s, c, 1, flag <= 1, Refusal::ProcessField);
     check_each_process(s, c, m, n)
 }
 
@@ -190,9 +199,9 @@ fn check_words(s: &[u8], c: Scan, w: usize, most: u64) -> Scan
     requires { ⌜ w ≤ 8 ⌝ }
     ensures { λ r. ⌜ r ≡ scan (wordsCodec w most .dec) (now (s .entry)) c ⌝ }
 {
-    let n = image_words::value(s, c, 0, w);
-    let c = image_words::check_number(s, c, w, n <= most, Refusal::CountOverLimit);
-    image_words::check_words(s, c, n as usize)
+    let n = image_bytes::value(s, c, 0, w);
+    let c = image_bytes::check_number(s, c, w, n <= most, Refusal::CountOverLimit);
+    image_bytes::check_words(s, c, n as usize)
 }
 
 // A section of cells, likewise.
@@ -200,9 +209,9 @@ fn check_cells(s: &[u8], c: Scan, w: usize, most: u64, register: bool) -> Scan
     requires { ⌜ w ≤ 8 ⌝ }
     ensures { λ r. ⌜ r ≡ scan (cellsCodec (tagTest register) w most .dec) (now (s .entry)) c ⌝ }
 {
-    let n = image_words::value(s, c, 0, w);
-    let c = image_words::check_number(s, c, w, n <= most, Refusal::CountOverLimit);
-    image_words::check_cells(s, c, n as usize, register)
+    let n = image_bytes::value(s, c, 0, w);
+    let c = image_bytes::check_number(s, c, w, n <= most, Refusal::CountOverLimit);
+    image_bytes::check_cells(s, c, n as usize, register)
 }
 
 // ---- after the last section
@@ -213,16 +222,16 @@ pub fn row_at(s: &[u8], at: usize) -> Row
 {
     let c = Scan::At(at);
     Row {
-        task: image_words::value(s, c, 0, 1) as u8,
-        cb: image_words::value(s, c, 1, 2) as u16,
-        rb: image_words::value(s, c, 3, 2) as u16,
-        rl: image_words::value(s, c, 5, 2) as u16,
-        pb: image_words::value(s, c, 7, 2) as u16,
-        pl: image_words::value(s, c, 9, 2) as u16,
-        db: image_words::value(s, c, 11, 4) as u32,
-        dl: image_words::value(s, c, 15, 4) as u32,
-        kind: image_words::value(s, c, 19, 1) as u8,
-        psw: image_words::value(s, c, 20, 8),
+        task: image_bytes::value(s, c, 0, 1) as u8,
+        cb: image_bytes::value(s, c, 1, 2) as u16,
+        rb: image_bytes::value(s, c, 3, 2) as u16,
+        rl: image_bytes::value(s, c, 5, 2) as u16,
+        pb: image_bytes::value(s, c, 7, 2) as u16,
+        pl: image_bytes::value(s, c, 9, 2) as u16,
+        db: image_bytes::value(s, c, 11, 4) as u32,
+        dl: image_bytes::value(s, c, 15, 4) as u32,
+        kind: image_bytes::value(s, c, 19, 1) as u8,
+        psw: image_bytes::value(s, c, 20, 8),
     }
 }
 
@@ -234,10 +243,10 @@ fn windows_sound(s: &[u8], n: usize, registers: usize, program: usize, data_word
     let mut p = 1;
     let mut k = n;
     while 0 < k {
-        if !field_tests::row_ends_in(row_at(s, p), registers, program, data_words) {
+        if !step_fields::row_ends_in(row_at(s, p), registers, program, data_words) {
             return false;
         }
-        p += 28;
+        p += ROW_BYTES;
         k -= 1;
     }
     true
@@ -245,16 +254,16 @@ fn windows_sound(s: &[u8], n: usize, registers: usize, program: usize, data_word
 
 // Whether x is the PT of one of n processes from `at` on.
 fn is_live(s: &[u8], at: usize, n: usize, x: u64) -> bool
-    requires { ⌜ at + 10 * n ≤ 65536 ⌝ }
+    requires { ⌜ at + processLength * n ≤ 65536 ⌝ }
     ensures { λ r. ⌜ r ≡ not (eqb (occ x (ptsAt n at (now (s .entry)))) 0) ⌝ }
 {
     let mut p = at;
     let mut k = n;
     while 0 < k {
-        if image_words::number_at(s, p, 1) == x {
+        if image_bytes::number_at(s, p, 1) == x {
             return true;
         }
-        p += 10;
+        p += PROCESS_BYTES;
         k -= 1;
     }
     false
@@ -262,40 +271,39 @@ fn is_live(s: &[u8], at: usize, n: usize, x: u64) -> bool
 
 // Whether the PTs of n processes from `at` on are all different.
 fn pts_distinct(s: &[u8], at: usize, n: usize) -> bool
-    requires { ⌜ at + 10 * n ≤ 65536 ⌝ }
+    requires { ⌜ at + processLength * n ≤ 65536 ⌝ }
     ensures { λ r. ⌜ r ≡ distinct (ptsAt n at (now (s .entry))) ⌝ }
 {
     let mut p = at;
     let mut k = n;
     while 0 < k {
         k -= 1;
-        if is_live(s, p + 10, k, image_words::number_at(s, p, 1)) {
+        if is_live(s, p + PROCESS_BYTES, k, image_bytes::number_at(s, p, 1)) {
             return false;
         }
-        p += 10;
+        p += PROCESS_BYTES;
     }
     true
 }
 
-// The counts of the sections, as the bytes have them.
-fn counts(s: &[u8]) -> Counted
-    ensures { λ r. ⌜ r ≡ countsIn (now (s .entry)) ⌝ }
-    ensures small { λ r. ⌜ (r .rows ≤ 255) × (r .processes ≤ 255) ⌝ }
+// The sizes of the state, as the counts in the bytes have them.
+fn sizes(s: &[u8]) -> Sizes
+    ensures { λ r. ⌜ r ≡ sizesIn (now (s .entry)) ⌝ }
+    ensures small { λ r. ⌜ r .rows ≤ 255 ⌝ }
 {
-    let rows = image_words::number_at(s, 0, 1) as usize;
-    let at = 1 + 28 * rows;
-    let processes = image_words::number_at(s, at, 1) as usize;
-    let at = at + (2 + 10 * processes);
-    let constants = image_words::number_at(s, at, 2) as usize;
+    let rows = image_bytes::number_at(s, 0, 1) as usize;
+    let at = 1 + ROW_BYTES * rows;
+    let processes = image_bytes::number_at(s, at, 1) as usize;
+    let at = at + (2 + PROCESS_BYTES * processes);
+    let constants = image_bytes::number_at(s, at, 2) as usize;
     let at = at + (2 + 8 * constants);
-    let registers = image_words::number_at(s, at, 2) as usize;
+    let registers = image_bytes::number_at(s, at, 2) as usize;
     let at = at + (2 + 9 * registers);
-    let program = image_words::number_at(s, at, 4) as usize;
+    let program = image_bytes::number_at(s, at, 4) as usize;
     let at = at + (4 + 8 * program);
-    let data_words = image_words::number_at(s, at, 4) as usize;
-    Counted {
+    let data_words = image_bytes::number_at(s, at, 4) as usize;
+    Sizes {
         rows,
-        processes,
         constants,
         registers,
         program,
@@ -303,48 +311,49 @@ fn counts(s: &[u8]) -> Counted
     }
 }
 
-// Whether the m processes after n rows have different PTs, and aren't 64 with flag 0.
-fn processes_sound(s: &[u8], n: usize, m: usize) -> bool
-    requires { ⌜ (n ≤ 255) × (m ≤ 255) ⌝ }
-    ensures { λ r. ⌜ r ≡ (distinct (ptsAt m (1 + 28 * n + 2) (now (s .entry))) && roomSound m (fieldAt 1 (1 + 28 * n + 1) (now (s .entry)))) ⌝ }
+// Whether the processes after n rows have different PTs, and aren't 64 with flag 0.
+fn processes_sound(s: &[u8], n: usize) -> bool
+    requires { ⌜ n ≤ 255 ⌝ }
+    ensures { λ r. ⌜ r ≡ (distinct (ptsAt (fieldAt 1 (1 + rowLength * n) (now (s .entry))) (1 + rowLength * n + 2) (now (s .entry))) && totalSound (fieldAt 1 (1 + rowLength * n) (now (s .entry))) (fieldAt 1 (1 + rowLength * n + 1) (now (s .entry)))) ⌝ }
 {
-    let at = 1 + 28 * n;
+    let at = 1 + ROW_BYTES * n;
+    let m = image_bytes::number_at(s, at, 1) as usize;
     if !pts_distinct(s, at + 2, m) {
         return false;
     }
-    field_tests::room_sound(m, image_words::number_at(s, at + 1, 1))
+    step_fields::total_sound(m, image_bytes::number_at(s, at + 1, 1))
 }
 
 // After the last section, which ends at `end`.
-fn check_end(s: &[u8], end: usize) -> Checked
-    ensures { λ r. ⌜ r ≡ checkedOf (afterSections (accepted (imageAt (countsIn (now (s .entry))) (now (s .entry))) (drop end (now (s .entry))))) ⌝ }
+fn check_end(s: &[u8], end: usize) -> ReadAnswer
+    ensures { λ r. ⌜ r ≡ readAnswered (checkAnswer (afterSections (accepted (imageAt (sizesIn (now (s .entry))) (now (s .entry))) (drop end (now (s .entry)))))) ⌝ }
 {
     if end < s.len() {
-        return Checked::Refused(Refusal::BytesLeftOver);
+        return ReadAnswer::Refused(Refusal::BytesLeftOver);
     }
-    let z = counts(s);
-    if !windows_sound(s, z.rows, z.registers, z.program, z.data_words) {
-        return Checked::Refused(Refusal::WindowPastMemory);
+    let n = sizes(s);
+    if !windows_sound(s, n.rows, n.registers, n.program, n.data_words) {
+        return ReadAnswer::Refused(Refusal::WindowPastMemory);
     }
-    if !processes_sound(s, z.rows, z.processes) {
-        return Checked::Refused(Refusal::ProcessesClash);
+    if !processes_sound(s, n.rows) {
+        return ReadAnswer::Refused(Refusal::ProcessesClash);
     }
-    Checked::Sound(z)
+    ReadAnswer::Read(n)
 }
 
-// Refusals 1, 2 and 3 in byte order, then 4, 5 and 6.
-pub fn check(s: &[u8]) -> Checked
-    ensures { λ r. ⌜ r ≡ checkedOf (decode (now (s .entry))) ⌝ }
+// Refusals 1, 2 and 3 in byte order, then 4, 5 and 6; else the sizes of the state.
+pub fn check(image: &[u8]) -> ReadAnswer
+    ensures { λ r. ⌜ r ≡ readAnswered (checkAnswer (decode (now (image .entry)))) ⌝ }
 {
-    let rows = image_words::number_at(s, 0, 1);
-    let c = check_tasks(s, Scan::At(0));
-    let c = check_processes(s, c, rows);
-    let c = check_words(s, c, 2, 4096);
-    let c = check_cells(s, c, 2, 2048, true);
-    let c = check_words(s, c, 4, 1048576);
-    let c = check_cells(s, c, 4, 1048576, false);
+    let rows = image_bytes::number_at(image, 0, 1);
+    let c = check_tasks(image, Scan::At(0));
+    let c = check_processes(image, c, rows);
+    let c = check_words(image, c, 2, CONSTANTS);
+    let c = check_cells(image, c, 2, REGISTERS, true);
+    let c = check_words(image, c, 4, PROGRAM);
+    let c = check_cells(image, c, 4, DATA, false);
     match c {
-        Scan::Refused(e) => Checked::Refused(e),
-        Scan::At(end) => check_end(s, end),
+        Scan::Refused(e) => ReadAnswer::Refused(e),
+        Scan::At(end) => check_end(image, end),
     }
 }

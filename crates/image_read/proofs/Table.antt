@@ -10,47 +10,47 @@ use lib.Dec.{eqb}
 use lib.ListN.{length, take, drop, set, replicate, length-set, length-replicate, take-append-drop}
 use lib.Seq.{take-suc-set, drop-set-lt, drop-drop, set-out, length-take-le}
 use Rattle.step.specs.declared.Queue.{Queue}
-use Rattle.image.specs.Image.{ptsOf, queueOf, pswTable}
+use Rattle.image.specs.Image.{ptsOf, queueOf, pswTable, processLength}
 use Rattle.image.specs.Laws.Table.{length-pswTable}
-use Rattle.image_words.specs.Reading.{fieldAt, listed}
-use Rattle.image_words.specs.Laws.Listed.{listed-cons, listed-none}
-use Rattle.image_check.specs.Checked.{processAt, processesAt}
+use Rattle.image_bytes.specs.Code.Reading.{fieldAt, listed}
+use Rattle.image_bytes.specs.Laws.Listed.{listed-cons, listed-none}
+use Rattle.image_check.specs.Code.Places.{processAt, processesAt}
 use Rattle.image_read.proofs.Repeated.{drop-replicate}
 
-processes-cons : (s : List ℕ) (k p : ℕ) → 0 < k → processesAt k p s ≡ processAt p s ∷ processesAt (k - 1) (p + 10) s
+processes-cons : (s : List ℕ) (k p : ℕ) → 0 < k → processesAt k p s ≡ processAt p s ∷ processesAt (k - 1) (p + processLength) s
 unfolding processesAt
-processes-cons s k p h = listed-cons 10 (λ q. processAt q s) k p h
+processes-cons s k p h = listed-cons processLength (λ q. processAt q s) k p h
 
 -- ---- PSWs
 
 -- those of the last j of m processes are in l; they stand from p on
 pub record Setting (s : List ℕ) (at m : ℕ) (l : List ℕ) (p j : ℕ) : Type 0 where
   pub most : j ≤ m
-  pub place : p ≡ at + 10 * (m - j)
+  pub place : p ≡ at + processLength * (m - j)
   pub all : l ≡ pswTable (processesAt j p s)
 
 module _ (s : List ℕ) (at m : ℕ) where
-  pub psw-start : Setting s at m (replicate 64 0) (at + 10 * m) 0
+  pub psw-start : Setting s at m (replicate 64 0) (at + processLength * m) 0
   unfolding processesAt listed pswTable
   psw-start = record { most = omega arith; place = omega arith; all = refl }
 
   module _ (l : List ℕ) (p j : ℕ) (z : Setting s at m l p j) where
-    pub psw-step : {pt v : ℕ} → j < m → pt ≡ fieldAt 1 (p - 10) s → v ≡ fieldAt 8 (p - 10 + 2) s → Setting s at m (set l pt v) (p - 10) (j + 1)
+    pub psw-step : {pt v : ℕ} → j < m → pt ≡ fieldAt 1 (p - processLength) s → v ≡ fieldAt 8 (p - processLength + 2) s → Setting s at m (set l pt v) (p - processLength) (j + 1)
     unfolding pswTable processAt
     psw-step {pt} {v} h e f =
-        let b : p - 10 + 10 ≡ p = omega (arith, z .place) in
+        let b : p - processLength + processLength ≡ p = omega (arith, z .place) in
         let n : j + 1 - 1 ≡ j = omega arith in
         record {
           most = omega arith;
           place = omega (arith, z .place);
-          all = rw (processes-cons s (j + 1) (p - 10) (omega arith), b, n, e, f, z .all);
+          all = rw (processes-cons s (j + 1) (p - processLength) (omega arith), b, n, e, f, z .all);
         }
 
     -- a PT past the end sets nothing
-    pub psw-past : {pt : ℕ} → j < m → pt ≡ fieldAt 1 (p - 10) s → 64 ≤ pt → Setting s at m l (p - 10) (j + 1)
+    pub psw-past : {pt : ℕ} → j < m → pt ≡ fieldAt 1 (p - processLength) s → 64 ≤ pt → Setting s at m l (p - processLength) (j + 1)
     psw-past {pt} h e past =
         let n = length-pswTable (processesAt j p s) in
-        let same : set l pt (fieldAt 8 (p - 10 + 2) s) ≡ l = set-out l pt _ (omega (arith, n, ap length (z .all))) in
+        let same : set l pt (fieldAt 8 (p - processLength + 2) s) ≡ l = set-out l pt _ (omega (arith, n, ap length (z .all))) in
         let r = psw-step h e refl in
         record { most = r .most; place = r .place; all = sym same ∙ r .all }
 
@@ -64,23 +64,23 @@ module _ (s : List ℕ) (at m : ℕ) where
 
 -- k of m processes are still to come, from p on; pts has the PTs so far, and then zeros
 pub record Queueing (s : List ℕ) (at m t : ℕ) (pts : List ℕ) (len p k : ℕ) : Type 0 where
-  pub inside : p + 10 * k ≤ 65536
+  pub inside : p + processLength * k ≤ 65536
   pub room : len + k ≤ 64
   pub size : length pts ≡ 64
   pub zeros : drop len pts ≡ replicate (64 - len) 0
   pub all : take len pts ++ ptsOf t (processesAt k p s) ≡ ptsOf t (processesAt m at s)
 
 module _ (s : List ℕ) (at m t : ℕ) where
-  pub queue-start : at + 10 * m ≤ 65536 → m ≤ 64 → Queueing s at m t (replicate 64 0) 0 at m
+  pub queue-start : at + processLength * m ≤ 65536 → m ≤ 64 → Queueing s at m t (replicate 64 0) 0 at m
   queue-start h few = record { inside = h; room = omega arith; size = length-replicate {A = ℕ} 64 0; zeros = refl; all = refl }
 
   module _ (pts : List ℕ) (len p k : ℕ) (q : Queueing s at m t pts len p k) where
     module _ (more : 0 < k) where
-      next : ptsOf t (processesAt k p s) ≡ cond (eqb (fieldAt 1 (p + 1) s) t) (fieldAt 1 p s ∷ ptsOf t (processesAt (k - 1) (p + 10) s)) (ptsOf t (processesAt (k - 1) (p + 10) s))
+      next : ptsOf t (processesAt k p s) ≡ cond (eqb (fieldAt 1 (p + 1) s) t) (fieldAt 1 p s ∷ ptsOf t (processesAt (k - 1) (p + processLength) s)) (ptsOf t (processesAt (k - 1) (p + processLength) s))
       unfolding ptsOf processAt
       next = ap (ptsOf t) (processes-cons s k p more)
 
-      pub queue-taken : {v : ℕ} → fieldAt 1 (p + 1) s ≡ t → v ≡ fieldAt 1 p s → Queueing s at m t (set pts len v) (len + 1) (p + 10) (k - 1)
+      pub queue-taken : {v : ℕ} → fieldAt 1 (p + 1) s ≡ t → v ≡ fieldAt 1 p s → Queueing s at m t (set pts len v) (len + 1) (p + processLength) (k - 1)
       queue-taken {v} e f =
           let n = rw (eq-eqb (fieldAt 1 (p + 1) s) t e) at next in
           let c : 64 - len - 1 ≡ 64 - suc len = omega arith in
@@ -93,7 +93,7 @@ module _ (s : List ℕ) (at m t : ℕ) where
             all = rw (f, add-one len, take-suc-set pts len (fieldAt 1 p s) (omega (arith, q .size, q .room)), append-assoc) (rw n at (q .all));
           }
 
-      pub queue-skipped : (fieldAt 1 (p + 1) s ≡ t → ⊥) → Queueing s at m t pts len (p + 10) (k - 1)
+      pub queue-skipped : (fieldAt 1 (p + 1) s ≡ t → ⊥) → Queueing s at m t pts len (p + processLength) (k - 1)
       queue-skipped e =
           let n = rw (ne-eqb (fieldAt 1 (p + 1) s) t e) at next in
           record { inside = omega (arith, q .inside); room = omega (arith, q .room); size = q .size; zeros = q .zeros; all = rw n at (q .all) }
@@ -101,7 +101,7 @@ module _ (s : List ℕ) (at m t : ℕ) where
     pub queue-done : k ≤ 0 → _≡_ {A = Queue} (record { pts = pts; head = 0; len = len }) (queueOf (ptsOf t (processesAt m at s)))
     unfolding queueOf processesAt ptsOf
     queue-done h =
-        let none : ptsOf t (processesAt k p s) ≡ [] = ap (ptsOf t) (listed-none 10 (λ q. processAt q s) k p h) in
+        let none : ptsOf t (processesAt k p s) ≡ [] = ap (ptsOf t) (listed-none processLength (λ q. processAt q s) k p h) in
         let e : take len pts ≡ ptsOf t (processesAt m at s) = sym (append-nil (take len pts)) ∙ rw none at (q .all) in
         let n : len ≡ length (ptsOf t (processesAt m at s)) = sym (length-take-le len pts (omega (arith, q .size, q .room))) ∙ ap length e in
         let l : pts ≡ ptsOf t (processesAt m at s) ++ replicate (64 - len) 0 = sym (take-append-drop len pts) ∙ rw (e, q .zeros) in

@@ -1,66 +1,49 @@
 // Reading an image: rows and process table by value, words and cells into lent buffers. All is checked before anything is filled.
 ghost use mathlib.Core.Path.{_≡_};
-ghost use mathlib.Core.List.{[], _++_, map};
-ghost use Prim.Native.Nat.{_+_, _-_, _*_, _≤_};
-ghost use lib.ListN.{length, drop};
-ghost use Rattle.window.specs.Memories.{tagOf, wordOf};
-ghost use Rattle.image.specs.Image.{ptsOf, queueOf, queuesOf, pswTable, decode};
-ghost use Rattle.image_words.specs.Reading.{fieldAt, wordsAt, cellsAt};
-ghost use Rattle.image_check.specs.Checked.{rowsAt, processesAt, imageAt, checkedOf};
-ghost use Rattle.image_check.specs.declared.Checked.the-variants.{Sound};
-ghost use Rattle.image_read.specs.Read.{sevenRows, tableRead, buffers, roomFor, filledBuffers, readLeaving, refusal, readOf};
-ghost use Rattle.image_read.specs.Laws.Room.{Room};
-use image_check::Checked;
-use image_check::Counted;
+ghost use mathlib.Core.List.{List};
+ghost use mathlib.Core.Bool.{true};
+ghost use Prim.Native.Nat.{min, _+_, _-_, _*_, _≤_};
+ghost use lib.ListN.{length};
+ghost use Rattle.window.specs.declared.Row.{Row};
+ghost use Rattle.step.specs.declared.ProcessTable.{ProcessTable};
+ghost use Rattle.image.specs.Fields.{over};
+ghost use Rattle.image.specs.Image.{ptsOf, queueOf, queuesOf, pswTable, memoryOf, stateOf, decode, processLength};
+ghost use Rattle.image_bytes.specs.Code.Reading.{fieldAt, wordsAt, cellsAt};
+ghost use Rattle.library.specs.Buffers.{fits, holding};
+ghost use Rattle.library.specs.Calls.{checkAnswer};
+ghost use Rattle.library.specs.Held.{roomFrom, heldRows, lentBuffers, SamePlaces};
+ghost use Rattle.library.specs.Promises.{readAnswered, ReadPromise};
+ghost use Rattle.library.specs.declared.ReadAnswer.the-variants.{Refused, Read};
+ghost use Rattle.image_check.specs.Code.Places.{rowsAt, processesAt, imageAt};
+ghost use Rattle.image_read.specs.Code.Room.{Room};
+ghost use Rattle.window.specs.Limits.{tasks};
+use image::PROCESS_BYTES;
+use image::ROW_BYTES;
+use library::AfterRead;
+use library::ReadAnswer;
+use library::Rows;
+use library::Sizes;
 use refusal::Refusal;
+use step::PLACES;
+use step::PTS;
 use step::ProcessTable;
 use step::Queue;
 use window::Row;
-
-// A refusal, or how many values each section has.
-pub enum ReadAnswer {
-    Refused(Refusal),
-    Counts(Counted),
-}
-
-// What reading gives beside what it fills.
-pub struct Reading {
-    pub answer: ReadAnswer,
-    pub rows: [Row; 7],
-    pub table: ProcessTable,
-}
+use window::TASKS;
 
 // ---- rows
 
-fn no_rows() -> [Row; 7]
-    ensures { λ r. ⌜ r ≡ sevenRows [] ⌝ }
+// The n rows of the image over the first of `old`.
+fn rows_at(image: &[u8], n: usize, old: [Row; TASKS]) -> [Row; TASKS]
+    requires { ⌜ n ≤ tasks ⌝ }
+    ensures { λ r. ⌜ r ≡ over (rowsAt n (now (image .entry))) old ⌝ }
 {
-    let empty = Row {
-        task: 0,
-        cb: 0,
-        rb: 0,
-        rl: 0,
-        pb: 0,
-        pl: 0,
-        db: 0,
-        dl: 0,
-        kind: 0xFF,
-        psw: 0,
-    };
-    [empty; 7]
-}
-
-// The first n rows, and then empty ones.
-fn rows_at(s: &[u8], n: usize) -> [Row; 7]
-    requires { ⌜ n ≤ 7 ⌝ }
-    ensures { λ r. ⌜ r ≡ sevenRows (rowsAt n (now (s .entry))) ⌝ }
-{
-    let mut rows = no_rows();
+    let mut rows = old;
     let mut p = 1;
     let mut i = 0;
     while i < n {
-        rows[i] = image_check::row_at(s, p);
-        p += 28;
+        rows[i] = image_check::row_at(image, p);
+        p += ROW_BYTES;
         i += 1;
     }
     rows
@@ -69,217 +52,239 @@ fn rows_at(s: &[u8], n: usize) -> [Row; 7]
 // ---- the process table of m processes from `at` on
 
 // The PSWs, from the last process to the first.
-fn psws_at(s: &[u8], at: usize, m: usize) -> [u64; 64]
-    requires { ⌜ at + 10 * m ≤ 65536 ⌝ }
-    ensures { λ r. ⌜ r ≡ pswTable (processesAt m at (now (s .entry))) ⌝ }
+fn psws_at(image: &[u8], at: usize, m: usize) -> [u64; PTS]
+    requires { ⌜ at + processLength * m ≤ 65536 ⌝ }
+    ensures { λ r. ⌜ r ≡ pswTable (processesAt m at (now (image .entry))) ⌝ }
 {
-    let mut psw = [0; 64];
-    let mut p = at + 10 * m;
+    let mut psw = [0; PTS];
+    let mut p = at + PROCESS_BYTES * m;
     let mut j = 0;
     while j < m {
-        p -= 10;
+        p -= PROCESS_BYTES;
         j += 1;
-        let pt = image_words::number_at(s, p, 1) as usize;
-        if pt < 64 {
-            psw[pt] = image_words::number_at(s, p + 2, 8);
+        let pt = image_bytes::number_at(image, p, 1) as usize;
+        if pt < PTS {
+            psw[pt] = image_bytes::number_at(image, p + 2, 8);
         }
     }
     psw
 }
 
 // The queue of task t.
-fn queue_at(s: &[u8], at: usize, m: usize, t: u64) -> Queue
-    requires { ⌜ (at + 10 * m ≤ 65536) × (m ≤ 64) ⌝ }
-    ensures { λ r. ⌜ r ≡ queueOf (ptsOf t (processesAt m at (now (s .entry)))) ⌝ }
+fn queue_at(image: &[u8], at: usize, m: usize, t: u64) -> Queue
+    requires { ⌜ (at + processLength * m ≤ 65536) × (m ≤ 64) ⌝ }
+    ensures { λ r. ⌜ r ≡ queueOf (ptsOf t (processesAt m at (now (image .entry)))) ⌝ }
 {
-    let mut pts = [0; 64];
+    let mut pts = [0; PLACES];
     let mut len = 0;
     let mut p = at;
     let mut k = m;
     while 0 < k {
-        if image_words::number_at(s, p + 1, 1) == t {
-            pts[len] = image_words::number_at(s, p, 1) as u8;
+        if image_bytes::number_at(image, p + 1, 1) == t {
+            pts[len] = image_bytes::number_at(image, p, 1) as u8;
             len += 1;
         }
-        p += 10;
+        p += PROCESS_BYTES;
         k -= 1;
     }
     Queue { pts, head: 0, len }
 }
 
-fn queues_at(s: &[u8], at: usize, m: usize) -> [Queue; 7]
-    requires { ⌜ (at + 10 * m ≤ 65536) × (m ≤ 64) ⌝ }
-    ensures { λ r. ⌜ r ≡ queuesOf 7 1 (processesAt m at (now (s .entry))) ⌝ }
+fn queues_at(image: &[u8], at: usize, m: usize) -> [Queue; TASKS]
+    requires { ⌜ (at + processLength * m ≤ 65536) × (m ≤ 64) ⌝ }
+    ensures { λ r. ⌜ r ≡ queuesOf 7 1 (processesAt m at (now (image .entry))) ⌝ }
 {
     [
-        queue_at(s, at, m, 1),
-        queue_at(s, at, m, 2),
-        queue_at(s, at, m, 3),
-        queue_at(s, at, m, 4),
-        queue_at(s, at, m, 5),
-        queue_at(s, at, m, 6),
-        queue_at(s, at, m, 7),
+        queue_at(image, at, m, 1),
+        queue_at(image, at, m, 2),
+        queue_at(image, at, m, 3),
+        queue_at(image, at, m, 4),
+        queue_at(image, at, m, 5),
+        queue_at(image, at, m, 6),
+        queue_at(image, at, m, 7),
     ]
 }
 
-// The table of the section at `at`: the flag stands behind the count, and the processes behind the flag.
-fn table_at(s: &[u8], at: usize, m: usize) -> ProcessTable
+// The table of the section at `at`: the flag stands behind the count m, and the processes behind the flag.
+fn table_at(image: &[u8], at: usize, m: usize) -> ProcessTable
     requires { ⌜ (at ≤ 1024) × (m ≤ 64) ⌝ }
-    ensures { λ r. ⌜ r ≡ tableRead (fieldAt 1 (at + 1) (now (s .entry))) (processesAt m (at + 2) (now (s .entry))) ⌝ }
+    ensures { λ r. ⌜ r ≡ record { psw = pswTable (processesAt m (at + 2) (now (image .entry))); queues = queuesOf 7 1 (processesAt m (at + 2) (now (image .entry))); flag = fieldAt 1 (at + 1) (now (image .entry)) } ⌝ }
 {
-    let flag = image_words::number_at(s, at + 1, 1) as u8;
-    let psw = psws_at(s, at + 2, m);
-    let queues = queues_at(s, at + 2, m);
+    let flag = image_bytes::number_at(image, at + 1, 1) as u8;
+    let psw = psws_at(image, at + 2, m);
+    let queues = queues_at(image, at + 2, m);
     ProcessTable { psw, queues, flag }
 }
 
 // ---- buffers
 
-// Whether each count is at most the length of its buffers.
-fn has_room(
-    z: Counted,
-    constants: usize,
-    tags: usize,
-    words: usize,
-    program: usize,
-    data_tags: usize,
-    data_words: usize,
-) -> bool
-    ensures { λ r. ⌜ r ≡ roomFor z constants tags words program data_tags data_words ⌝ }
-{
-    if constants < z.constants {
-        return false;
-    }
-    if tags < z.registers {
-        return false;
-    }
-    if words < z.registers {
-        return false;
-    }
-    if program < z.program {
-        return false;
-    }
-    if data_tags < z.data_words {
-        return false;
-    }
-    z.data_words <= data_words
-}
-
 // Fills the first n of `words` from the bytes at `at`.
-fn fill_first_words(s: &[u8], at: usize, n: usize, words: &mut [u64])
-    requires { ⌜ (n ≤ length (now words)) × (8 * n ≤ length (now s) - at) ⌝ }
-    ensures { λ _. ⌜ now (words .exit) ≡ wordsAt n at (now (s .entry)) ++ drop n (now (words .entry)) ⌝ }
+fn fill_first_words(image: &[u8], at: usize, n: usize, words: &mut [u64])
+    requires { ⌜ (n ≤ length (now words)) × (8 * n ≤ length (now image) - at) ⌝ }
+    ensures { λ _. ⌜ now (words .exit) ≡ over (wordsAt n at (now (image .entry))) (now (words .entry)) ⌝ }
 {
-    image_words::fill_words(s, at, &mut words[..n]);
+    image_bytes::fill_words(image, at, &mut words[..n]);
 }
 
 // Fills the first n of `tags` and of `words` from the cells at `at`.
-fn fill_first_cells(s: &[u8], at: usize, n: usize, tags: &mut [u8], words: &mut [u64])
-    requires { ⌜ ((n ≤ length (now tags)) × (n ≤ length (now words))) × (9 * n ≤ length (now s) - at) ⌝ }
-    ensures { λ _. ⌜ now (tags .exit) ≡ map tagOf (cellsAt n at (now (s .entry))) ++ drop n (now (tags .entry)) ⌝ }
-    ensures { λ _. ⌜ now (words .exit) ≡ map wordOf (cellsAt n at (now (s .entry))) ++ drop n (now (words .entry)) ⌝ }
+fn fill_first_cells(image: &[u8], at: usize, n: usize, tags: &mut [u8], words: &mut [u64])
+    requires { ⌜ ((n ≤ length (now tags)) × (n ≤ length (now words))) × (9 * n ≤ length (now image) - at) ⌝ }
+    ensures { λ _. ⌜ now (tags .exit) ≡ over (memoryOf (cellsAt n at (now (image .entry))) .tags) (now (tags .entry)) ⌝ }
+    ensures { λ _. ⌜ now (words .exit) ≡ over (memoryOf (cellsAt n at (now (image .entry))) .words) (now (words .entry)) ⌝ }
 {
-    image_words::fill_cells(s, at, &mut tags[..n], &mut words[..n]);
+    image_bytes::fill_cells(image, at, &mut tags[..n], &mut words[..n]);
 }
 
-// Fills the buffers from the sections behind the process section.
+// Fills the buffers from the sections behind that of the m processes; so they hold the state, whatever their rows and table are.
 fn fill(
-    s: &[u8],
-    z: Counted,
     constants: &mut [u64],
-    tags: &mut [u8],
-    words: &mut [u64],
+    register_tags: &mut [u8],
+    register_words: &mut [u64],
     program: &mut [u64],
     data_tags: &mut [u8],
     data_words: &mut [u64],
+    image: &[u8],
+    n: Sizes,
+    m: usize,
 )
-    requires { ⌜ Room z (length (now s)) (length (now constants)) (length (now tags)) (length (now words)) (length (now program)) (length (now data_tags)) (length (now data_words)) ⌝ }
-    ensures { λ _. ⌜ buffers (now (constants .exit)) (now (tags .exit)) (now (words .exit)) (now (program .exit)) (now (data_tags .exit)) (now (data_words .exit)) ≡ filledBuffers (imageAt z (now (s .entry))) (buffers (now (constants .entry)) (now (tags .entry)) (now (words .entry)) (now (program .entry)) (now (data_tags .entry)) (now (data_words .entry))) ⌝ }
+    requires { ⌜ Room n m (now image) (length (now constants)) (length (now «register_tags»)) (length (now «register_words»)) (length (now program)) (length (now data_tags)) (length (now data_words)) ⌝ }
+    ensures { λ _. ⌜ ((rows : List Row) (t : ProcessTable) → lentBuffers (over (imageAt n (now (image .entry)) .rows) rows) (stateOf (imageAt n (now (image .entry))) .table) (now (constants .exit)) (now («register_tags» .exit)) (now («register_words» .exit)) (now (program .exit)) (now (data_tags .exit)) (now (data_words .exit)) ≡ holding (stateOf (imageAt n (now (image .entry)))) (lentBuffers rows t (now (constants .entry)) (now («register_tags» .entry)) (now («register_words» .entry)) (now (program .entry)) (now (data_tags .entry)) (now (data_words .entry)))) ⌝ }
 {
-    let constants_at = 1 + 28 * z.rows + (2 + 10 * z.processes);
-    let registers_at = constants_at + (2 + 8 * z.constants);
-    let program_at = registers_at + (2 + 9 * z.registers);
-    let data_at = program_at + (4 + 8 * z.program);
-    fill_first_words(s, constants_at + 2, z.constants, constants);
-    fill_first_cells(s, registers_at + 2, z.registers, tags, words);
-    fill_first_words(s, program_at + 4, z.program, program);
-    fill_first_cells(s, data_at + 4, z.data_words, data_tags, data_words);
+    let constants_at = 1 + ROW_BYTES * n.rows + (2 + PROCESS_BYTES * m);
+    let registers_at = constants_at + (2 + 8 * n.constants);
+    let program_at = registers_at + (2 + 9 * n.registers);
+    let data_at = program_at + (4 + 8 * n.program);
+    fill_first_words(image, constants_at + 2, n.constants, constants);
+    fill_first_cells(
+        image,
+        registers_at + 2,
+        n.registers,
+        register_tags,
+        register_words,
+    );
+    fill_first_words(image, program_at + 4, n.program, program);
+    fill_first_cells(image, data_at + 4, n.data_words, data_tags, data_words);
 }
 
 // ---- the whole
 
-fn refused(e: Refusal) -> Reading
-    ensures { λ r. ⌜ r ≡ refusal e ⌝ }
+fn refused(e: Refusal, rows: Rows, table: ProcessTable) -> AfterRead
+    ensures { λ r. ⌜ r ≡ record { rows = rows; table = table; answer = Refused e } ⌝ }
 {
-    let rows = no_rows();
-    let none = Queue {
-        pts: [0; 64],
-        head: 0,
-        len: 0,
-    };
-    Reading {
-        answer: ReadAnswer::Refused(e),
+    AfterRead {
         rows,
-        table: ProcessTable {
-            psw: [0; 64],
-            queues: [none; 7],
-            flag: 0,
-        },
+        table,
+        answer: ReadAnswer::Refused(e),
     }
 }
 
-// Reads an image that was found sound.
-fn read_sound(
-    s: &[u8],
-    z: Counted,
+// Reads an image of these sizes into buffers that they fit.
+fn read_fitting(
+    rows: Rows,
     constants: &mut [u64],
-    tags: &mut [u8],
-    words: &mut [u64],
+    register_tags: &mut [u8],
+    register_words: &mut [u64],
     program: &mut [u64],
     data_tags: &mut [u8],
     data_words: &mut [u64],
-) -> Reading
-    requires { ⌜ checkedOf (decode (now s)) ≡ Sound z ⌝ }
-    ensures { λ r. ⌜ readLeaving r (buffers (now (constants .exit)) (now (tags .exit)) (now (words .exit)) (now (program .exit)) (now (data_tags .exit)) (now (data_words .exit))) ≡ readOf (now (s .entry)) (buffers (now (constants .entry)) (now (tags .entry)) (now (words .entry)) (now (program .entry)) (now (data_tags .entry)) (now (data_words .entry))) ⌝ }
+    image: &[u8],
+    n: Sizes,
+) -> AfterRead
+    requires { ⌜ (readAnswered (checkAnswer (decode (now image))) ≡ Read n) × (fits n (roomFrom (min (rows .n) tasks) (length (now constants)) (length (now «register_tags»)) (length (now «register_words»)) (length (now program)) (length (now data_tags)) (length (now data_words))) ≡ true) ⌝ }
+    ensures { λ r. ⌜ ((table : ProcessTable) → ReadPromise (lentBuffers (heldRows rows) table (now (constants .entry)) (now («register_tags» .entry)) (now («register_words» .entry)) (now (program .entry)) (now (data_tags .entry)) (now (data_words .entry))) (now (image .entry)) (r .answer) (lentBuffers (heldRows (r .rows)) (r .table) (now (constants .exit)) (now («register_tags» .exit)) (now («register_words» .exit)) (now (program .exit)) (now (data_tags .exit)) (now (data_words .exit))) × SamePlaces rows (r .rows)) ⌝ }
 {
-    if !has_room(
-        z,
+    let old = rows.at;
+    let at = rows_at(image, n.rows, old);
+    let place = 1 + ROW_BYTES * n.rows;
+    let m = image_bytes::number_at(image, place, 1) as usize;
+    let table = table_at(image, place, m);
+    fill(
+        constants,
+        register_tags,
+        register_words,
+        program,
+        data_tags,
+        data_words,
+        image,
+        n,
+        m,
+    );
+    AfterRead {
+        rows: Rows { at, n: rows.n },
+        table,
+        answer: ReadAnswer::Read(n),
+    }
+}
+
+// Reads an image of these sizes: 7 where one of the buffers is too short.
+fn read_sound(
+    rows: Rows,
+    table: ProcessTable,
+    constants: &mut [u64],
+    register_tags: &mut [u8],
+    register_words: &mut [u64],
+    program: &mut [u64],
+    data_tags: &mut [u8],
+    data_words: &mut [u64],
+    image: &[u8],
+    n: Sizes,
+) -> AfterRead
+    requires { ⌜ readAnswered (checkAnswer (decode (now image))) ≡ Read n ⌝ }
+    ensures { λ r. ⌜ ReadPromise (lentBuffers (heldRows rows) table (now (constants .entry)) (now («register_tags» .entry)) (now («register_words» .entry)) (now (program .entry)) (now (data_tags .entry)) (now (data_words .entry))) (now (image .entry)) (r .answer) (lentBuffers (heldRows (r .rows)) (r .table) (now (constants .exit)) (now («register_tags» .exit)) (now («register_words» .exit)) (now (program .exit)) (now (data_tags .exit)) (now (data_words .exit))) × SamePlaces rows (r .rows) ⌝ }
+{
+    if !library_state::fits(
+        n,
+        library_state::row_count(rows.n),
         constants.len(),
-        tags.len(),
-        words.len(),
+        register_tags.len(),
+        register_words.len(),
         program.len(),
         data_tags.len(),
         data_words.len(),
     ) {
-        return refused(Refusal::ShortBuffer);
+        return refused(Refusal::ShortBuffer, rows, table);
     }
-    let rows = rows_at(s, z.rows);
-    let table = table_at(s, 1 + 28 * z.rows, z.processes);
-    fill(s, z, constants, tags, words, program, data_tags, data_words);
-    Reading {
-        answer: ReadAnswer::Counts(z),
+    read_fitting(
         rows,
-        table,
-    }
+        constants,
+        register_tags,
+        register_words,
+        program,
+        data_tags,
+        data_words,
+        image,
+        n,
+    )
 }
 
-// Refusals 1 to 6, then 7. A refusal changes no buffer; beyond the counts nothing is touched.
+// Refusals 1 to 6, then 7. A refusal changes no buffer; beyond the sizes nothing is touched.
 pub fn read(
-    s: &[u8],
+    rows: Rows,
+    table: ProcessTable,
     constants: &mut [u64],
-    tags: &mut [u8],
-    words: &mut [u64],
+    register_tags: &mut [u8],
+    register_words: &mut [u64],
     program: &mut [u64],
     data_tags: &mut [u8],
     data_words: &mut [u64],
-) -> Reading
-    ensures { λ r. ⌜ readLeaving r (buffers (now (constants .exit)) (now (tags .exit)) (now (words .exit)) (now (program .exit)) (now (data_tags .exit)) (now (data_words .exit))) ≡ readOf (now (s .entry)) (buffers (now (constants .entry)) (now (tags .entry)) (now (words .entry)) (now (program .entry)) (now (data_tags .entry)) (now (data_words .entry))) ⌝ }
+    image: &[u8],
+) -> AfterRead
+    ensures { λ r. ⌜ ReadPromise (lentBuffers (heldRows rows) table (now (constants .entry)) (now («register_tags» .entry)) (now («register_words» .entry)) (now (program .entry)) (now (data_tags .entry)) (now (data_words .entry))) (now (image .entry)) (r .answer) (lentBuffers (heldRows (r .rows)) (r .table) (now (constants .exit)) (now («register_tags» .exit)) (now («register_words» .exit)) (now (program .exit)) (now (data_tags .exit)) (now (data_words .exit))) × SamePlaces rows (r .rows) ⌝ }
 {
-    let found = image_check::check(s);
+    let found = image_check::check(image);
     match found {
-        Checked::Refused(e) => refused(e),
-        Checked::Sound(z) => {
-            read_sound(s, z, constants, tags, words, program, data_tags, data_words)
-        }
+        ReadAnswer::Refused(e) => refused(e, rows, table),
+        ReadAnswer::Read(n) => read_sound(
+            rows,
+            table,
+            constants,
+            register_tags,
+            register_words,
+            program,
+            data_tags,
+            data_words,
+            image,
+            n,
+        ),
     }
 }

@@ -1,32 +1,42 @@
--- What a sound state's sizes are, how long its image is, and the three answers of a write.
-use Prim.Native.Nat.{ℕ, _+_, _*_, _^_, _≤_, _<_}
-use mathlib.Core.Path.{_≡_, refl, sym, ap, _∙_}
+-- What the sizes of a sound state are, how long its image is, and the three answers of a write.
+use Prim.Native.Nat.{ℕ, min, _+_, _*_, _^_, _≤_, _<_}
+use mathlib.Core.Path.{_≡_, sym, ap, _∙_}
 use mathlib.Core.Bool.{Bool, true, false}
 use mathlib.Core.List.{List, _++_}
 use native.Mathlib.Nat.{zero-add}
 use native.Mathlib.Omega.{arith}
-use lib.ListN.{length, drop, length-append}
-use lib.Dec.{eqb, leb}
+use lib.ListN.{length, take, drop, length-append}
+use lib.Seq.{length-take-le}
+use lib.Dec.{eqb}
 use borrow.Author.Tests.{eqb-true, leb-true, ltb-true, lt-ltb, le-ltb}
 use Rattle.word.specs.Laws.Bools.{and-left, and-right}
-use Rattle.window.specs.declared.Row.{Row}
 use Rattle.window.specs.Memories.{Memory}
 use Rattle.refusal.specs.declared.Refusal.the-variants.{ShortBuffer, UnsoundState}
 use Rattle.step.specs.declared.ProcessTable.{ProcessTable}
 use Rattle.step.specs.Queues.{occ, livePts}
 use Rattle.step.specs.State.{State}
-use Rattle.step.specs.Soundness.{every, distinct, ptSound, wordsSound, memorySound, sound}
+use Rattle.step.specs.Soundness.{every, distinct, ptSound, wordsSound, memorySound}
 use Rattle.step.specs.Laws.Occurrences.{length-once}
 use Rattle.step.specs.Laws.Every.{once-of, every-at}
 use Rattle.step.specs.Laws.Sound.{sound-parts}
-use Rattle.image.specs.Image.{encode}
-use Rattle.image_words.specs.Writing.{laid, putAt}
-use Rattle.image_words.specs.Laws.Laid.{put-fits}
-use Rattle.soundness.proofs.Seeing.{zero-of}
-use Rattle.soundness.specs.Held.{stateIn, soundIn}
-use Rattle.image_write.specs.declared.Writing.the-variants.{Refused, Wrote}
-use Rattle.image_write.specs.Bytes.{imageBytes}
-use Rattle.image_write.specs.Writing.{answer, leaves, Written}
+use Rattle.image.specs.Image.{encode, rowLength, processLength}
+use Rattle.image_bytes.specs.Code.Writing.{laid, putAt}
+use Rattle.image_bytes.specs.Laws.Laid.{put-fits}
+use Rattle.step_soundness.proofs.Seeing.{zero-of}
+use Rattle.step_soundness.specs.Code.Held.{stateIn}
+use Rattle.library.specs.declared.Sizes.{Sizes}
+use Rattle.library.specs.declared.Rows.{Rows}
+use Rattle.library.specs.declared.WriteAnswer.the-variants.{Refused, Wrote}
+use Rattle.library.specs.Buffers.{Buffers, fieldsIn}
+use Rattle.library.specs.Calls.{unless, leaving, orElse, stateRefused, stateRefusal, outputRefusal, writeRefusal, writeAnswer, writeLeaves}
+use Rattle.library.specs.Promises.{writeAnswered, WritePromise}
+use Rattle.library.specs.Laws.InPlace.{fields-sized}
+use Rattle.library.specs.Laws.Places.{Fitting, fitting}
+use Rattle.library.specs.Laws.Held.{before, lengths, room-held, accepted}
+use Rattle.library.specs.Laws.Numbers.{write-promise}
+use Rattle.library_state.specs.Laws.Cut.{cut, cut-fields}
+use Rattle.image_write.specs.Code.Bytes.{imageBytes}
+use Rattle.image_write.proofs.Whole.{image-bytes}
 use Rattle.image_write.proofs.Sections.{tasks-size, processes-size, words-size, cells-size}
 
 -- ---- the sizes of a sound state
@@ -53,53 +63,103 @@ unfolding ptSound
 pts-few pts d e =
     length-once 64 pts (once-of pts d) (λ p h. zero-of (occ p pts) (λ n. let k : p < 64 = ltb-true p 64 (every-at ptSound pts e p n) in omega arith))
 
-pub record Sized (n : ℕ) (s : State) : Type 0 where
-  pub rows : n ≤ 7
-  pub processes : length (livePts (s .table .queues)) ≤ 64
-  pub constants : length (s .constants) ≤ 4096
-  pub registers : Few 2048 (s .registers)
-  pub program : length (s .program) ≤ 2 ^ 20
-  pub dataWords : Few (2 ^ 20) (s .dataWords)
+-- the sizes of a sound state, and its processes: at most so many of each
+pub record Small (n : Sizes) (t : ProcessTable) : Type 0 where
+  pub rows : n .rows ≤ 7
+  pub processes : length (livePts (t .queues)) ≤ 64
+  pub constants : n .constants ≤ 4096
+  pub registers : n .registers ≤ 2048
+  pub program : n .program ≤ 2 ^ 20
+  pub dataWords : n .data_words ≤ 2 ^ 20
 
-pub sized : (n : ℕ) (s : State) → soundIn n s ≡ true → Sized n s
-unfolding soundIn
-sized n s e =
-    let p = sound-parts s (and-right (leb n 7) (sound s) e) in
-    let m = p .memories in
-    record {
-      rows = leb-true n 7 (and-left (leb n 7) (sound s) e);
-      processes = pts-few (livePts (s .table .queues)) (p .table .once) (p .table .small);
-      constants = words-few 4096 (s .constants) (m .constants);
-      registers = memory-few 2048 _ (s .registers) (m .registers);
-      program = words-few (2 ^ 20) (s .program) (m .program);
-      dataWords = memory-few (2 ^ 20) _ (s .dataWords) (m .dataWords);
-    }
+-- ---- a state in buffers that isn't refused
 
--- how long the image is
-pub image-size : (rows : List Row) (n : ℕ) (t : ProcessTable) (constants tags words program dataTags dataWords : List ℕ) (m : ℕ)
-    → n ≤ length rows → m ≡ length (livePts (t .queues)) → length tags ≡ length words → length dataTags ≡ length dataWords
-    → length (imageBytes (stateIn rows n t constants tags words program dataTags dataWords))
-    ≡ (1 + 28 * n) + ((2 + 10 * m) + ((2 + 8 * length constants) + ((2 + 9 * length words) + ((4 + 8 * length program) + (4 + 9 * length dataWords)))))
-unfolding imageBytes stateIn
-image-size rows n t constants tags words program dataTags dataWords m h k r d =
-    simp (length-append, tasks-size rows n h, processes-size (t .psw) (t .flag) (t .queues) m k, words-size, cells-size 2 words tags r, cells-size 4 dataWords dataTags d)
+module _ (v : Rows) (table : ProcessTable) (constants registerTags registerWords program dataTags dataWords : List ℕ) (n : Sizes)
+    (seven : length (v .at) ≡ 7)
+    (fine : stateRefused n (before v table constants registerTags registerWords program dataTags dataWords) ≡ false) where
+  abbrev held : Buffers
+  held = before v table constants registerTags registerWords program dataTags dataWords
+
+  pub fitted : Fitting n (lengths v table constants registerTags registerWords program dataTags dataWords)
+  fitted =
+      fitting n (lengths v table constants registerTags registerWords program dataTags dataWords)
+      (rw (room-held v table constants registerTags registerWords program dataTags dataWords seven) at (accepted n held fine .0))
+
+  few : n .rows ≤ min (v .n) 7
+  few = fitted .rows
+
+  pub small : Small n table
+  unfolding fieldsIn
+  small =
+      let p = sound-parts (fieldsIn n held) (accepted n held fine .1) in
+      let m = p .memories in
+      let z = fields-sized n held (accepted n held fine .0) in
+      record {
+        rows = omega (arith, few);
+        processes = pts-few (livePts (table .queues)) (p .table .once) (p .table .small);
+        constants = omega (arith, z .constants, words-few 4096 (take (n .constants) constants) (m .constants));
+        registers = omega (arith, z .registerWords, memory-few 2048 _ (fieldsIn n held .registers) (m .registers));
+        program = omega (arith, z .program, words-few (2 ^ 20) (take (n .program) program) (m .program));
+        dataWords = omega (arith, z .dataWords, memory-few (2 ^ 20) _ (fieldsIn n held .dataWords) (m .dataWords));
+      }
+
+  -- the slices that are cut to the sizes
+  abbrev pub given : State
+  given = cut v table constants registerTags registerWords program dataTags dataWords n
+
+  pub tags-cut : length (take (n .registers) registerTags) ≡ length (take (n .registers) registerWords)
+  tags-cut = length-take-le (n .registers) registerTags (fitted .registerTags) ∙ sym (length-take-le (n .registers) registerWords (fitted .registerWords))
+
+  pub data-cut : length (take (n .data_words) dataTags) ≡ length (take (n .data_words) dataWords)
+  data-cut = length-take-le (n .data_words) dataTags (fitted .dataTags) ∙ sym (length-take-le (n .data_words) dataWords (fitted .dataWords))
+
+  -- their image is that of the state
+  pub bytes : encode (fieldsIn n held) ≡ imageBytes given
+  unfolding stateIn
+  bytes =
+      ap encode (sym (cut-fields v table constants registerTags registerWords program dataTags dataWords n (omega (arith, few))))
+      ∙ image-bytes given tags-cut data-cut
+
+  -- how long it is
+  pub image-size : (m : ℕ) → m ≡ length (livePts (table .queues))
+      → length (encode (fieldsIn n held))
+      ≡ (1 + rowLength * n .rows) + ((2 + processLength * m) + ((2 + 8 * n .constants) + ((2 + 9 * n .registers) + ((4 + 8 * n .program) + (4 + 9 * n .data_words)))))
+  unfolding imageBytes stateIn
+  image-size m k =
+      ap length bytes
+      ∙ simp (
+        length-append,
+        tasks-size (v .at) (n .rows) (omega (arith, few, seven)),
+        processes-size (table .psw) (table .flag) (table .queues) m k,
+        words-size,
+        cells-size 2 (take (n .registers) registerWords) (take (n .registers) registerTags) tags-cut,
+        cells-size 4 (take (n .data_words) dataWords) (take (n .data_words) dataTags) data-cut,
+        length-take-le (n .constants) constants (fitted .constants),
+        length-take-le (n .registers) registerWords (fitted .registerWords),
+        length-take-le (n .program) program (fitted .program),
+        length-take-le (n .data_words) dataWords (fitted .dataWords),
+      )
 
 -- ---- the answers
 
-module _ (n : ℕ) (s : State) (out : List ℕ) where
-  pub refuses-8 : soundIn n s ≡ false → Written n s (Refused UnsoundState) out out
-  unfolding answer leaves
-  refuses-8 e = record { answers = rw e; output = refl }
+module _ (n : Sizes) (b : Buffers) (output : List ℕ) where
+  pub refuses-8 : stateRefused n b ≡ true → WritePromise n b (Refused UnsoundState) output output
+  unfolding writeAnswered writeAnswer writeRefusal writeLeaves stateRefusal orElse unless leaving
+  refuses-8 e = write-promise (rw e) (rw e)
 
-  pub refuses-7 : soundIn n s ≡ true → length out < length (encode s) → Written n s (Refused ShortBuffer) out out
-  unfolding answer leaves
-  refuses-7 e h = record { answers = rw (e, lt-ltb (length out) (length (encode s)) h); output = refl }
+  module _ (e : stateRefused n b ≡ false) where
+    pub refuses-7 : length output < length (encode (fieldsIn n b)) → WritePromise n b (Refused ShortBuffer) output output
+    unfolding writeAnswered writeAnswer writeRefusal writeLeaves stateRefusal outputRefusal orElse unless leaving
+    refuses-7 h =
+        let q = lt-ltb (length output) (length (encode (fieldsIn n b))) h in
+        write-promise (rw (e, q)) (rw (e, q))
 
-  pub writes : {r : ℕ} {l : List ℕ} → soundIn n s ≡ true → length (encode s) ≤ length out → r ≡ length (encode s) → l ≡ putAt 0 (encode s) out → Written n s (Wrote r) out l
-  unfolding answer leaves laid
-  writes e h p i =
-      let f : 0 + length (encode s) ≤ length out = omega arith in
-      record {
-        answers = rw (e, le-ltb (length out) (length (encode s)) h, p);
-        output = i ∙ sym (put-fits 0 (encode s) out f) ∙ ap (λ (k : ℕ). encode s ++ drop k out) (zero-add (length (encode s)));
-      }
+    pub writes : {r : ℕ} {l : List ℕ} → length (encode (fieldsIn n b)) ≤ length output → r ≡ length (encode (fieldsIn n b))
+        → l ≡ putAt 0 (encode (fieldsIn n b)) output → WritePromise n b (Wrote r) output l
+    unfolding writeAnswered writeAnswer writeRefusal writeLeaves stateRefusal outputRefusal orElse unless leaving laid
+    writes h p i =
+        let q = le-ltb (length output) (length (encode (fieldsIn n b))) h in
+        let f : 0 + length (encode (fieldsIn n b)) ≤ length output = omega arith in
+        let o =
+        i ∙ sym (put-fits 0 (encode (fieldsIn n b)) output f) ∙ ap (λ (k : ℕ). encode (fieldsIn n b) ++ drop k output) (zero-add (length (encode (fieldsIn n b)))) in
+        write-promise (rw (e, q, p)) (rw (e, q) o)

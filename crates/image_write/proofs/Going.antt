@@ -6,8 +6,8 @@ use native.Mathlib.Omega.{arith}
 use lib.ListN.{length, length-append}
 use Rattle.image.specs.Codec.{digits}
 use Rattle.image.specs.Laws.Numbers.{length-digits}
-use Rattle.image_words.specs.Writing.{laid, putAt}
-use Rattle.image_words.specs.Laws.Laid.{put-fits, laid-nil, length-laid, laid-append}
+use Rattle.image_bytes.specs.Code.Writing.{laid, putAt}
+use Rattle.image_bytes.specs.Laws.Laid.{put-fits, laid-nil, length-laid, laid-append}
 
 -- what is left is xs, and then left′
 pub record Splits (left xs left′ : List ℕ) : Type 0 where

@@ -12,12 +12,13 @@ use Rattle.step.specs.State.{noQueue}
 use Rattle.step.specs.Laws.Queues.{ring-same, ring-first, length-list}
 use Rattle.image.specs.declared.Process.{Process}
 use Rattle.image.specs.Codec.{num, seq, via, encMany}
-use Rattle.image.specs.Image.{rowCodec, processCodec, toProcess, processesIn, processesFrom}
+use Rattle.image.specs.Image.{rowCodec, processCodec, toProcess, processesIn, processesFrom, rowLength, processLength}
 use Rattle.image.specs.Laws.Numbers.{length-digits}
-use Rattle.image_words.specs.Laws.Bytes.{uniform-length}
-use Rattle.image_words.specs.Writing.{putAt}
-use Rattle.soundness.proofs.Loops.{next-of, none-of, next-in, past-count}
-use Rattle.image_write.specs.Bytes.{rowFirst, rowSecond, rowRecord, rowBytes, processBytes, rowsBytes, processesBytes}
+use Rattle.image_bytes.specs.Laws.Bytes.{uniform-length}
+use Rattle.image_bytes.specs.Code.Writing.{putAt}
+use Rattle.step_soundness.proofs.Loops.{next-of, none-of, next-in, past-count}
+use Rattle.library.specs.Empty.{emptyRow}
+use Rattle.image_write.specs.Code.Bytes.{rowFirst, rowSecond, rowRecord, rowBytes, processBytes, rowsBytes, processesBytes}
 use Rattle.image_write.proofs.Going.{Splits, Going, start, room, goes, last}
 
 pub first-length : (r : Row) → length (rowFirst r) ≡ 7
@@ -36,7 +37,7 @@ pub row-parts : (r : Row) → rowBytes r ≡ rowFirst r ++ (rowSecond r ++ rowRe
 unfolding rowBytes rowFirst rowSecond rowRecord rowCodec via seq num
 row-parts r = simp append-assoc
 
-pub row-length : (r : Row) → length (rowBytes r) ≡ 28
+pub row-length : (r : Row) → length (rowBytes r) ≡ rowLength
 unfolding rowBytes rowCodec via seq num
 row-length r = simp (length-append, length-digits)
 
@@ -44,11 +45,11 @@ pub process-length : (p : Process) → length (processBytes p) ≡ 10
 unfolding processBytes processCodec via seq num
 process-length p = simp (length-append, length-digits)
 
-pub rows-length : (rows : List Row) → length (rowsBytes rows) ≡ 28 * length rows
+pub rows-length : (rows : List Row) → length (rowsBytes rows) ≡ rowLength * length rows
 unfolding rowsBytes rowBytes
-rows-length rows = uniform-length (rowCodec 0) 28 row-length rows
+rows-length rows = uniform-length (rowCodec 0) rowLength row-length rows
 
-pub processes-length : (ps : List Process) → length (processesBytes ps) ≡ 10 * length ps
+pub processes-length : (ps : List Process) → length (processesBytes ps) ≡ processLength * length ps
 unfolding processesBytes processBytes
 processes-length ps = uniform-length (processCodec [] 0) 10 process-length ps
 
@@ -56,8 +57,8 @@ pub rows-cons : (r : Row) (rows : List Row) → rowsBytes (r ∷ rows) ≡ rowBy
 unfolding rowsBytes rowBytes encMany
 rows-cons r rows = refl
 
-pub rows-size : (rows : List Row) (n : ℕ) → n ≤ length rows → length (rowsBytes (take n rows)) ≡ 28 * n
-rows-size rows n h = rows-length (take n rows) ∙ ap (λ (k : ℕ). 28 * k) (length-take-le n rows h)
+pub rows-size : (rows : List Row) (n : ℕ) → n ≤ length rows → length (rowsBytes (take n rows)) ≡ rowLength * n
+rows-size rows n h = rows-length (take n rows) ∙ ap (λ (k : ℕ). rowLength * k) (length-take-le n rows h)
 
 processes-cons : (p : Process) (ps : List Process) → processesBytes (p ∷ ps) ≡ processBytes p ++ processesBytes ps
 unfolding processesBytes processBytes encMany
@@ -81,9 +82,6 @@ from-length psw t [] = refl
 from-length psw t (q ∷ qs) =
     let n = from-length psw (suc t) qs in
     simp (length-append, in-length, n)
-
-abbrev pub noRow : Row
-noRow = record { task = 0; cb = 0; rb = 0; rl = 0; pb = 0; pl = 0; db = 0; dl = 0; kind = 0; psw = 0 }
 
 -- ---- how the bytes go on
 
@@ -113,8 +111,8 @@ module _ (psw : List ℕ) (t : ℕ) where
   unfolding ring processesIn processesBytes encMany
   ring-none a h n e = ap (ringBytes a h) e
 
-  pub queue-length : (q : Queue) → length (processesBytes (processesIn psw t (listOf q))) ≡ 10 * q .len
-  queue-length q = processes-length (processesIn psw t (listOf q)) ∙ ap (λ (n : ℕ). 10 * n) (in-length psw t (listOf q) ∙ length-list q)
+  pub queue-length : (q : Queue) → length (processesBytes (processesIn psw t (listOf q))) ≡ processLength * q .len
+  queue-length q = processes-length (processesIn psw t (listOf q)) ∙ ap (λ (n : ℕ). processLength * n) (in-length psw t (listOf q) ∙ length-list q)
 
   -- the processes of the queues from the kth on
   pub queues-next : (qs : List Queue) (k : ℕ) → k < length qs
@@ -138,29 +136,29 @@ module _ (psw : List ℕ) (t : ℕ) where
 
 module _ {at : ℕ} {all l₀ l : List ℕ} {p : ℕ} where
   module _ (rows : List Row) (n i : ℕ) (z : Going at all l₀ l p (rowsBytes (drop i (take n rows)))) (h : i < n) (k : i < length rows) where
-    pub rows-room : p + 28 ≤ length l
+    pub rows-room : p + rowLength ≤ length l
     rows-room =
-        let f : p + length (rowBytes (getD rows i noRow)) ≤ length l = room at all l₀ z (rows-next rows n i noRow h k) in
-        omega (arith, row-length (getD rows i noRow))
+        let f : p + length (rowBytes (getD rows i emptyRow)) ≤ length l = room at all l₀ z (rows-next rows n i emptyRow h k) in
+        omega (arith, row-length (getD rows i emptyRow))
 
-    pub rows-goes : {l₁ : List ℕ} → l₁ ≡ putAt p (rowBytes (getD rows i noRow)) l → Going at all l₀ l₁ (p + 28) (rowsBytes (drop (i + 1) (take n rows)))
-    rows-goes e = goes at all l₀ z (rows-next rows n i noRow h k) (ap (λ (n : ℕ). p + n) (sym (row-length (getD rows i noRow)))) e
+    pub rows-goes : (d : Row) {l₁ : List ℕ} → l₁ ≡ putAt p (rowBytes (getD rows i d)) l → Going at all l₀ l₁ (p + rowLength) (rowsBytes (drop (i + 1) (take n rows)))
+    rows-goes d e = goes at all l₀ z (rows-next rows n i d h k) (ap (λ (n : ℕ). p + n) (sym (row-length (getD rows i d)))) e
 
   module _ (psw : List ℕ) (t : ℕ) (a : List ℕ) (h n : ℕ) (z : Going at all l₀ l p (ringBytes psw t a h n)) (k : h < 64) (m : 0 < n) where
-    pub ring-room : p + 10 ≤ length l
+    pub ring-room : p + processLength ≤ length l
     ring-room =
         let x = toProcess (getD a h 0, (t, getD psw (getD a h 0) 0)) in
         let f : p + length (processBytes x) ≤ length l = room at all l₀ z (ring-next psw t a h n k m) in
         omega (arith, process-length x)
 
     pub ring-goes : {l₁ : List ℕ} (w : ℕ) → w ≡ getD psw (getD a h 0) 0 → l₁ ≡ putAt p (processBytes (toProcess (getD a h 0, (t, w)))) l
-        → Going at all l₀ l₁ (p + 10) (ringBytes psw t a ((h + 1) % 64) (n - 1))
+        → Going at all l₀ l₁ (p + processLength) (ringBytes psw t a ((h + 1) % 64) (n - 1))
     ring-goes w f e =
         goes at all l₀ z (ring-next psw t a h n k m) (ap (λ (n : ℕ). p + n) (sym (process-length (toProcess (getD a h 0, (t, getD psw (getD a h 0) 0))))))
         (e ∙ ap (λ (w : ℕ). putAt p (processBytes (toProcess (getD a h 0, (t, w)))) l) f)
 
   module _ (psw : List ℕ) (t : ℕ) (qs : List Queue) (k : ℕ) (z : Going at all l₀ l p (processesBytes (processesFrom psw t (drop k qs)))) (h : k < length qs) where
-    pub queues-room : p + 10 * getD qs k noQueue .len ≤ length l
+    pub queues-room : p + processLength * getD qs k noQueue .len ≤ length l
     queues-room =
         let f : p + length (processesBytes (processesIn psw t (listOf (getD qs k noQueue)))) ≤ length l = room at all l₀ z (queues-next psw t qs k h) in
         omega (arith, queue-length psw t (getD qs k noQueue))
@@ -171,7 +169,7 @@ module _ {at : ℕ} {all l₀ l : List ℕ} {p : ℕ} where
 
 -- ---- a row in its three parts
 
-pub row-put : (at : ℕ) (r : Row) (l₀ : List ℕ) {l₁ l₂ l₃ : List ℕ} → at + 28 ≤ length l₀ → l₁ ≡ putAt at (rowFirst r) l₀ → l₂ ≡ putAt (at + 7) (rowSecond r) l₁
+pub row-put : (at : ℕ) (r : Row) (l₀ : List ℕ) {l₁ l₂ l₃ : List ℕ} → at + rowLength ≤ length l₀ → l₁ ≡ putAt at (rowFirst r) l₀ → l₂ ≡ putAt (at + 7) (rowSecond r) l₁
     → l₃ ≡ putAt (at + 19) (rowRecord r) l₂ → l₃ ≡ putAt at (rowBytes r) l₀
 row-put at r l₀ h e₁ e₂ e₃ =
     let f : at + length (rowBytes r) ≤ length l₀ = rw row-length h in

@@ -13,12 +13,12 @@ use Rattle.window.specs.declared.Row.{Row}
 use Rattle.step.specs.declared.Queue.{Queue}
 use Rattle.step.specs.Queues.{livePts}
 use Rattle.image.specs.Codec.{digits}
-use Rattle.image.specs.Image.{processesFrom}
+use Rattle.image.specs.Image.{processesFrom, rowLength, processLength}
 use Rattle.image.specs.Laws.Numbers.{length-digits}
-use Rattle.image_words.specs.Writing.{laid, putAt, wordBytes, cellBytes, putCells}
-use Rattle.image_words.specs.Laws.Bytes.{word-bytes-length, cell-bytes-length}
-use Rattle.image_words.specs.Laws.Laid.{length-laid}
-use Rattle.image_write.specs.Bytes.{rowsBytes, processesBytes, tasksSection, processesSection, wordsSection, cellsSection}
+use Rattle.image_bytes.specs.Code.Writing.{laid, putAt, wordBytes, cellBytes, putCells}
+use Rattle.image_bytes.specs.Laws.Bytes.{word-bytes-length, cell-bytes-length}
+use Rattle.image_bytes.specs.Laws.Laid.{length-laid}
+use Rattle.image_write.specs.Code.Bytes.{rowsBytes, processesBytes, tasksSection, processesSection, wordsSection, cellsSection}
 use Rattle.image_write.proofs.Going.{start, goes, last}
 use Rattle.image_write.proofs.Parts.{rows-size, processes-length, from-length}
 
@@ -41,11 +41,11 @@ counted at w v body l₀ h e e₁ e₂ =
 -- ---- tasks
 
 module _ (rows : List Row) (n : ℕ) (h : n ≤ length rows) where
-  pub tasks-size : length (tasksSection (take n rows)) ≡ 1 + 28 * n
+  pub tasks-size : length (tasksSection (take n rows)) ≡ 1 + rowLength * n
   unfolding tasksSection
   tasks-size = simp (length-append, length-digits, rows-size rows n h)
 
-  pub tasks-put : (l₀ : List ℕ) {l₁ l₂ : List ℕ} → 1 + 28 * n ≤ length l₀ → l₁ ≡ putAt 0 (digits 1 n) l₀ → l₂ ≡ putAt 1 (rowsBytes (take n rows)) l₁
+  pub tasks-put : (l₀ : List ℕ) {l₁ l₂ : List ℕ} → 1 + rowLength * n ≤ length l₀ → l₁ ≡ putAt 0 (digits 1 n) l₀ → l₂ ≡ putAt 1 (rowsBytes (take n rows)) l₁
       → l₂ ≡ putAt 0 (tasksSection (take n rows)) l₀
   unfolding tasksSection
   tasks-put l₀ f e₁ e₂ =
@@ -58,21 +58,21 @@ module _ (psw : List ℕ) (flag : ℕ) (qs : List Queue) (m : ℕ) (h : m ≡ le
   count : length (processesFrom psw 1 qs) ≡ m
   count = from-length psw 1 qs ∙ sym h
 
-  body : length (processesBytes (processesFrom psw 1 qs)) ≡ 10 * m
-  body = processes-length (processesFrom psw 1 qs) ∙ ap (λ (k : ℕ). 10 * k) count
+  body : length (processesBytes (processesFrom psw 1 qs)) ≡ processLength * m
+  body = processes-length (processesFrom psw 1 qs) ∙ ap (λ (k : ℕ). processLength * k) count
 
-  pub processes-size : length (processesSection flag (processesFrom psw 1 qs)) ≡ 2 + 10 * m
+  pub processes-size : length (processesSection flag (processesFrom psw 1 qs)) ≡ 2 + processLength * m
   unfolding processesSection
   processes-size = simp (length-append, length-digits, body) (omega arith)
 
-  pub processes-put : (at : ℕ) (l₀ : List ℕ) {l₁ l₂ l₃ : List ℕ} → at + (2 + 10 * m) ≤ length l₀ → l₁ ≡ putAt at (digits 1 m) l₀
+  pub processes-put : (at : ℕ) (l₀ : List ℕ) {l₁ l₂ l₃ : List ℕ} → at + (2 + processLength * m) ≤ length l₀ → l₁ ≡ putAt at (digits 1 m) l₀
       → l₂ ≡ putAt (at + 1) (digits 1 flag) l₁ → l₃ ≡ putAt (at + 2) (processesBytes (processesFrom psw 1 qs)) l₂
       → l₃ ≡ putAt at (processesSection flag (processesFrom psw 1 qs)) l₀
   unfolding processesSection
   processes-put at l₀ {l₁} f e₁ e₂ e₃ =
       let ps = processesBytes (processesFrom psw 1 qs) in
       let n : length l₁ ≡ length l₀ = ap length e₁ ∙ put-length at (digits 1 m) l₀ in
-      let k : length (digits 1 flag ++ ps) ≡ 1 + 10 * m = simp (length-append, length-digits, body) in
+      let k : length (digits 1 flag ++ ps) ≡ 1 + processLength * m = simp (length-append, length-digits, body) in
       rw count
       (counted at 1 m (digits 1 flag ++ ps) l₀ (omega arith) refl e₁
       (counted (at + 1) 1 flag ps l₁ (omega (arith, body)) (omega arith) e₂ e₃))

@@ -9,9 +9,9 @@ use Rattle.step.specs.State.{State}
 use Rattle.image.specs.declared.Process.{Process}
 use Rattle.image.specs.Codec.{Codec, digits, num, count, seq, via, encMany, section, noHeader, listSection, noState, uniformSection}
 use Rattle.image.specs.Image.{rowCodec, rowTask, tasksCodec, processCodec, processTask, processesCodec, processesFrom, wordsCodec, cellsCodec, cellsOf, imageCodec, imageOf, encode}
-use Rattle.image_words.specs.Writing.{wordBytes}
-use Rattle.image_words.specs.Laws.Bytes.{cells-length, cell-bytes}
-use Rattle.image_write.specs.Bytes.{rowsBytes, processesBytes, tasksSection, processesSection, wordsSection, cellsSection, imageBytes}
+use Rattle.image_bytes.specs.Code.Writing.{wordBytes}
+use Rattle.image_bytes.specs.Laws.Bytes.{cells-length, cell-bytes}
+use Rattle.image_write.specs.Code.Bytes.{rowsBytes, processesBytes, tasksSection, processesSection, wordsSection, cellsSection, imageBytes}
 
 -- values are written alike whatever stands before them
 alike : {S A : Type 0} (c : S → Codec A) (next : S → A → S) (d : Codec A) → ((s : S) (a : A) → c s .enc a ≡ d .enc a) → (s : S) (xs : List A)

@@ -1,4 +1,14 @@
 -- The checks of a step in their order, on the state before the step. A definition stands below those that it uses, so check 1 stands last.
+--
+-- check                                          definition                                ending
+-- 1 PC outside the program window                decideFetched                             trap 14
+-- 2 the code; AC, SAC, DAC, unused fields        decideCode; Roles.illegalInstruction      trap 16, 1C, 12; 12
+-- 3 SVC                                          decideCode                                trap 1A
+-- 4 a constant as destination, outside a window  decideLookups                             trap 14
+-- 5 an access test unmet                         operandsWait                              waved
+-- 6 UTM bit q set, q the quality of a source     operandsMasked                            trap 1E
+-- 7 the data address; the data state             Perform.wordPlace; loadWaits, storeWaits  trap 14, 1C; waved
+-- 8 a true CREATE with the flag up               Perform.createWaits                       waved
 use Prim.Native.Nat.{ℕ}
 use mathlib.Core.Bool.{Bool, cond, _||_}
 use Rattle.word.specs.Fields.{pcOf, nextOf, instructionOf}

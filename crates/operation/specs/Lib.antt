@@ -3,6 +3,6 @@ pub mod Roles
 pub mod Environment
 pub mod Perform
 pub mod Decide
-pub mod FoundOperands
 pub mod Exclusions
+pub mod Code
 pub mod Laws

@@ -15,7 +15,7 @@ use Rattle.window.specs.declared.Place.the-variants.{At, Violation}
 use Rattle.window.specs.declared.Write.{Write}
 use Rattle.window.specs.declared.Write.the-variants.{Nothing, Put}
 use Rattle.window.specs.Windows.{bytePlace}
-use Rattle.window.specs.Memories.{cell}
+use Rattle.window.specs.Memories.{cell, emptyData, fullData}
 use Rattle.operand.specs.Access.{sourceLeft, destinationLeft}
 use Rattle.operation.specs.declared.Operation.{Operation}
 use Rattle.operation.specs.declared.Operation.the-variants as operation
@@ -32,6 +32,22 @@ use Rattle.operation.specs.declared.Decision.the-variants.{Waits, Traps,
 use Rattle.operation.specs.Roles.{bOf, sacOf, dacOf}
 use Rattle.operation.specs.Environment.{Environment}
 
+-- the operands by their names: D or S0 stands in the first field, S1 in the second, S2 in the third
+abbrev pub fieldD : FoundOperands → FoundOperand
+fieldD s = s .first
+
+abbrev pub wordS0 : FoundOperands → ℕ
+wordS0 s = s .first .cell .word
+
+abbrev pub wordS1 : FoundOperands → ℕ
+wordS1 s = s .second .cell .word
+
+abbrev pub wordS2 : FoundOperands → ℕ
+wordS2 s = s .third .cell .word
+
+abbrev pub tagS2 : FoundOperands → ℕ
+tagS2 s = s .third .cell .tag
+
 -- what a field is left with as a source
 unfoldable pub leftOf : FoundOperand → Write
 leftOf s = sourceLeft (s .role) (s .access) (s .operand) (s .cell)
@@ -41,7 +57,7 @@ unfoldable pub executed : FoundOperands → (destination datum : Write) → Fate
 executed s destination datum fate =
     Executes (record { first = leftOf (s .first); second = leftOf (s .second); third = leftOf (s .third); destination = destination; datum = datum; fate = fate })
 
--- the first field as a destination that gets a result
+-- D gets a result
 unfoldable pub resultIn : FoundOperand → Outcome → Write
 resultIn s r = destinationLeft (s .access) (s .operand) (r .word) (r .quality)
 
@@ -51,11 +67,11 @@ quality0 w = record { word = w; quality = 0 }
 
 -- an operation that ends with PC + 1
 unfoldable pub performResult : Environment → FoundOperands → Outcome → Decision
-performResult v s r = executed s (resultIn (s .first) r) Nothing (Continues (nextOf (v .psw)))
+performResult v s r = executed s (resultIn (fieldD s) r) Nothing (Continues (nextOf (v .psw)))
 
--- test C on S2, the third field, and the running PSW
+-- test C on S2 and the running PSW
 unfoldable pub testOf : Environment → FoundOperands → (c : ℕ) → Bool
-testOf v s c = holdsOf c (s .third .cell .word) (s .third .cell .tag) (v .psw)
+testOf v s c = holdsOf c (wordS2 s) (tagS2 s) (v .psw)
 
 -- B: PC = P, then CI, RI, UTM and PC each get S1's field added
 unfoldable pub branched : (psw p s1 : ℕ) → ℕ
@@ -63,7 +79,7 @@ branched psw p s1 = pswOf (ciOf psw + ciOf s1) (riOf psw + riOf s1) (utmOf psw +
 
 unfoldable pub performBranch : Environment → FoundOperands → (c p : ℕ) → Decision
 performBranch v s c p =
-    executed s Nothing Nothing (Continues (cond (testOf v s c) (branched (v .psw) p (s .second .cell .word)) (nextOf (v .psw))))
+    executed s Nothing Nothing (Continues (cond (testOf v s c) (branched (v .psw) p (wordS1 s)) (nextOf (v .psw))))
 
 -- CALL: D gets the PSW with PC + 1, whatever the test says; on a true test PC comes from S1
 unfoldable pub called : (psw s1 : ℕ) → ℕ
@@ -71,8 +87,8 @@ called psw s1 = pswOf (ciOf psw) (riOf psw) (utmOf psw) (pcOf s1)
 
 unfoldable pub performCall : Environment → FoundOperands → (c : ℕ) → Decision
 performCall v s c =
-    executed s (resultIn (s .first) (quality0 (nextOf (v .psw)))) Nothing
-    (Continues (cond (testOf v s c) (called (v .psw) (s .second .cell .word)) (nextOf (v .psw))))
+    executed s (resultIn (fieldD s) (quality0 (nextOf (v .psw)))) Nothing
+    (Continues (cond (testOf v s c) (called (v .psw) (wordS1 s)) (nextOf (v .psw))))
 
 -- CREATE: the creator's PSW at PC + 1, where ACT bits 8, 4, 2, 1 take CI, RI, UTM, PC from S1
 abbrev pub taken : (act bit : ℕ) → (field creator : ℕ) → ℕ
@@ -93,7 +109,7 @@ createFate holds act psw s1 = cond holds (Creates (nextOf psw) (created act psw 
 unfoldable pub performCreate : Environment → FoundOperands → (c act : ℕ) → Decision
 performCreate v s c act =
     cond (createWaits (testOf v s c) (v .flag)) (Waits Create)
-    (executed s Nothing Nothing (createFate (testOf v s c) act (v .psw) (s .second .cell .word)))
+    (executed s Nothing Nothing (createFate (testOf v s c) act (v .psw) (wordS1 s)))
 
 -- QT: on a true test the process leaves
 unfoldable pub performQuit : Environment → FoundOperands → (c : ℕ) → Decision
@@ -101,34 +117,34 @@ performQuit v s c = executed s Nothing Nothing (cond (testOf v s c) Quits (Conti
 
 -- the byte address: the low 32 bits of S1, for the X forms plus S2 modulo 2^32
 unfoldable pub indirectAddress : FoundOperands → ℕ
-indirectAddress s = s .second .cell .word % 2 ^ 32
+indirectAddress s = wordS1 s % 2 ^ 32
 
 unfoldable pub indexedAddress : FoundOperands → ℕ
-indexedAddress s = (s .second .cell .word + s .third .cell .word) % 2 ^ 32
+indexedAddress s = (wordS1 s + wordS2 s) % 2 ^ 32
 
 -- the data state of a load is unmet: SAC 1 and 2 wait until full
 unfoldable pub loadWaits : (low state : ℕ) → Bool
-loadWaits low state = not (eqb (sacOf low) 0) && eqb state 0
+loadWaits low state = not (eqb (sacOf low) 0) && eqb state emptyData
 
 -- the data word that a load leaves: SAC 2 sets it empty
 unfoldable pub loadLeaves : (low a word : ℕ) → Write
-loadLeaves low a word = cond (eqb (sacOf low) 2) (Put a (cell 0 word)) Nothing
+loadLeaves low a word = cond (eqb (sacOf low) 2) (Put a (cell emptyData word)) Nothing
 
 -- the load of the data word k at the real word address a
 unfoldable pub loadWord : (psw : ℕ) → FoundOperands → (low a : ℕ) → (k : Cell) → Decision
 loadWord psw s low a k =
     cond (loadWaits low (k .tag)) (Waits Data)
-    (executed s (resultIn (s .first) (quality0 (k .word))) (loadLeaves low a (k .word)) (Continues (nextOf psw)))
+    (executed s (resultIn (fieldD s) (quality0 (k .word))) (loadLeaves low a (k .word)) (Continues (nextOf psw)))
 
 -- the data state of a store is unmet: DAC 2 waits until empty
 unfoldable pub storeWaits : (low state : ℕ) → Bool
-storeWaits low state = eqb (dacOf low) 2 && not (eqb state 0)
+storeWaits low state = eqb (dacOf low) 2 && not (eqb state emptyData)
 
 -- the store of a word over the data word k; a store leaves full
 unfoldable pub storeWord : (psw : ℕ) → FoundOperands → (low word a : ℕ) → (k : Cell) → Decision
 storeWord psw s low word a k =
     cond (storeWaits low (k .tag)) (Waits Data)
-    (executed s Nothing (Put a (cell 1 word)) (Continues (nextOf psw)))
+    (executed s Nothing (Put a (cell fullData word)) (Continues (nextOf psw)))
 
 -- check 7 of the byte address e, by its place: a protection violation is 14; then B = 1, or low three address bits not zero, gives 1C;
 -- else the word at its real address
@@ -150,16 +166,17 @@ storeTo v s low word (Stops k) = Traps k (v .psw)
 unfoldable pub performStore : Environment → FoundOperands → (low word e : ℕ) → Decision
 performStore v s low word e = storeTo v s low word (wordPlace low e (bytePlace (v .row) e))
 
+-- what each operation does with D, S0, S1 and S2
 unfoldable pub perform : Operation → Environment → Instruction → FoundOperands → Decision
 perform operation.Nop v i s = executed s Nothing Nothing (Continues (nextOf (v .psw)))
-perform (operation.Vector op) v i s = performResult v s (quality0 (vectorOf op (s .second .cell .word) (s .third .cell .word)))
-perform (operation.Bit op) v i s = performResult v s (quality0 (bitOf op (s .second .cell .word) (s .third .cell .word)))
-perform (operation.Integer op) v i s = performResult v s (integerOf op (s .second .cell .word) (s .third .cell .word))
+perform (operation.Vector op) v i s = performResult v s (quality0 (vectorOf op (wordS1 s) (wordS2 s)))
+perform (operation.Bit op) v i s = performResult v s (quality0 (bitOf op (wordS1 s) (wordS2 s)))
+perform (operation.Integer op) v i s = performResult v s (integerOf op (wordS1 s) (wordS2 s))
 perform (operation.Branch c p) v i s = performBranch v s c (p * 2 ^ 16 + i .first)
 perform (operation.Call c) v i s = performCall v s c
 perform (operation.Create c act) v i s = performCreate v s c act
 perform (operation.Quit c) v i s = performQuit v s c
 perform (operation.LoadIndirect low) v i s = performLoad v s low (indirectAddress s)
 perform (operation.LoadIndexed low) v i s = performLoad v s low (indexedAddress s)
-perform (operation.StoreIndirect low) v i s = performStore v s low (s .third .cell .word) (indirectAddress s)
-perform (operation.StoreIndexed low) v i s = performStore v s low (s .first .cell .word) (indexedAddress s)
+perform (operation.StoreIndirect low) v i s = performStore v s low (wordS2 s) (indirectAddress s)
+perform (operation.StoreIndexed low) v i s = performStore v s low (wordS0 s) (indexedAddress s)

@@ -1,4 +1,6 @@
 // Operations: what a code stands for, the checks of an instruction, and what it decides.
+ghost use mathlib.Core.Path.{_≡_};
+ghost use Rattle.operation.specs.Environment.{kindOf};
 use operand::Operand;
 use operand::Role;
 use window::Cell;
@@ -113,4 +115,19 @@ pub enum Course {
     SupervisorCall,
     SimulatedInstruction,
     DataException,
+}
+
+// The trap kind as document 01 numbers it.
+pub fn kind(k: Trap) -> u8
+    ensures { λ r. ⌜ r ≡ kindOf k ⌝ }
+{
+    match k {
+        Trap::CreateFault => 0x00,
+        Trap::IllegalInstruction => 0x12,
+        Trap::ProtectionViolation => 0x14,
+        Trap::PrivilegedInstruction => 0x16,
+        Trap::SupervisorCall => 0x1A,
+        Trap::SimulatedInstruction => 0x1C,
+        Trap::DataException => 0x1E,
+    }
 }

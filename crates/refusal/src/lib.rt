@@ -1,4 +1,6 @@
 // Why a call is refused. One enum for all calls, so that each number stands in one definition.
+ghost use mathlib.Core.Path.{_≡_};
+ghost use Rattle.refusal.specs.Numbers.{numberOf};
 
 // Why a call is refused; a field of an image is told apart by its section.
 pub enum Refusal {
@@ -15,4 +17,25 @@ pub enum Refusal {
     ListTooLong,
     ItemOutOfRange,
     InputTooLong,
+}
+
+// Document 01's number of a refusal.
+pub fn number(e: Refusal) -> u8
+    ensures { λ r. ⌜ r ≡ numberOf e ⌝ }
+{
+    match e {
+        Refusal::InputEnds => 1,
+        Refusal::CountOverLimit => 2,
+        Refusal::TaskField => 3,
+        Refusal::ProcessField => 3,
+        Refusal::CellField => 3,
+        Refusal::BytesLeftOver => 4,
+        Refusal::WindowPastMemory => 5,
+        Refusal::ProcessesClash => 6,
+        Refusal::ShortBuffer => 7,
+        Refusal::UnsoundState => 8,
+        Refusal::ListTooLong => 9,
+        Refusal::ItemOutOfRange => 10,
+        Refusal::InputTooLong => 11,
+    }
 }

@@ -1,15 +1,20 @@
--- Demand 3 at work: task 1 beside two different neighbours, from image bytes on. In image A it is task 2, which fills its registers; in
--- image B it is task 3, which creates a process, lets one leave and traps. Task 1 counts a register up, doubles it and creates.
+-- Demand 3 at work: task 1 beside two different neighbours, from image bytes on. Task 1 counts a register up, adds a constant, stores the sum,
+-- creates a process and loads the sum again; the process that it created waits. In image A its neighbour is task 2, which fills its registers
+-- and its first data word; in image B it is task 3, which creates a process, stores and loads a constant, leaves, and traps.
 use mathlib.Core.Path.{_≡_, refl}
 use mathlib.Core.List.{List, [], _∷_, _++_}
-use Prim.Native.Nat.{ℕ, _-_, _^_}
-use lib.ListN.{getD, replicate}
+use mathlib.Core.Option.{some}
+use Prim.Native.Nat.{ℕ, _+_, _-_, _*_, _^_}
+use lib.ListN.{replicate}
 use Rattle.window.specs.declared.Row.{Row}
-use Rattle.window.specs.Memories.{cell}
+use Rattle.window.specs.Memories.{cell, cellAt}
 use Rattle.window.specs.Windows.{registerWindow}
 use Rattle.operation.specs.Exclusions.{instructionWord}
-use Rattle.step.specs.State.{State}
-use Rattle.run.specs.Run.{run}
+use Rattle.operation.specs.declared.Trap.the-variants.{PrivilegedInstruction}
+use Rattle.step.specs.State.{processesOf}
+use Rattle.step.specs.Owned.{owner, own}
+use Rattle.step.specs.Act.{trappedRow}
+use Rattle.run.specs.Run.{counts, Ran, run}
 use Rattle.run.specs.Compared.{Compared, cut}
 use Rattle.run.specs.Laws.AloneTest.{alone-of}
 use Rattle.image.specs.declared.Process.{Process}
@@ -20,54 +25,77 @@ use Rattle.report.specs.Laws.Agreeing.{compared-at, program-at, bytes-of
 
 -- ---- the two images by their fields
 
--- a task with two registers and sixteen program words, those from 2 * place and 16 * place on, and no data
+-- a task with four registers, sixteen program words and 32 data words, those from 4 * place, 16 * place and 32 * place on
 unfoldable pub instanceRow : (task place : ℕ) → Row
-instanceRow task place = record { task = task; cb = 0; rb = place; rl = place; pb = place; pl = place; db = 1; dl = 0; kind = 255; psw = 0 }
+instanceRow task place = record {
+  task = task;
+  cb = 0;
+  rb = place * 2;
+  rl = place * 2 + 1;
+  pb = place;
+  pl = place;
+  db = place;
+  dl = place;
+  kind = 255;
+  psw = 0;
+}
 
 -- a process at PC 0
 unfoldable pub processOf : (pt task : ℕ) → Process
 processOf pt task = record { pt = pt; task = task; psw = 0 }
 
--- sixteen program words, the last of them NOPs
-unfoldable pub doubling : List ℕ
-doubling =
+-- sixteen program words each, the others of them NOPs; register 2 has the address of the first data word
+unfoldable pub adding : List ℕ
+adding =
     -- INC register 0
     instructionWord 0x6130 0 0 0 ∷
-    -- ADD register 0 to itself, into register 1
-    instructionWord 0x7126 1 0 0 ∷
+    -- ADD register 0 and constant 0, into register 1
+    instructionWord 0x7126 1 0 0x4000 ∷
+    -- STOI register 1, once the data word is empty
+    instructionWord 0xBC02 0 2 1 ∷
     -- CREATE always
     instructionWord 0x3970 0 0x4000 0x4000 ∷
-    -- INC register 0
-    instructionWord 0x6130 0 0 0 ∷
-    replicate 12 0
+    -- LODI into register 3, once the data word is full, and set it empty
+    instructionWord 0x6C08 3 2 0 ∷
+    replicate 11 0
 
 unfoldable pub filling : List ℕ
 filling =
     -- ONE into register 0
     instructionWord 0x4113 0 0 0 ∷
-    -- MOV register 0 to register 1
-    instructionWord 0x611F 1 0 0 ∷
-    replicate 14 0
+    -- STOI register 0
+    instructionWord 0xBC00 0 2 0 ∷
+    -- LODI into register 1
+    instructionWord 0x6C00 1 2 0 ∷
+    replicate 13 0
 
 unfoldable pub creating : List ℕ
 creating =
-    -- CREATE always
-    instructionWord 0x3970 0 0x4000 0x4000 ∷
+    -- CREATE always, at the PC that constant 1 has
+    instructionWord 0x3971 0 0x4001 0x4000 ∷
+    -- STOI constant 0
+    instructionWord 0xBC00 0 2 0x4000 ∷
+    -- LODI into register 1
+    instructionWord 0x6C00 1 2 0 ∷
     -- QT always
     instructionWord 0x1970 0 0 0x4000 ∷
+    replicate 4 0
     -- a privileged code
-    instructionWord 0x8701 0 0 0 ∷
-    replicate 13 0
+    ++ (instructionWord 0x8701 0 0 0 ∷ replicate 7 0)
+
+-- the constants of both images
+unfoldable pub constants : List ℕ
+constants = 100 ∷ 5 ∷ []
 
 unfoldable pub imageA : Image
 imageA = record {
   rows = instanceRow 1 0 ∷ instanceRow 2 1 ∷ [];
   flag = 0;
   processes = processOf 5 1 ∷ processOf 0 2 ∷ processOf 1 2 ∷ [];
-  constants = [];
-  registers = cell 0 41 ∷ cell 0 7 ∷ cell 0 1 ∷ cell 0 2 ∷ [];
-  program = doubling ++ filling;
-  dataWords = [];
+  constants = constants;
+  registers = cell 0 41 ∷ cell 0 7 ∷ cell 0 0 ∷ cell 0 0 ∷ cell 0 1 ∷ cell 0 2 ∷ cell 0 0 ∷ cell 0 0 ∷ [];
+  program = adding ++ filling;
+  dataWords = replicate 32 (cell 0 0) ++ replicate 32 (cell 1 3);
 }
 
 unfoldable pub imageB : Image
@@ -75,11 +103,11 @@ imageB = record {
   rows = instanceRow 1 0 ∷ instanceRow 3 1 ∷ [];
   flag = 0;
   processes = processOf 9 1 ∷ processOf 3 3 ∷ [];
-  constants = [];
+  constants = constants;
   -- the neighbour's first register has quality 4, its second is empty
-  registers = cell 0 41 ∷ cell 0 7 ∷ cell 4 100 ∷ cell 8 200 ∷ [];
-  program = doubling ++ creating;
-  dataWords = [];
+  registers = cell 0 41 ∷ cell 0 7 ∷ cell 0 0 ∷ cell 0 0 ∷ cell 4 300 ∷ cell 8 200 ∷ cell 0 0 ∷ cell 0 0 ∷ [];
+  program = adding ++ creating;
+  dataWords = replicate 64 (cell 0 0);
 }
 
 unfoldable pub bytesA : List ℕ
@@ -88,15 +116,16 @@ bytesA = imageCodec .enc imageA
 unfoldable pub bytesB : List ℕ
 bytesB = imageCodec .enc imageB
 
+-- seven items of task 1 in each
 unfoldable pub scheduleA : List ℕ
-scheduleA = 2 ∷ 1 ∷ 2 ∷ 1 ∷ 2 ∷ 1 ∷ 1 ∷ 1 ∷ []
+scheduleA = 2 ∷ 1 ∷ 2 ∷ 1 ∷ 2 ∷ 2 ∷ 1 ∷ 1 ∷ 1 ∷ 2 ∷ 1 ∷ 2 ∷ 1 ∷ []
 
 unfoldable pub scheduleB : List ℕ
-scheduleB = 1 ∷ 3 ∷ 3 ∷ 1 ∷ 1 ∷ 3 ∷ 1 ∷ 3 ∷ 1 ∷ 3 ∷ []
+scheduleB = 1 ∷ 3 ∷ 3 ∷ 1 ∷ 1 ∷ 3 ∷ 3 ∷ 3 ∷ 3 ∷ 1 ∷ 3 ∷ 1 ∷ 3 ∷ 3 ∷ 1 ∷ 1 ∷ []
 
 -- naming this opens the two images
 unfoldable pub images : ℕ
-unfolding opened instanceRow processOf doubling filling creating imageA imageB bytesA bytesB scheduleA scheduleB instructionWord
+unfolding opened instanceRow processOf adding filling creating constants imageA imageB bytesA bytesB scheduleA scheduleB instructionWord
 images = 0
 
 -- ---- the two runs
@@ -120,22 +149,43 @@ agreed = record {
   alone′ = alone-of 1 (stateOf imageB) refl;
 }
 
--- the states after the two runs
-unfoldable pub afterA : State
-afterA = run scheduleA (stateOf imageA) .state
+-- the two runs, and the states after them
+unfoldable pub ranA : Ran
+ranA = run scheduleA (stateOf imageA)
 
-unfoldable pub afterB : State
-afterB = run scheduleB (stateOf imageB) .state
+unfoldable pub ranB : Ran
+ranB = run scheduleB (stateOf imageB)
 
 pub record Instance : Type 0 where
   -- by demand 3
-  pub equal : Compared 1 afterA afterB
-  -- task 1 did something: its registers were 41 and 7
-  pub counted : cut (registerWindow (instanceRow 1 0)) (afterA .registers .words) ≡ 44 ∷ 84 ∷ []
-  -- and so did its neighbours, whose registers now differ
-  pub neighbourA : getD (afterA .registers .words) 2 0 ≡ 2 ^ 64 - 1
-  pub neighbourB : getD (afterB .registers .words) 2 0 ≡ 100
+  pub equal : Compared 1 (ranA .state) (ranB .state)
+  -- task 1 counted 41 up, added 100, stored the sum, loaded it again and set the data word empty
+  pub registers : cut (registerWindow (instanceRow 1 0)) (ranA .state .registers .words) ≡ 42 ∷ 142 ∷ 0 ∷ 142 ∷ []
+  pub datum : cellAt (ranA .state .dataWords) 0 ≡ cell 0 142
+  -- the process that it created waits at the LODI; the creator is two instructions further
+  pub processes : processesOf (ranA .state .table) 1 ≡ 4 ∷ 6 ∷ []
+  pub countsA : ranA .counts ≡ counts 12 1 0 0
+  -- task 2 filled two registers and its first data word
+  pub registersA : cut (registerWindow (instanceRow 2 1)) (ranA .state .registers .words) ≡ (2 ^ 64 - 1) ∷ (2 ^ 64 - 1) ∷ 0 ∷ 0 ∷ []
+  pub datumA : cellAt (ranA .state .dataWords) 32 ≡ cell 1 (2 ^ 64 - 1)
+  -- task 3 stored and loaded 100; one of its processes left, the other trapped with kind 16 at PC 8, and its last item was idle
+  pub registersB : cut (registerWindow (instanceRow 3 1)) (ranB .state .registers .words) ≡ 300 ∷ 100 ∷ 0 ∷ 0 ∷ []
+  pub datumB : cellAt (ranB .state .dataWords) 32 ≡ cell 1 100
+  pub trapB : own 3 (ranB .state) ≡ some (owner (trappedRow (instanceRow 3 1) PrivilegedInstruction 8) (8 ∷ []))
+  pub countsB : ranB .counts ≡ counts 13 1 1 1
 
 pub isolated : Instance
-unfolding images afterA afterB
-isolated = record { equal = demand-3 1 bytesA bytesB scheduleA scheduleB imageA imageB runA runB agreed; counted = refl; neighbourA = refl; neighbourB = refl }
+unfolding images ranA ranB
+isolated = record {
+  equal = demand-3 1 bytesA bytesB scheduleA scheduleB imageA imageB runA runB agreed;
+  registers = refl;
+  datum = refl;
+  processes = refl;
+  countsA = refl;
+  registersA = refl;
+  datumA = refl;
+  registersB = refl;
+  datumB = refl;
+  trapB = refl;
+  countsB = refl;
+}

@@ -1,4 +1,5 @@
 pub mod Report
+pub mod Letters
 pub mod Trials
 pub mod Instance
 pub mod Laws

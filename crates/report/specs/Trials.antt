@@ -1,17 +1,12 @@
 -- The trials of document 01 that are proved of the definitions: its starred ones, and its printed case.
 use mathlib.Core.Path.{_≡_, refl}
-use mathlib.Core.Bool.{true}
 use mathlib.Core.List.{List, [], _∷_, _++_}
-use Prim.Native.Nat.{ℕ, zero, suc, _-_, _^_}
+use Prim.Native.Nat.{ℕ, zero, suc, _+_, _-_, _*_, _^_}
 use lib.ListN.{getD, replicate}
-use Rattle.word.specs.Integers.{integerOf}
-use Rattle.word.specs.declared.Integer.the-variants.{Dec, Mul}
-use Rattle.word.specs.Bits.{bitOf}
-use Rattle.word.specs.declared.Bit.the-variants.{Bitset, Encode1}
-use Rattle.word.specs.Tests.{holdsOf}
 use Rattle.word.specs.Fields.{pswOf}
 use Rattle.window.specs.declared.Row.{Row}
-use Rattle.window.specs.Memories.{memory}
+use Rattle.window.specs.declared.Cell.{Cell}
+use Rattle.window.specs.Memories.{memory, cell, cellAt}
 use Rattle.operand.specs.declared.Role.the-variants.{Source}
 use Rattle.operand.specs.declared.Lookup.the-variants.{Violation}
 use Rattle.operand.specs.Field.{lookupOf}
@@ -23,6 +18,7 @@ use Rattle.step.specs.Act.{Stepped}
 use Rattle.step.specs.Step.{step}
 use Rattle.image.specs.Image.{queueOf}
 use Rattle.report.specs.Report.{outputOf}
+use Rattle.report.specs.Letters.{letters, unspaced, hexValue, pairsOf, hexBytes}
 use Rattle.report.specs.Laws.Opened.{opened}
 
 -- CB 4095, RB 3, RL 3, DB 1, DL 1: registers 6 and 7, data words 32 to 63
@@ -33,20 +29,33 @@ unfoldable pub upTo : ℕ → List ℕ
 upTo zero = []
 upTo (suc n) = upTo n ++ (n ∷ [])
 
--- task 1 with `live` processes, one instruction, constant 0 with word 77, register 7 with word s1, and data word 63 with word 99
-unfoldable pub machine : (live w s1 : ℕ) → State
-machine live w s1 = record {
+-- task 1 with `live` processes, one instruction, constant 0 with word 77, register 7 with word s1, register 6 with word s2 and quality 5, and
+-- data word 63 with word 99
+unfoldable pub machine : (live w s1 s2 : ℕ) → State
+machine live w s1 s2 = record {
   rows = trialRow ∷ [];
   table = record { psw = replicate 64 0; queues = queueOf (upTo live) ∷ replicate 6 (queueOf []); flag = 0 };
   constants = 77 ∷ [];
-  registers = memory (replicate 8 0) (replicate 7 0 ++ (s1 ∷ []));
+  registers = memory (replicate 6 0 ++ (5 ∷ 0 ∷ [])) (replicate 6 0 ++ (s2 ∷ s1 ∷ []));
   program = w ∷ replicate 15 0;
   dataWords = memory (replicate 64 1) (replicate 63 0 ++ (99 ∷ []));
 }
 
--- the register at a real address after a step of task 1
-unfoldable pub registerAfter : Stepped → ℕ → ℕ
-registerAfter x a = getD (x .state .registers .words) a 0
+-- one step of task 1 over an instruction
+unfoldable pub stepped : (w s1 s2 : ℕ) → Stepped
+stepped w s1 s2 = step 1 (machine 1 w s1 s2)
+
+-- D after a step, register 6: its tag and its word
+unfoldable pub registerD : Stepped → Cell
+registerD x = cellAt (x .state .registers) 6
+
+-- D after an instruction with this code, S1 in register 7, S2, where it has one, in register 6
+unfoldable pub resultD : (code s1 s2 : ℕ) → Cell
+resultD code s1 s2 = registerD (stepped (instructionWord code 0 1 0) s1 s2)
+
+-- the PSW of the process after B to 9 by test C on S2, S1 being zero
+unfoldable pub branchOn : (c s2 : ℕ) → ℕ
+branchOn c s2 = getD (stepped (instructionWord (0x3800 + c * 16) 9 0x4000 0) 0 s2 .state .table .psw) 0 0
 
 -- CREATE always, ACT 0, S1 and S2 constants
 unfoldable pub create : ℕ
@@ -54,36 +63,37 @@ create = instructionWord 0x3970 0 0x4000 0x4000
 
 pub record Starred : Type 0 where
   -- DEC 0: -1, quality 0. DEC 5: 4, quality 1. DEC -2^63: 2^63-1, quality 4
-  pub dec-0 : integerOf Dec 0 0 ≡ record { word = 2 ^ 64 - 1; quality = 0 }
-  pub dec-5 : integerOf Dec 5 0 ≡ record { word = 4; quality = 1 }
-  pub dec-least : integerOf Dec (2 ^ 63) 0 ≡ record { word = 2 ^ 63 - 1; quality = 4 }
+  pub dec-0 : resultD 0x612F 0 0 ≡ cell 0 (2 ^ 64 - 1)
+  pub dec-5 : resultD 0x612F 5 0 ≡ cell 1 4
+  pub dec-least : resultD 0x612F (2 ^ 63) 0 ≡ cell 4 (2 ^ 63 - 1)
   -- MUL -1, -1: 1, quality 0. MUL 2^32, 2^31: quality 4
-  pub mul-minus : integerOf Mul (2 ^ 64 - 1) (2 ^ 64 - 1) ≡ record { word = 1; quality = 0 }
-  pub mul-large : integerOf Mul (2 ^ 32) (2 ^ 31) .quality ≡ 4
+  pub mul-minus : resultD 0x7320 (2 ^ 64 - 1) (2 ^ 64 - 1) ≡ cell 0 1
+  pub mul-large : resultD 0x7320 (2 ^ 32) (2 ^ 31) ≡ cell 4 (2 ^ 63)
   -- ENCODE1 of 1: 63, of 0: -2^63. BITSET 0 at 64: leftmost bit
-  pub encode-1 : bitOf Encode1 1 0 ≡ 63
-  pub encode-0 : bitOf Encode1 0 0 ≡ 2 ^ 63
-  pub bitset-64 : bitOf Bitset 0 64 ≡ 2 ^ 63
+  pub encode-1 : resultD 0x6710 1 0 ≡ cell 0 63
+  pub encode-0 : resultD 0x6710 0 0 ≡ cell 0 (2 ^ 63)
+  pub bitset-64 : resultD 0x7720 0 64 ≡ cell 0 (2 ^ 63)
   -- RB 3, RL 3: displacement 1 reaches register 7 (MOV of it to register 6), 2 traps
-  pub register-1 : registerAfter (step 1 (machine 1 (instructionWord 0x611F 0 1 0) 5)) 6 ≡ 5
-  pub register-2 : step 1 (machine 1 (instructionWord 0x611F 0 2 0) 5) .ending ≡ Trapped ProtectionViolation 0
+  pub register-1 : registerD (stepped (instructionWord 0x611F 0 1 0) 5 0) ≡ cell 0 5
+  pub register-2 : stepped (instructionWord 0x611F 0 2 0) 5 0 .ending ≡ Trapped ProtectionViolation 0
   -- DB 1, DL 1: hex F8 reaches byte 504, the data word 63; hex 100 traps
-  pub data-F8 : registerAfter (step 1 (machine 1 (instructionWord 0x6C00 0 1 0) 0xF8)) 6 ≡ 99
-  pub data-100 : step 1 (machine 1 (instructionWord 0x6C00 0 1 0) 0x100) .ending ≡ Trapped ProtectionViolation 0
+  pub data-F8 : registerD (stepped (instructionWord 0x6C00 0 1 0) 0xF8 0) ≡ cell 0 99
+  pub data-100 : stepped (instructionWord 0x6C00 0 1 0) 0x100 0 .ending ≡ Trapped ProtectionViolation 0
   -- CB 4095: displacement 2 reads constant 0
-  pub constant-2 : registerAfter (step 1 (machine 1 (instructionWord 0x611F 0 0x4002 0) 5)) 6 ≡ 77
-  -- test E of 0 holds
-  pub even-0 : holdsOf 14 0 0 0 ≡ true
+  pub constant-2 : registerD (stepped (instructionWord 0x611F 0 0x4002 0) 5 0) ≡ cell 0 77
+  -- test E of 0 holds: B goes to 9; test F of 0 doesn't
+  pub even-0 : branchOn 0xE 0 ≡ 9
+  pub odd-0 : branchOn 0xF 0 ≡ 1
   -- create at 62 live: no fault, at 63: fault
-  pub create-62 : step 1 (machine 62 create 0) .ending ≡ Executed
-  pub create-62-flag : step 1 (machine 62 create 0) .state .table .flag ≡ 0
-  pub create-63 : step 1 (machine 63 create 0) .ending ≡ Trapped CreateFault 1
-  pub create-63-flag : step 1 (machine 63 create 0) .state .table .flag ≡ 1
+  pub create-62 : step 1 (machine 62 create 0 0) .ending ≡ Executed
+  pub create-62-flag : step 1 (machine 62 create 0 0) .state .table .flag ≡ 0
+  pub create-63 : step 1 (machine 63 create 0 0) .ending ≡ Trapped CreateFault 1
+  pub create-63-flag : step 1 (machine 63 create 0 0) .state .table .flag ≡ 1
   -- RI 2047 and displacement 1 never mean register 0
   pub index : lookupOf Source (record { task = 1; cb = 0; rb = 0; rl = 1023; pb = 0; pl = 0; db = 0; dl = 0; kind = 255; psw = 0 }) (pswOf 0 2047 0 0) 0x8001 ≡ Violation
 
 pub starred : Starred
-unfolding opened trialRow upTo machine instructionWord registerAfter create
+unfolding opened trialRow upTo machine stepped registerD resultD branchOn instructionWord create
 starred = record {
   dec-0 = refl;
   dec-5 = refl;
@@ -99,6 +109,7 @@ starred = record {
   data-100 = refl;
   constant-2 = refl;
   even-0 = refl;
+  odd-0 = refl;
   create-62 = refl;
   create-62-flag = refl;
   create-63 = refl;
@@ -106,29 +117,27 @@ starred = record {
   index = refl;
 }
 
--- the printed case, hex: 0001 01 | 01 01 0000 0001 0000 0001 0000 00000001 00000000 FF 0000000000000000 | 01 00 00 01 0000000000000000 | ..
+-- the printed case, as document 01 prints it
 unfoldable pub printedInput : List ℕ
 printedInput =
-    0 ∷ 1 ∷ 1 ∷
-    1 ∷ 1 ∷ 0 ∷ 0 ∷ 0 ∷ 1 ∷ 0 ∷ 0 ∷ 0 ∷ 1 ∷ 0 ∷ 0 ∷ 0 ∷ 0 ∷ 0 ∷ 1 ∷ 0 ∷ 0 ∷ 0 ∷ 0 ∷ 255 ∷ 0 ∷ 0 ∷ 0 ∷ 0 ∷ 0 ∷ 0 ∷ 0 ∷ 0 ∷
-    1 ∷ 0 ∷ 0 ∷ 1 ∷ 0 ∷ 0 ∷ 0 ∷ 0 ∷ 0 ∷ 0 ∷ 0 ∷ 0 ∷
-    0 ∷ 0 ∷
-    0 ∷ 0 ∷
-    0 ∷ 0 ∷ 0 ∷ 0 ∷
-    0 ∷ 0 ∷ 0 ∷ 0 ∷ []
+    hexBytes "0001 01 | 01 01 0000 0001 0000 0001 0000 00000001 00000000 FF 0000000000000000 | 01 00 00 01 0000000000000000 | 0000 | 0000 | 00000000 | 00000000"
 
--- `1 1 14 00000` and `E0 W0 T1 I0 CF0`
 unfoldable pub printedOutput : List ℕ
-printedOutput =
-    49 ∷ 32 ∷ 49 ∷ 32 ∷ 49 ∷ 52 ∷ 32 ∷ 48 ∷ 48 ∷ 48 ∷ 48 ∷ 48 ∷ 10 ∷
-    69 ∷ 48 ∷ 32 ∷ 87 ∷ 48 ∷ 32 ∷ 84 ∷ 49 ∷ 32 ∷ 73 ∷ 48 ∷ 32 ∷ 67 ∷ 70 ∷ 48 ∷ 10 ∷ []
+printedOutput = letters "1 1 14 00000\nE0 W0 T1 I0 CF0\n"
+
+-- the same image under a schedule of two items
+unfoldable pub twoItems : List ℕ
+twoItems =
+    hexBytes "0002 01 01 | 01 01 0000 0001 0000 0001 0000 00000001 00000000 FF 0000000000000000 | 01 00 00 01 0000000000000000 | 0000 | 0000 | 00000000 | 00000000"
 
 -- the starred trials, the printed case from its input bytes to its two lines, and what document 01 excludes
 pub record Trials : Type 0 where
   pub starred-ones : Starred
   pub printed : outputOf printedInput ≡ printedOutput
+  -- two items: the second finds the task trapped
+  pub two : outputOf twoItems ≡ letters "1 1 14 00000\nE0 W0 T1 I1 CF0\n"
   pub exclusions : Excluded
 
 pub trials : Trials
-unfolding opened printedInput printedOutput
-trials = record { starred-ones = starred; printed = refl; exclusions = excluded }
+unfolding opened letters unspaced hexValue pairsOf hexBytes printedInput printedOutput twoItems
+trials = record { starred-ones = starred; printed = refl; two = refl; exclusions = excluded }

@@ -8,7 +8,7 @@ use Rattle.step.specs.State.{State}
 use Rattle.step.specs.Soundness.{sound}
 use Rattle.run.specs.declared.Counts.{Counts}
 use Rattle.run.specs.Run.{run}
-use Rattle.run.specs.Laws.Run.{run-counts, run-flag}
+use Rattle.run.specs.Laws.Run.{run-counts, run-flag, run-flag-up}
 use Rattle.run.specs.Laws.RunSound.{run-sound}
 
 -- executed + waved + trapped + idle = items
@@ -19,6 +19,10 @@ counts-add-up schedule s = run-counts schedule s
 -- where the flag is down at the end of a run, it was down at its start
 pub flag-never-falls : (schedule : List ℕ) (s : State) → run schedule s .state .table .flag ≡ 0 → s .table .flag ≡ 0
 flag-never-falls schedule s z = run-flag schedule s z
+
+-- once up, it is up after any run
+pub flag-stays-up : (schedule : List ℕ) (s : State) → s .table .flag ≡ 1 → run schedule s .state .table .flag ≡ 1
+flag-stays-up schedule s u = run-flag-up schedule s u
 
 -- what was read and run can always be written
 pub run-keeps-sound : (schedule : List ℕ) (s : State) → sound s ≡ true → sound (run schedule s .state) ≡ true

@@ -1,4 +1,5 @@
 -- The laws of the definitions: nothing here need be believed.
+pub mod Opened
 pub mod Run
 pub mod RunAgreement
 pub mod Isolation

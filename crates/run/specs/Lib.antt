@@ -1,4 +1,5 @@
 pub mod Run
+pub mod Items
 pub mod Schedule
 pub mod Compared
 pub mod Kept

@@ -1,4 +1,4 @@
--- A run takes a list of task numbers and counts the four endings. Over any instruction set `decide`.
+-- A run takes a list of task numbers and counts the four endings. Over any instruction set `instructions`.
 use Prim.Native.Nat.{ℕ, suc}
 use mathlib.Core.List.{List, [], _∷_}
 use Rattle.operation.specs.Environment.{Environment}
@@ -30,10 +30,10 @@ pub record Ran : Type 0 where
 
 -- each item works on the state that the item before it left
 unfoldable pub runBy : (Environment → Decision) → List ℕ → State → Counts → Ran
-runBy decide [] s c = record { state = s; counts = c }
-runBy decide (t ∷ ts) s c =
-    let r : Stepped = stepBy decide t s in
-    runBy decide ts (r .state) (counted (r .ending) c)
+runBy instructions [] s c = record { state = s; counts = c }
+runBy instructions (t ∷ ts) s c =
+    let r : Stepped = stepBy instructions t s in
+    runBy instructions ts (r .state) (counted (r .ending) c)
 
 -- a run under the instruction set of document 01
 unfoldable pub run : List ℕ → State → Ran

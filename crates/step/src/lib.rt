@@ -1,18 +1,28 @@
 // One step of a task: queues, the process table, and how a step ends.
 use operation::Decision;
 use operation::Trap;
+use window::TASKS;
+
+// The places of a queue.
+pub const PLACES: usize = 64;
+
+// The PTs (process numbers 0 to 63), shared by all tasks.
+pub const PTS: usize = 64;
+
+// The trap kind of a row that has not trapped.
+pub const NO_TRAP: u8 = 0xFF;
 
 // The PTs of a task's processes in a ring: the head stands at head, and len of them follow one another.
 pub struct Queue {
-    pub pts: [u8; 64],
+    pub pts: [u8; PLACES],
     pub head: usize,
     pub len: usize,
 }
 
 // The PSW of each PT, the queue of each task (of task t at t - 1) and the create fault flag.
 pub struct ProcessTable {
-    pub psw: [u64; 64],
-    pub queues: [Queue; 7],
+    pub psw: [u64; PTS],
+    pub queues: [Queue; TASKS],
     pub flag: u8,
 }
 

@@ -3,10 +3,11 @@ use mathlib.Core.Path.{_≡_}
 use mathlib.Core.Logic.{_↔_}
 use mathlib.Core.Bool.{true, false}
 use Prim.Native.Nat.{ℕ, _+_, _*_, _/_, _^_, _≤_, _<_}
+use Rattle.window.specs.declared.Row.{Row}
 use Rattle.window.specs.declared.Window.{Window}
 use Rattle.window.specs.declared.Place.the-variants.{At, Violation}
-use Rattle.window.specs.Windows.{windowOf, inside, placeIn, meets}
-use Rattle.window.specs.Laws.Windows.{in-of, of-in, in-window, none-inside, base-inside, word-inside, byte-inside, reached, past, meeting, met, meets-by-bases}
+use Rattle.window.specs.Windows.{windowOf, inside, placeIn, dataWindow, dataWordWindow, bytePlace, meets}
+use Rattle.window.specs.Laws.Windows.{in-of, of-in, in-window, none-inside, base-inside, word-inside, byte-inside, reached, past, placed, byte-placed, meeting, met, meets-by-bases}
 
 -- a real address lies in a window where its bits before the last k are from base to limit
 pub window-holds : (k base limit a : ℕ) → (inside (windowOf k base limit) a ≡ true) ↔ ((base ≤ a / 2 ^ k) × (a / 2 ^ k ≤ limit))
@@ -32,6 +33,17 @@ window-reached k b l e h = reached k b l e h
 
 pub window-violated : (k base limit e : ℕ) → limit < base + e / 2 ^ k → placeIn (windowOf k base limit) e ≡ Violation
 window-violated k b l e h = past k b l e h
+
+-- a place found lies inside its window; a byte place inside the data window, and its word in that window by words
+pub place-inside : (w : Window) (e a : ℕ) → placeIn w e ≡ At a → inside w a ≡ true
+place-inside w e a h = placed w e a h
+
+pub byte-place-inside : (r : Row) (e a : ℕ) → bytePlace r e ≡ At a → inside (dataWindow r) a ≡ true
+byte-place-inside r e a h = byte-placed r e a h
+
+pub byte-word-inside : (r : Row) (e a : ℕ) → bytePlace r e ≡ At a → inside (dataWordWindow r) (a / 8) ≡ true
+unfolding dataWindow dataWordWindow
+byte-word-inside r e a h = window-by-units 3 5 (r .db) (r .dl) a .0 (byte-placed r e a h)
 
 -- two windows meet just where a real address lies in both
 pub windows-meet : (v w : Window) → (meets v w ≡ true) ↔ ((a : ℕ) × (inside v a ≡ true) × (inside w a ≡ true))

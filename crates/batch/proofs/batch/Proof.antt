@@ -1,3 +1,4 @@
+-- Skeleton and paths (.before ..) are generated: docs/PROOFS.md.
 use lib.ListN.{length}
 use mathlib.Core.Path.{_≡_}
 use Rattle.batch.specs.Laws.Texts.{none-copied, all-copied}

@@ -1,10 +1,11 @@
+-- Skeleton and paths (.before ..) are generated: docs/PROOFS.md.
 -- `batch::image_text` meets its contract: by what reading and run promise.
 use Prim.Native.Nat.{ℕ}
 use mathlib.Core.Path.{ap, _∙_}
 use native.Mathlib.Omega.{arith}
 use lib.ListN.{length, length-replicate}
-use Rattle.image_words.specs.Laws.Fields.{all-bytes}
-use Rattle.image_read.specs.Read.{sevenRows}
+use Rattle.image_bytes.specs.Laws.Fields.{all-bytes}
+use Rattle.library.specs.Empty.{noRows}
 use Rattle.batch.specs.Laws.Readings.{read-refused, read-text}
 use borrow.Author.Needs.{needs}
 use Rattle.batch.proofs.image_text.Statement.{statement}
@@ -16,26 +17,26 @@ no-rows-requires c κs = search needs
 no-processes-requires : tie.Need-no-processes-requires
 no-processes-requires c κs = search needs
 
-slice-aggregate-read : tie.Need-slice-aggregate-read
-slice-aggregate-read c = search needs
+slice-aggregate-read-owned : tie.Need-slice-aggregate-read-owned
+slice-aggregate-read-owned c = search needs
 
-slice-aggregate-read-2 : tie.Need-slice-aggregate-read-2
-slice-aggregate-read-2 c = search needs
+slice-aggregate-read-owned-2 : tie.Need-slice-aggregate-read-owned-2
+slice-aggregate-read-owned-2 c = search needs
 
-slice-aggregate-read-3 : tie.Need-slice-aggregate-read-3
-slice-aggregate-read-3 c = search needs
+slice-aggregate-read-owned-3 : tie.Need-slice-aggregate-read-owned-3
+slice-aggregate-read-owned-3 c = search needs
 
-slice-aggregate-read-4 : tie.Need-slice-aggregate-read-4
-slice-aggregate-read-4 c = search needs
+slice-aggregate-read-owned-4 : tie.Need-slice-aggregate-read-owned-4
+slice-aggregate-read-owned-4 c = search needs
 
-slice-aggregate-read-5 : tie.Need-slice-aggregate-read-5
-slice-aggregate-read-5 c = search needs
+slice-aggregate-read-owned-5 : tie.Need-slice-aggregate-read-owned-5
+slice-aggregate-read-owned-5 c = search needs
 
-slice-aggregate-read-6 : tie.Need-slice-aggregate-read-6
-slice-aggregate-read-6 c = search needs
+slice-aggregate-read-owned-6 : tie.Need-slice-aggregate-read-owned-6
+slice-aggregate-read-owned-6 c = search needs
 
-read-requires : tie.Need-read-requires
-read-requires c κs = search needs
+read-owned-requires : tie.Need-read-owned-requires
+read-owned-requires c κs = search needs
 
 enum-known-answer : tie.Need-enum-known-answer
 enum-known-answer c = search needs
@@ -68,16 +69,16 @@ run-text-requires : tie.Need-run-text-requires
 run-text-requires c κs = search needs
 
 returns : tie.Need-returns
-unfolding sevenRows
+unfolding noRows
 returns c =
     let k = length-replicate {A = ℕ} 8192 0 in
-    c .refusal-text .ensures ∙ read-refused _ (c .before .before .before .before .before .before .before .before .before .before .before .before .before .before .before .before .before .before .before .before .before .before .before .pre) _ _ (record { rows = ap length (c .before .before .before .before .before .before .before .before .before .before .before .before .before .before .before .before .before .before .before .before .no-rows .ensures); constants = k; registerTags = k; registerWords = k; program = k; dataTags = k; dataWords = k }) _ (c .before .before .before .before .before .before .before .before .before .before .before .before .read .ensures) _ _ (c .before .before .answer .given .1)
+    c .refusal-text .ensures ∙ read-refused _ (c .before .before .before .before .before .before .before .before .before .before .before .before .before .before .before .before .before .before .before .before .before .before .before .pre) _ _ (record { rows = ap length (c .before .before .before .before .before .before .before .before .before .before .before .before .before .before .before .before .before .before .before .before .no-rows .ensures); constants = k; registerTags = k; registerWords = k; program = k; dataTags = k; dataWords = k }) _ (c .before .before .before .before .before .before .before .before .before .before .before .before .read-owned .ensures .0) _ _ (c .before .before .answer .given .1)
 
 returns-2 : tie.Need-returns-2
-unfolding sevenRows
+unfolding noRows
 returns-2 c =
     let k = length-replicate {A = ℕ} 8192 0 in
-    c .before .before .before .before .run-text .ensures ∙ read-text _ (c .before .before .before .before .before .before .before .before .before .before .before .before .before .before .before .before .before .before .before .before .before .before .before .before .before .before .before .before .before .before .before .before .before .pre) _ _ (record { rows = ap length (c .before .before .before .before .before .before .before .before .before .before .before .before .before .before .before .before .before .before .before .before .before .before .before .before .before .before .before .before .before .before .no-rows .ensures); constants = k; registerTags = k; registerWords = k; program = k; dataTags = k; dataWords = k }) _ (c .before .before .before .before .before .before .before .before .before .before .before .before .before .before .before .before .before .before .before .before .before .before .read .ensures) _ _ (all-bytes _ (λ i. omega (arith, c .before .before .before .before .before .before .before .before .before .before .before .before .before .before .before .before .before .before .before .before .before .before .before .before .before .before .before .before .before .before .before .shared-slice-known2 .given i))) (c .before .before .before .before .before .before .before .before .before .before .before .before .answer2 .given .1)
+    c .before .before .before .before .run-text .ensures ∙ read-text _ (c .before .before .before .before .before .before .before .before .before .before .before .before .before .before .before .before .before .before .before .before .before .before .before .before .before .before .before .before .before .before .before .before .before .pre) _ _ (record { rows = ap length (c .before .before .before .before .before .before .before .before .before .before .before .before .before .before .before .before .before .before .before .before .before .before .before .before .before .before .before .before .before .before .no-rows .ensures); constants = k; registerTags = k; registerWords = k; program = k; dataTags = k; dataWords = k }) _ (c .before .before .before .before .before .before .before .before .before .before .before .before .before .before .before .before .before .before .before .before .before .before .read-owned .ensures .0) _ _ (all-bytes _ (λ i. omega (arith, c .before .before .before .before .before .before .before .before .before .before .before .before .before .before .before .before .before .before .before .before .before .before .before .before .before .before .before .before .before .before .before .shared-slice-known2 .given i))) (c .before .before .before .before .before .before .before .before .before .before .before .before .answer2 .given .1)
 
 pub image-text-spec : {M : Type 1} → statement M
 image-text-spec =
@@ -85,13 +86,13 @@ image-text-spec =
     (tie.spec
     no-rows-requires
     no-processes-requires
-    slice-aggregate-read
-    slice-aggregate-read-2
-    slice-aggregate-read-3
-    slice-aggregate-read-4
-    slice-aggregate-read-5
-    slice-aggregate-read-6
-    read-requires
+    slice-aggregate-read-owned
+    slice-aggregate-read-owned-2
+    slice-aggregate-read-owned-3
+    slice-aggregate-read-owned-4
+    slice-aggregate-read-owned-5
+    slice-aggregate-read-owned-6
+    read-owned-requires
     enum-known-answer
     refusal-text-requires
     enum-known-answer-2

@@ -1,5 +1,6 @@
+-- Skeleton and paths (.before ..) are generated: docs/PROOFS.md.
 use Rattle.batch.specs.Laws.Input.{input-too-long, count-missing, items-missing, schedule-whole}
-use Rattle.image_words.specs.Reading.{numberAt}
+use Rattle.image_bytes.specs.Code.Reading.{numberAt}
 use Rattle.image.specs.Codec.{field}
 use native.Mathlib.Omega.{arith}
 use mathlib.Core.Path.{_≡_, sym, _∙_}

@@ -1,3 +1,4 @@
+-- Skeleton and paths (.before ..) are generated: docs/PROOFS.md.
 -- `batch::run_text` meets its contract: by what the run promises.
 use Rattle.batch.specs.Laws.Texts.{run-refused, run-counted}
 use mathlib.Core.Path.{_∙_}
@@ -5,8 +6,8 @@ use borrow.Author.Needs.{needs}
 use Rattle.batch.proofs.run_text.Statement.{statement}
 use Rattle.batch.proofs.run_text.Tie as tie
 
-run-requires : tie.Need-run-requires
-run-requires c κs = search needs
+run-owned-requires : tie.Need-run-owned-requires
+run-owned-requires c κs = search needs
 
 enum-known-answer : tie.Need-enum-known-answer
 enum-known-answer c = search needs
@@ -33,7 +34,7 @@ same-length-4 : tie.Need-same-length-4
 same-length-4 c = search needs
 
 returns : tie.Need-returns
-returns c = c .refusal-text .ensures ∙ run-refused _ _ _ _ _ (c .before .before .before .before .before .before .before .before .before .before .before .before .before .before .run .ensures) _ (c .before .before .answer .given .1)
+returns c = c .refusal-text .ensures ∙ run-refused _ _ _ _ _ (c .before .before .before .before .before .before .before .before .before .before .before .before .before .before .run-owned .ensures .0) _ (c .before .before .answer .given .1)
 
 same-length-5 : tie.Need-same-length-5
 same-length-5 c = search needs
@@ -48,13 +49,13 @@ same-length-8 : tie.Need-same-length-8
 same-length-8 c = search needs
 
 returns-2 : tie.Need-returns-2
-returns-2 c = c .report-text .ensures .0 ∙ run-counted _ _ _ _ _ (c .before .before .before .before .before .before .before .before .before .before .before .before .before .before .run .ensures) _ (c .before .before .answer2 .given .1)
+returns-2 c = c .report-text .ensures .0 ∙ run-counted _ _ _ _ _ (c .before .before .before .before .before .before .before .before .before .before .before .before .before .before .run-owned .ensures .0) _ (c .before .before .answer2 .given .1)
 
 pub run-text-spec : {M : Type 1} → statement M
 run-text-spec =
     tie.close
     (tie.spec
-    run-requires
+    run-owned-requires
     enum-known-answer
     refusal-text-requires
     enum-known-answer-2

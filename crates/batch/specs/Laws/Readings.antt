@@ -15,20 +15,17 @@ use Rattle.run.specs.Schedule.{scheduleRefusal}
 use Rattle.image.specs.Codec.{Bytes}
 use Rattle.image.specs.Image.{Image, Decoded, bad, good, stateOf, decode}
 use Rattle.image.specs.RoundTrips.{reads-only-sound}
-use Rattle.image_check.specs.declared.Counted.{Counted}
-use Rattle.image_check.specs.Checked.{processesPlace, constantsPlace, registersPlace, programPlace, dataPlace, endPlace, countsOf, checkedOf}
-use Rattle.image_check.specs.Laws.Found.{Found, found}
-use Rattle.image_read.specs.Laws.Few.{found-few}
-use Rattle.calls.specs.declared.Sizes.{Sizes}
-use Rattle.calls.specs.Buffers.{Buffers, roomOf, fits, sizesOf, fieldsIn}
-use Rattle.calls.specs.Calls.{unless, orElse, decodedRefusal, readRefusal, decodedAnswer, readAnswer, stateRefusal, runRefusal}
-use Rattle.calls.specs.InPlace.{read-in-place}
-use Rattle.calls.specs.Laws.InPlace.{held-by-read, read-sized}
-use Rattle.buffered.specs.declared.SizesRead.{SizesRead}
-use Rattle.buffered.specs.declared.SizesRead.the-variants.{Refused, Read}
-use Rattle.buffered.specs.Left.{sizesCounted}
-use Rattle.buffered.specs.Promises.{readAnswered, ReadPromise}
-use Rattle.buffered.specs.Laws.Read.{image-sizes}
+use Rattle.image_check.specs.Code.Places.{processesPlace, constantsPlace, registersPlace, programPlace, dataPlace, endPlace}
+use Rattle.image_check.specs.Laws.Found.{Found}
+use Rattle.image_read.specs.Laws.Few.{found-few, found-image}
+use Rattle.library.specs.declared.Sizes.{Sizes}
+use Rattle.library.specs.Buffers.{Buffers, roomOf, fits, sizesOf, fieldsIn}
+use Rattle.library.specs.Calls.{unless, orElse, decodedRefusal, readRefusal, decodedAnswer, readAnswer, stateRefused, stateRefusal, runRefusal}
+use Rattle.library.specs.InPlace.{read-in-place}
+use Rattle.library.specs.Laws.InPlace.{held-by-read, read-sized}
+use Rattle.library.specs.declared.ReadAnswer.{ReadAnswer}
+use Rattle.library.specs.declared.ReadAnswer.the-variants.{Refused, Read}
+use Rattle.library.specs.Promises.{readAnswered, ReadPromise}
 use Rattle.report.specs.Report.{refusalLine, outputRun, outputRead}
 use Rattle.batch.specs.Output.{runText}
 use Rattle.batch.specs.Laws.Room.{room-kept}
@@ -44,8 +41,8 @@ pub record Roomy (b : Buffers) : Type 0 where
   pub dataWords : length (b .dataWords) ≡ 8192
 
 -- each value of these sections has 8 or 9 bytes
-few-fit : (z : Counted) (s : List ℕ) (b : Buffers) → Found z s → length s ≤ 65536 → Roomy b → fits (sizesCounted z) (roomOf b) ≡ true
-unfolding fits roomOf sizesCounted endPlace dataPlace programPlace registersPlace constantsPlace processesPlace
+few-fit : (z : Sizes) (s : List ℕ) (b : Buffers) → Found z s → length s ≤ 65536 → Roomy b → fits z (roomOf b) ≡ true
+unfolding fits roomOf endPlace dataPlace programPlace registersPlace constantsPlace processesPlace
 few-fit z s b f h r =
     let e = f .ends in
     also (le-leb (z .rows) _ (omega (arith, found-few z s f .0, r .rows)))
@@ -62,10 +59,9 @@ text-of-image l (some e) i = refl
 
 module _ (s : List ℕ) (short : length s ≤ 65536) where
   room-enough : (i : Image) (b : Buffers) → decode s ≡ good i → Roomy b → fits (sizesOf (stateOf i)) (roomOf b) ≡ true
-  unfolding checkedOf
-  room-enough i b d w = ap (λ (n : Sizes). fits n (roomOf b)) (image-sizes i) ∙ few-fit (countsOf i) s b (found s (countsOf i) (ap checkedOf d)) short w
+  room-enough i b d w = few-fit (sizesOf (stateOf i)) s b (found-image s i d) short w
 
-  module _ (b b′ : Buffers) (roomy : Roomy b) (x : SizesRead) (reads : ReadPromise b s x b′) where
+  module _ (b b′ : Buffers) (roomy : Roomy b) (x : ReadAnswer) (reads : ReadPromise b s x b′) where
     read-fine : (i : Image) → decode s ≡ good i → readRefusal (roomOf b) s ≡ none
     unfolding readRefusal decodedRefusal
     read-fine i d = rw (d, room-enough i b d roomy)
@@ -91,7 +87,7 @@ module _ (s : List ℕ) (short : length s ≤ 65536) where
     -- a run of what was read gives the output
     held-text : (l : List ℕ) (i : Image) → Bytes s → decode s ≡ good i
         → runText (runRefusal (sizesOf (stateOf i)) b′ l) (run l (fieldsIn (sizesOf (stateOf i)) b′)) ≡ outputRun (scheduleRefusal l) l i
-    unfolding runRefusal stateRefusal orElse
+    unfolding runRefusal stateRefusal stateRefused orElse
     held-text l i bytes d =
         let f : fieldsIn (sizesOf (stateOf i)) b′ ≡ stateOf i = ap (fieldsIn (sizesOf (stateOf i))) (reads .leaves) ∙ read-in-place b s i d (read-fine i d) in
         let fit = room-enough i b d roomy in

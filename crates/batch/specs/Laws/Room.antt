@@ -7,10 +7,10 @@ use native.Mathlib.Omega.{arith}
 use lib.ListN.{length, drop, length-append, length-drop}
 use Rattle.step.specs.State.{State}
 use Rattle.image.specs.Fields.{over}
-use Rattle.calls.specs.declared.Sizes.{Sizes}
-use Rattle.calls.specs.Buffers.{Buffers, roomOf, fits, holding}
-use Rattle.calls.specs.Laws.InPlace.{Sized}
-use Rattle.buffered.specs.Laws.Places.{fitting}
+use Rattle.library.specs.declared.Sizes.{Sizes}
+use Rattle.library.specs.Buffers.{Buffers, roomOf, fits, holding}
+use Rattle.library.specs.Laws.InPlace.{Sized}
+use Rattle.library.specs.Laws.Places.{fitting}
 
 module _ {A : Type 0} where
   over-length : (n : ℕ) (xs l : List A) → length xs ≡ n → n ≤ length l → length (over xs l) ≡ length l

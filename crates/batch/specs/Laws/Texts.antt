@@ -12,13 +12,13 @@ use Rattle.refusal.specs.declared.Refusal.{Refusal}
 use Rattle.step.specs.State.{State}
 use Rattle.run.specs.declared.Counts.{Counts}
 use Rattle.run.specs.Run.{Ran, run}
-use Rattle.runner.specs.declared.RunAnswer.{RunAnswer}
-use Rattle.runner.specs.declared.RunAnswer.the-variants.{Refused, Counted}
-use Rattle.calls.specs.declared.Sizes.{Sizes}
-use Rattle.calls.specs.Buffers.{Buffers, fieldsIn}
-use Rattle.calls.specs.Calls.{unless, runRefusal, runAnswer}
-use Rattle.calls.specs.InPlace.{run-in-place}
-use Rattle.buffered.specs.Promises.{runAnswered, RunPromise}
+use Rattle.library.specs.declared.RunAnswer.{RunAnswer}
+use Rattle.library.specs.declared.RunAnswer.the-variants.{Refused, Counted}
+use Rattle.library.specs.declared.Sizes.{Sizes}
+use Rattle.library.specs.Buffers.{Buffers, fieldsIn}
+use Rattle.library.specs.Calls.{unless, runRefusal, runAnswer}
+use Rattle.library.specs.InPlace.{run-in-place}
+use Rattle.library.specs.Promises.{runAnswered, RunPromise}
 use Rattle.report.specs.Report.{rowLines, countsLine, reportOf, refusalLine}
 use Rattle.batch.specs.Output.{runText, bytesCopied}
 

@@ -1,117 +1,128 @@
 -- The calls look at seven rows at most: what they promise of the first seven they promise of the whole slice.
-use Prim.Native.Nat.{ℕ, min, _≤_, _<_}
+use Prim.Native.Nat.{ℕ, min, _+_, _≤_, _<_}
 use mathlib.Core.Path.{_≡_, refl, sym, ap, _∙_}
-use mathlib.Core.Bool.{Bool, true, false, cond, not}
-use mathlib.Core.Option.{none, some}
-use mathlib.Core.List.{List, _++_, append-assoc}
+use mathlib.Core.Bool.{Bool, true, false, cond, not, _&&_}
+use mathlib.Core.Option.{Option, none, some}
+use mathlib.Core.List.{List, [], _∷_, _++_, append-assoc}
 use native.Mathlib.Omega.{arith}
 use lib.Dec.{leb}
 use lib.ListN.{length, take, drop, length-take, take-append-drop}
 use lib.Seq.{take-take, length-take-le, drop-append-le}
-use borrow.Author.Tests.{leb-true, leb-false, le-leb, lt-leb}
+use borrow.Author.Tests.{ltb-true, leb-true, leb-false, le-leb, lt-leb}
+use Rattle.word.specs.Laws.Conjunctions.{both}
 use Rattle.refusal.specs.declared.Refusal.the-variants.{UnsoundState}
 use Rattle.window.specs.declared.Row.{Row}
-use Rattle.step.specs.declared.ProcessTable.{ProcessTable}
 use Rattle.step.specs.State.{State}
-use Rattle.step.specs.Soundness.{sound}
+use Rattle.step.specs.Soundness.{taskSound, rowSound, rowsSound, sound}
+use Rattle.step.specs.Laws.Sound.{sound-parts}
 use Rattle.image.specs.Fields.{over}
-use Rattle.image.specs.Image.{imageOf, encode}
-use Rattle.image.specs.RoundTrips.{written-then-read}
-use Rattle.calls.specs.declared.Sizes.{Sizes}
-use Rattle.calls.specs.Buffers.{Buffers, roomOf, fits, fieldsIn, holding}
-use Rattle.calls.specs.Calls.{stateRefusal}
-use Rattle.buffered.specs.Held.{lentBuffers}
-use Rattle.buffered.specs.Laws.Places.{fitting}
-use Rattle.buffered.specs.Laws.Read.{rows-counted}
+use Rattle.library.specs.declared.Sizes.{Sizes}
+use Rattle.library.specs.Buffers.{Buffers, roomOf, fits, fieldsIn, holding}
+use Rattle.library.specs.Calls.{stateRefused, stateRefusal}
+use Rattle.library.specs.Held.{lentBuffers}
+use Rattle.library.specs.Laws.Places.{fitting}
+
+-- rows in ascending number, 1 to 7, are at most 7
+rows-few : (before : ℕ) (rows : List Row) → before ≤ 7 → rowsSound before rows ≡ true → before + length rows ≤ 7
+unfolding rowsSound rowSound taskSound
+rows-few before [] h e = omega arith
+rows-few before (r ∷ rows) h e =
+    let u = both (both (both (ltb-true before (r .task)) (leb-true (r .task) 7)) (λ k. k)) (λ k. k) e in
+    let k = rows-few (r .task) rows (u .0 .0 .1) (u .1) in
+    omega (arith, u .0 .0 .0, k)
 
 -- a sound state has at most seven rows
 pub sound-few : (s : State) → sound s ≡ true → length (s .rows) ≤ 7
-unfolding imageOf
-sound-few s e = rows-counted (encode s) (imageOf s) (written-then-read s e) .1
+sound-few s e = omega (arith, rows-few 0 (s .rows) (omega arith) (sound-parts s e .rows))
 
--- the buffers with further rows behind
+-- where a state is refused
+refused-where : (n : Sizes) (b : Buffers) → stateRefusal n b ≡ cond (fits n (roomOf b) && sound (fieldsIn n b)) none (some UnsoundState)
+unfolding stateRefusal stateRefused
+refused-where n b = go (fits n (roomOf b)) (sound (fieldsIn n b))
+  where
+    go : (t u : Bool) → cond (not (t && u)) (some UnsoundState) none ≡ cond (t && u) none (some UnsoundState)
+    go false u = refl
+    go true false = refl
+    go true true = refl
+
+-- the buffers with other rows
+abbrev pub withRows : List Row → Buffers → Buffers
+withRows rows b = lentBuffers rows (b .table) (b .constants) (b .registerTags) (b .registerWords) (b .program) (b .dataTags) (b .dataWords)
+
+-- with further rows behind
 abbrev pub behind : List Row → Buffers → Buffers
-behind rows b = record {
-  rows = b .rows ++ rows;
-  table = b .table;
-  constants = b .constants;
-  registerTags = b .registerTags;
-  registerWords = b .registerWords;
-  program = b .program;
-  dataTags = b .dataTags;
-  dataWords = b .dataWords;
-}
+behind rows b = withRows (b .rows ++ rows) b
 
-module _ (rows : List Row) (table : ProcessTable) (constants tags words program dataTags dataWords : List ℕ) where
-  abbrev pub whole : Buffers
-  whole = lentBuffers rows table constants tags words program dataTags dataWords
-
+module _ (b : Buffers) where
+  -- with their first seven rows alone
   abbrev pub seven : Buffers
-  seven = lentBuffers (take 7 rows) table constants tags words program dataTags dataWords
+  seven = withRows (take 7 (b .rows)) b
 
-  pub whole-again : behind (drop 7 rows) seven ≡ whole
-  whole-again = rw (take-append-drop 7 rows)
+  pub whole-again : behind (drop 7 (b .rows)) seven ≡ b
+  whole-again = ap (λ (rows : List Row). withRows rows b) (take-append-drop 7 (b .rows))
 
   -- a state that is put into them
-  pub holding-behind : (s : State) → length (s .rows) ≤ length (take 7 rows) → behind (drop 7 rows) (holding s seven) ≡ holding s whole
+  pub holding-behind : (s : State) → length (s .rows) ≤ length (take 7 (b .rows)) → behind (drop 7 (b .rows)) (holding s seven) ≡ holding s b
   unfolding holding
   holding-behind s h =
-      let e : over (s .rows) (take 7 rows) ++ drop 7 rows ≡ over (s .rows) rows =
-      append-assoc (s .rows) (drop (length (s .rows)) (take 7 rows)) (drop 7 rows)
-      ∙ ap (λ (l : List Row). s .rows ++ l) (sym (drop-append-le (length (s .rows)) (take 7 rows) (drop 7 rows) h) ∙ ap (drop (length (s .rows))) (take-append-drop 7 rows)) in
+      let e : over (s .rows) (take 7 (b .rows)) ++ drop 7 (b .rows) ≡ over (s .rows) (b .rows) =
+      append-assoc (s .rows) (drop (length (s .rows)) (take 7 (b .rows))) (drop 7 (b .rows))
+      ∙ ap (λ (l : List Row). s .rows ++ l) (sym (drop-append-le (length (s .rows)) (take 7 (b .rows)) (drop 7 (b .rows)) h) ∙ ap (drop (length (s .rows))) (take-append-drop 7 (b .rows))) in
       rw e
 
   -- counts of at most seven rows
   module _ (n : Sizes) (few : n .rows ≤ 7) where
-    pub few-fits : fits n (roomOf seven) ≡ fits n (roomOf whole)
+    pub few-fits : fits n (roomOf seven) ≡ fits n (roomOf b)
     unfolding fits roomOf
-    few-fits = rw (length-take 7 rows, row-fits)
+    few-fits = rw (length-take 7 (b .rows), row-fits)
       where
-        row-fits : leb (n .rows) (min 7 (length rows)) ≡ leb (n .rows) (length rows)
-        row-fits = go (leb (n .rows) (length rows)) refl
+        row-fits : leb (n .rows) (min 7 (length (b .rows))) ≡ leb (n .rows) (length (b .rows))
+        row-fits = go (leb (n .rows) (length (b .rows))) refl
           where
-            go : (t : Bool) → leb (n .rows) (length rows) ≡ t → leb (n .rows) (min 7 (length rows)) ≡ t
-            go true e = le-leb (n .rows) (min 7 (length rows)) (omega (arith, few, leb-true (n .rows) (length rows) e))
-            go false e = lt-leb (n .rows) (min 7 (length rows)) (omega (arith, few, leb-false (n .rows) (length rows) e))
+            go : (t : Bool) → leb (n .rows) (length (b .rows)) ≡ t → leb (n .rows) (min 7 (length (b .rows))) ≡ t
+            go true e = le-leb (n .rows) (min 7 (length (b .rows))) (omega (arith, few, leb-true (n .rows) (length (b .rows)) e))
+            go false e = lt-leb (n .rows) (min 7 (length (b .rows))) (omega (arith, few, leb-false (n .rows) (length (b .rows)) e))
 
-    pub few-fields : fieldsIn n seven ≡ fieldsIn n whole
+    pub few-fields : fieldsIn n seven ≡ fieldsIn n b
     unfolding fieldsIn
-    few-fields = rw (take-take (n .rows) 7 rows few)
+    few-fields = rw (take-take (n .rows) 7 (b .rows) few)
 
-    few-state : stateRefusal n seven ≡ stateRefusal n whole
-    unfolding stateRefusal
-    few-state = rw (few-fits, few-fields)
+    few-state : stateRefusal n seven ≡ stateRefusal n b
+    few-state = refused-where n seven ∙ rw (few-fits, few-fields) (sym (refused-where n b))
 
   -- counts of more rows: 8
   module _ (n : Sizes) (many : 7 < n .rows) where
-    many-seven : stateRefusal n seven ≡ some UnsoundState
-    unfolding stateRefusal fits roomOf
-    many-seven = rw (length-take 7 rows, lt-leb (n .rows) (min 7 (length rows)) (omega (arith, many)))
+    many-unfit : fits n (roomOf seven) ≡ false
+    unfolding fits roomOf
+    many-unfit = rw (length-take 7 (b .rows), lt-leb (n .rows) (min 7 (length (b .rows))) (omega (arith, many)))
 
-    many-whole : stateRefusal n whole ≡ some UnsoundState
-    unfolding stateRefusal roomOf fieldsIn
-    many-whole = go (fits n (roomOf whole)) (sound (fieldsIn n whole)) refl refl
+    many-seven : stateRefusal n seven ≡ some UnsoundState
+    many-seven = refused-where n seven ∙ rw many-unfit refl
+
+    many-whole : stateRefusal n b ≡ some UnsoundState
+    unfolding roomOf fieldsIn
+    many-whole = refused-where n b ∙ go (fits n (roomOf b)) (sound (fieldsIn n b)) refl refl
       where
-        go : (t u : Bool) → fits n (roomOf whole) ≡ t → sound (fieldsIn n whole) ≡ u → cond (not t) (some UnsoundState) (cond (not u) (some UnsoundState) none) ≡ some UnsoundState
+        go : (t u : Bool) → fits n (roomOf b) ≡ t → sound (fieldsIn n b) ≡ u → cond (t && u) none (some UnsoundState) ≡ some UnsoundState
         go false u e f = refl
         go true false e f = refl
         go true true e f =
-            let h = fitting n (roomOf whole) e .rows in
-            let k = sound-few (fieldsIn n whole) f in
-            absurd (omega (arith, many, h, k, length-take-le (n .rows) rows h))
+            let h = fitting n (roomOf b) e .rows in
+            let k = sound-few (fieldsIn n b) f in
+            absurd (omega (arith, many, h, k, length-take-le (n .rows) (b .rows) h))
 
-  pub state-seven : (n : Sizes) → stateRefusal n seven ≡ stateRefusal n whole
+  pub state-seven : (n : Sizes) → stateRefusal n seven ≡ stateRefusal n b
   state-seven n = go (leb (n .rows) 7) refl
     where
-      go : (t : Bool) → leb (n .rows) 7 ≡ t → stateRefusal n seven ≡ stateRefusal n whole
+      go : (t : Bool) → leb (n .rows) 7 ≡ t → stateRefusal n seven ≡ stateRefusal n b
       go true e = few-state n (leb-true (n .rows) 7 e)
       go false e = many-seven n (leb-false (n .rows) 7 e) ∙ sym (many-whole n (leb-false (n .rows) 7 e))
 
   -- a state that isn't refused: its counts fit, its rows are at most seven
-  pub state-few : (n : Sizes) → stateRefusal n seven ≡ none → (n .rows ≤ 7) × (n .rows ≤ length (take 7 rows))
-  unfolding stateRefusal roomOf
-  state-few n e = go (fits n (roomOf seven)) refl e
+  pub state-few : (n : Sizes) → stateRefusal n seven ≡ none → (n .rows ≤ 7) × (n .rows ≤ length (take 7 (b .rows)))
+  unfolding roomOf
+  state-few n e = go (fits n (roomOf seven)) refl (sym (refused-where n seven) ∙ e)
     where
-      go : (t : Bool) → fits n (roomOf seven) ≡ t → cond (not t) (some UnsoundState) (cond (not (sound (fieldsIn n seven))) (some UnsoundState) none) ≡ none → (n .rows ≤ 7) × (n .rows ≤ length (take 7 rows))
+      go : (t : Bool) → fits n (roomOf seven) ≡ t → cond (t && sound (fieldsIn n seven)) none (some UnsoundState) ≡ none → (n .rows ≤ 7) × (n .rows ≤ length (take 7 (b .rows)))
       go false q h = let z : _≡_ {A = ℕ} 0 1 = cc in absurd (omega arith)
-      go true q h = let f = fitting n (roomOf seven) q .rows in (omega (arith, f, length-take 7 rows), f)
+      go true q h = let f = fitting n (roomOf seven) q .rows in (omega (arith, f, length-take 7 (b .rows)), f)

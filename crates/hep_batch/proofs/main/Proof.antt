@@ -1,3 +1,4 @@
+-- Skeleton and paths (.before ..) are generated: docs/PROOFS.md.
 use lib.Seq.{length-take-le}
 use lib.ListN.{length, length-replicate}
 use mathlib.Core.Path.{_≡_, sym, ap}
@@ -7,6 +8,7 @@ use native.Mathlib.Omega.{arith}
 use borrow.Author.Needs.{needs}
 use Rattle.hep_batch.proofs.main.Statement.{statement}
 use Rattle.hep_batch.proofs.main.Tie as tie
+use Rattle.report_text.specs.Texts.{reportRoom}
 
 slice-aggregate-read-full : tie.Need-slice-aggregate-read-full
 slice-aggregate-read-full c = search needs
@@ -32,13 +34,13 @@ batch-requires c κs = search needs
 array-share-prefix-out : tie.Need-array-share-prefix-out
 array-share-prefix-out c =
     let few = copied-fits _ _ _ (c .before .batch .ensures .0) in
-    omega (arith, few, ap length (c .before .before .before .before .output-buffer .ensures), length-replicate {A = ℕ} 512 0)
+    omega (arith, few, ap length (c .before .before .before .before .output-buffer .ensures), length-replicate {A = ℕ} reportRoom 0)
 
 slice-aggregate-write-all : tie.Need-slice-aggregate-write-all
 slice-aggregate-write-all c =
     let few = copied-fits _ _ _ (c .before .before .batch .ensures .0) in
-    let same : length (c .before .before .batch .last .1 .0) ≡ 512 = search needs in
-    sym (length-take-le (c .before .before .batch .result) (c .before .before .batch .last .1 .0) (omega (arith, few, ap length (c .before .before .before .before .before .output-buffer .ensures), length-replicate {A = ℕ} 512 0)))
+    let same : length (c .before .before .batch .last .1 .0) ≡ reportRoom = search needs in
+    sym (length-take-le (c .before .before .batch .result) (c .before .before .batch .last .1 .0) (omega (arith, few, ap length (c .before .before .before .before .before .output-buffer .ensures), length-replicate {A = ℕ} reportRoom 0)))
 
 write-all-requires : tie.Need-write-all-requires
 write-all-requires c κs = search needs

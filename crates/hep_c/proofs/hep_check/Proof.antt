@@ -1,3 +1,4 @@
+-- Skeleton and paths (.before ..) are generated: docs/PROOFS.md.
 -- `hep_c::hep_check` meets its contract: what the check finds is what decoding gives.
 use mathlib.Core.Path.{sym, _∙_}
 use Rattle.hep_c.specs.Laws.Numbers.{check-refused, check-fine}

@@ -1,3 +1,4 @@
+-- Skeleton and paths (.before ..) are generated: docs/PROOFS.md.
 -- `hep_c::hep_run` meets its contract: what the check refuses, else a run of the sound image.
 use mathlib.Core.Path.{sym, _∙_}
 use Rattle.hep_c.specs.Laws.Promised.{check-stays}

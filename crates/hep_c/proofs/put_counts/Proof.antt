@@ -1,3 +1,4 @@
+-- Skeleton and paths (.before ..) are generated: docs/PROOFS.md.
 -- `hep_c::put_counts` meets its contract.
 use Rattle.hep_c.specs.Answers.{countsListed}
 use borrow.Author.Needs.{needs}

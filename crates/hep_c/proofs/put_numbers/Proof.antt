@@ -1,3 +1,4 @@
+-- Skeleton and paths (.before ..) are generated: docs/PROOFS.md.
 -- `hep_c::put_numbers` meets its contract: by the laws of numbers placed one after another.
 use Prim.Native.Nat.{_-_}
 use native.Mathlib.Omega.{arith}

@@ -1,7 +1,7 @@
+-- Skeleton and paths (.before ..) are generated: docs/PROOFS.md.
 -- `hep_c::put_sizes` meets its contract.
 use mathlib.Core.Path.{refl}
 use Rattle.refusal.specs.Numbers.{numberOf}
-use Rattle.buffered.specs.Left.{sizesCounted}
 use Rattle.hep_c.specs.Answers.{sizesListed}
 use Rattle.hep_c.specs.Laws.Numbers.{put-short, put-all}
 use borrow.Author.Needs.{needs}
@@ -22,7 +22,7 @@ same-length : tie.Need-same-length
 same-length c = search needs
 
 returns-2 : tie.Need-returns-2
-unfolding sizesListed sizesCounted
+unfolding sizesListed
 returns-2 c = put-all (c .before .before .before .before .before .before .before .args .sizes .now) _ _ (c .before .before .before .before .before .if1 .left) (c .before .before .put-numbers .ensures)
 
 pub put-sizes-spec : {M : Type 1} → statement M

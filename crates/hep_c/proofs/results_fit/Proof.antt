@@ -1,3 +1,4 @@
+-- Skeleton and paths (.before ..) are generated: docs/PROOFS.md.
 -- `hep_c::results_fit` meets its contract: the tests that led to each return settle it.
 use Prim.Native.Nat.{_+_}
 use native.Mathlib.Omega.{arith}

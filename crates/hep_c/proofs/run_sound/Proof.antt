@@ -1,3 +1,4 @@
+-- Skeleton and paths (.before ..) are generated: docs/PROOFS.md.
 -- `hep_c::run_sound` meets its contract: refused where a number is found, else as the run leaves it.
 use mathlib.Core.Path.{sym, _∙_}
 use Rattle.hep_c.specs.Answers.{imageRunRefusal}
@@ -7,19 +8,16 @@ use borrow.Author.Needs.{needs}
 use Rattle.hep_c.proofs.run_sound.Statement.{statement}
 use Rattle.hep_c.proofs.run_sound.Tie as tie
 
-sizes-counted-requires : tie.Need-sizes-counted-requires
-sizes-counted-requires c κs = search needs
-
 lengths-number-requires : tie.Need-lengths-number-requires
 lengths-number-requires c κs = search needs
 
 returns : tie.Need-returns
 unfolding imageRunRefusal
-returns c = sound-refused _ _ _ _ _ (c .before .before .before .before .before .before .before .before .before .before .before .before .before .before .pre) (rw (← c .before .before .sizes-counted .ensures) (c .before .lengths-number .ensures)) (c .if1 .taken)
+returns c = sound-refused _ _ _ _ _ (c .before .before .before .before .before .before .before .before .before .before .before .before .before .pre) (c .before .lengths-number .ensures) (c .if1 .taken)
 
 run-accepted-requires : tie.Need-run-accepted-requires
 unfolding imageRunRefusal
-run-accepted-requires c κs = (c .before .before .before .before .before .before .before .before .before .before .before .before .before .before .before .before .before .before .before .before .before .before .before .pre, none-numbered _ (rw (← c .before .before .before .before .before .before .before .before .before .before .before .sizes-counted .ensures) (sym (c .before .before .before .before .before .before .before .before .before .before .lengths-number .ensures) ∙ c .before .before .before .before .before .before .before .before .before .if1 .left)))
+run-accepted-requires c κs = (c .before .before .before .before .before .before .before .before .before .before .before .before .before .before .before .before .before .before .before .before .before .before .pre, none-numbered _ (sym (c .before .before .before .before .before .before .before .before .before .before .lengths-number .ensures) ∙ c .before .before .before .before .before .before .before .before .before .if1 .left))
 
 same-length : tie.Need-same-length
 same-length c = search needs
@@ -50,13 +48,12 @@ same-length-9 c = search needs
 
 returns-2 : tie.Need-returns-2
 unfolding imageRunRefusal
-returns-2 c = sound-accepted _ _ _ _ _ (c .before .before .before .before .before .before .before .before .before .before .before .before .before .before .before .before .before .before .before .before .before .before .before .before .before .before .before .before .before .before .before .before .before .before .before .before .before .before .before .before .before .before .pre) (none-numbered _ (rw (← c .before .before .before .before .before .before .before .before .before .before .before .before .before .before .before .before .before .before .before .before .before .before .before .before .before .before .before .before .before .before .sizes-counted .ensures) (sym (c .before .before .before .before .before .before .before .before .before .before .before .before .before .before .before .before .before .before .before .before .before .before .before .before .before .before .before .before .before .lengths-number .ensures) ∙ c .before .before .before .before .before .before .before .before .before .before .before .before .before .before .before .before .before .before .before .before .before .before .before .before .before .before .before .before .if1 .left))) (c .before .before .before .before .before .before .before .before .before .before .before .before .before .before .before .before .before .before .run-accepted .ensures)
+returns-2 c = sound-accepted _ _ _ _ _ (c .before .before .before .before .before .before .before .before .before .before .before .before .before .before .before .before .before .before .before .before .before .before .before .before .before .before .before .before .before .before .before .before .before .before .before .before .before .before .before .before .before .pre) (none-numbered _ (sym (c .before .before .before .before .before .before .before .before .before .before .before .before .before .before .before .before .before .before .before .before .before .before .before .before .before .before .before .before .before .lengths-number .ensures) ∙ c .before .before .before .before .before .before .before .before .before .before .before .before .before .before .before .before .before .before .before .before .before .before .before .before .before .before .before .before .if1 .left)) (c .before .before .before .before .before .before .before .before .before .before .before .before .before .before .before .before .before .before .run-accepted .ensures)
 
 pub run-sound-spec : {M : Type 1} → statement M
 run-sound-spec =
     tie.close
     (tie.spec
-    sizes-counted-requires
     lengths-number-requires
     returns
     run-accepted-requires

@@ -1,4 +1,4 @@
--- The image after a run is at most 640 bytes longer than the one before it: rows and memories keep their lengths, and 64 processes have 10 bytes each.
+-- The image after a run is longer by at most `growth` bytes than the one before it: rows and memories keep their lengths, and 64 processes have 10 bytes each.
 use Prim.Native.Nat.{ℕ, _+_, _≤_}
 use mathlib.Core.Path.{_≡_, sym, ap, _∙_}
 use mathlib.Core.Bool.{true}
@@ -11,20 +11,16 @@ use Rattle.step.specs.Soundness.{sound}
 use Rattle.step.specs.Laws.Lengths.{SameLengths}
 use Rattle.image.specs.Image.{Image, good, cellsOf, memoryOf, stateOf, imageOf, decode, encode}
 use Rattle.image.specs.RoundTrips.{written-then-read}
-use Rattle.image_words.specs.Laws.Bytes.{cells-length}
-use Rattle.image_check.specs.Checked.{processesPlace, constantsPlace, registersPlace, programPlace, dataPlace, endPlace, countsOf, checkedOf}
-use Rattle.image_check.specs.Laws.Found.{Found, found}
-use Rattle.image_read.specs.Laws.Few.{found-few}
+use Rattle.image_bytes.specs.Laws.Bytes.{cells-length}
+use Rattle.library.specs.Buffers.{sizesOf}
+use Rattle.image_check.specs.Code.Places.{processesPlace, constantsPlace, registersPlace, programPlace, dataPlace, endPlace}
+use Rattle.image_read.specs.Laws.Few.{found-few, found-image}
 use Rattle.hep_c.specs.Answers.{growth}
 
--- an accepted image has as many bytes as its counts say, and at most 64 processes
-found-image : (s : List ℕ) (i : Image) → decode s ≡ good i → Found (countsOf i) s
-unfolding checkedOf
-found-image s i d = found s (countsOf i) (ap checkedOf d)
-
+-- an accepted image has as many bytes as its sizes say, and at most 64 processes
 pub grown : (bytes : List ℕ) (i : Image) (s : State) → decode bytes ≡ good i → sound s ≡ true → SameLengths s (stateOf i)
     → length (encode s) ≤ length bytes + growth
-unfolding countsOf imageOf stateOf memoryOf endPlace dataPlace programPlace registersPlace constantsPlace processesPlace
+unfolding sizesOf imageOf stateOf memoryOf endPlace dataPlace programPlace registersPlace constantsPlace processesPlace
 grown bytes i s d e k =
     let f = found-image bytes i d in
     let g = found-image (encode s) (imageOf s) (written-then-read s e) in
@@ -34,4 +30,4 @@ grown bytes i s d e k =
     let w : length (cellsOf (s .dataWords .tags) (s .dataWords .words)) ≡ length (i .dataWords) =
     cells-length (s .dataWords .tags) (s .dataWords .words) (k .dataTags ∙ length-map (i .dataWords) tagOf ∙ sym (k .dataWords ∙ length-map (i .dataWords) wordOf))
     ∙ k .dataWords ∙ length-map (i .dataWords) wordOf in
-    omega (arith, f .ends, g .ends, found-few (countsOf (imageOf s)) (encode s) g .1, r, w, k .rows, k .constants, k .program)
+    omega (arith, f .ends, g .ends, found-few (sizesOf (stateOf (imageOf s))) (encode s) g .1, r, w, k .rows, k .constants, k .program, length-map (i .registers) wordOf, length-map (i .dataWords) wordOf, length-map (cellsOf (s .registers .tags) (s .registers .words)) wordOf, length-map (cellsOf (s .dataWords .tags) (s .dataWords .words)) wordOf)

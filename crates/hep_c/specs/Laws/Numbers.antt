@@ -14,42 +14,39 @@ use Rattle.refusal.specs.Numbers.{numberOf}
 use Rattle.run.specs.Run.{Ran}
 use Rattle.image.specs.Image.{Image, Decoded, bad, good, stateOf}
 use Rattle.image.specs.Fields.{over}
-use Rattle.image_check.specs.declared.Counted.{Counted}
-use Rattle.image_check.specs.declared.Checked.the-variants.{Refused, Sound}
-use Rattle.image_check.specs.Checked.{countsOf, checkedOf}
-use Rattle.calls.specs.declared.Sizes.{Sizes}
-use Rattle.calls.specs.Buffers.{sizesOf}
-use Rattle.calls.specs.Calls.{refuses, answers, unless}
-use Rattle.buffered.specs.Left.{sizesCounted}
-use Rattle.buffered.specs.Laws.Read.{image-sizes}
-use Rattle.calls.specs.Trials.{numbered}
-use Rattle.hep_c.specs.Answers.{numberAnswered, checkAnswer, sizesListed, listedAnswer, sizesAnswer, sizesLeft, Slices, imageRunLeft}
+use Rattle.library.specs.declared.Sizes.{Sizes}
+use Rattle.library.specs.declared.ReadAnswer.the-variants.{Refused, Read}
+use Rattle.library.specs.Buffers.{sizesOf}
+use Rattle.library.specs.Calls.{refuses, answers, unless, checkAnswer}
+use Rattle.library.specs.Promises.{readAnswered}
+use Rattle.library.specs.Trials.{numbered}
+use Rattle.hep_c.specs.Answers.{numberAnswered, sizesListed, listedAnswer, sizesAnswer, sizesLeft, Slices, imageRunLeft}
 
 -- ---- what a check finds
 
-pub found-bad : (d : Decoded) (e : Refusal) → checkedOf d ≡ Refused e → d ≡ bad e
-unfolding checkedOf
+pub found-bad : (d : Decoded) (e : Refusal) → readAnswered (checkAnswer d) ≡ Refused e → d ≡ bad e
+unfolding checkAnswer readAnswered
 found-bad (bad x) e h = let q : x ≡ e = cc in ap bad q
 found-bad (good i) e h = let z : _≡_ {A = ℕ} 0 1 = cc in absurd (omega arith)
 
--- an image whose state has these counts
-pub record FoundGood (d : Decoded) (z : Counted) : Type 0 where
+-- an image whose state has these sizes
+pub record FoundGood (d : Decoded) (z : Sizes) : Type 0 where
   pub image : Image
   pub is : d ≡ good image
-  pub sizes : sizesOf (stateOf image) ≡ sizesCounted z
+  pub sizes : sizesOf (stateOf image) ≡ z
 
-pub found-good : (d : Decoded) (z : Counted) → checkedOf d ≡ Sound z → FoundGood d z
-unfolding checkedOf
+pub found-good : (d : Decoded) (z : Sizes) → readAnswered (checkAnswer d) ≡ Read z → FoundGood d z
+unfolding checkAnswer readAnswered
 found-good (bad x) z h = let n : _≡_ {A = ℕ} 0 1 = cc in absurd (omega arith)
-found-good (good i) z h = let q : countsOf i ≡ z = cc in record { image = i; is = refl; sizes = image-sizes i ∙ ap sizesCounted q }
+found-good (good i) z h = let q : sizesOf (stateOf i) ≡ z = cc in record { image = i; is = refl; sizes = q }
 
 -- ---- the numbers
 
-pub check-refused : (d : Decoded) (e : Refusal) → checkedOf d ≡ Refused e → numberOf e ≡ numberAnswered (checkAnswer d)
+pub check-refused : (d : Decoded) (e : Refusal) → readAnswered (checkAnswer d) ≡ Refused e → numberOf e ≡ numberAnswered (checkAnswer d)
 unfolding checkAnswer numberAnswered
 check-refused d e h = rw (found-bad d e h)
 
-pub check-fine : (d : Decoded) (z : Counted) → checkedOf d ≡ Sound z → 0 ≡ numberAnswered (checkAnswer d)
+pub check-fine : (d : Decoded) (z : Sizes) → readAnswered (checkAnswer d) ≡ Read z → 0 ≡ numberAnswered (checkAnswer d)
 unfolding checkAnswer numberAnswered
 check-fine d z h = rw (found-good d z h .is)
 
@@ -107,13 +104,13 @@ module _ (sizes : List ℕ) where
   unfolding numberAnswered sizesLeft
   put-all n out h k = rw (sizes-fit (length sizes) n h) (refl, k)
 
-  pub sizes-refused : (d : Decoded) (e : Refusal) (r : ℕ) → checkedOf d ≡ Refused e → r ≡ numberOf e
+  pub sizes-refused : (d : Decoded) (e : Refusal) (r : ℕ) → readAnswered (checkAnswer d) ≡ Refused e → r ≡ numberOf e
       → (r ≡ numberAnswered (sizesAnswer (length sizes) d)) × (sizes ≡ sizesLeft (sizesAnswer (length sizes) d) sizes)
   unfolding sizesAnswer numberAnswered sizesLeft
   sizes-refused d e r h k = rw (found-bad d e h) (k, refl)
 
-  pub sizes-found : (d : Decoded) (z : Counted) (r : ℕ) (out : List ℕ) → checkedOf d ≡ Sound z
-      → (r ≡ numberAnswered (listedAnswer (length sizes) (sizesCounted z))) × (out ≡ sizesLeft (listedAnswer (length sizes) (sizesCounted z)) sizes)
+  pub sizes-found : (d : Decoded) (z : Sizes) (r : ℕ) (out : List ℕ) → readAnswered (checkAnswer d) ≡ Read z
+      → (r ≡ numberAnswered (listedAnswer (length sizes) z)) × (out ≡ sizesLeft (listedAnswer (length sizes) z) sizes)
       → (r ≡ numberAnswered (sizesAnswer (length sizes) d)) × (out ≡ sizesLeft (sizesAnswer (length sizes) d) sizes)
   unfolding sizesAnswer
   sizes-found d z r out h k = let f = found-good d z h in rw (f .is, f .sizes) k

@@ -8,36 +8,34 @@ use Rattle.refusal.specs.declared.Refusal.{Refusal}
 use Rattle.refusal.specs.Numbers.{numberOf}
 use Rattle.run.specs.Run.{Ran, run}
 use Rattle.image.specs.Image.{Image, Decoded, good, stateOf, decode}
-use Rattle.image_check.specs.declared.Counted.{Counted}
-use Rattle.image_check.specs.declared.Checked.the-variants.{Refused, Sound}
-use Rattle.image_check.specs.Checked.{checkedOf}
-use Rattle.calls.specs.declared.Sizes.{Sizes}
-use Rattle.calls.specs.Buffers.{sizesOf}
-use Rattle.calls.specs.Calls.{Answer, answers, unless}
-use Rattle.calls.specs.Trials.{numbered}
-use Rattle.buffered.specs.Left.{sizesCounted}
+use Rattle.library.specs.declared.Sizes.{Sizes}
+use Rattle.library.specs.declared.ReadAnswer.the-variants.{Refused, Read}
+use Rattle.library.specs.Buffers.{sizesOf}
+use Rattle.library.specs.Calls.{Answer, answers, unless, checkAnswer}
+use Rattle.library.specs.Promises.{readAnswered}
+use Rattle.library.specs.Trials.{numbered}
 use Rattle.hep_c.specs.Answers.{numberAnswered, Slices, imageRunRefusal, imageRunAnswer, imageRunLeft, ImageRunPromise}
 use Rattle.hep_c.specs.Laws.Fitting.{accepted}
 use Rattle.hep_c.specs.Laws.Numbers.{found-bad, found-good, numbered-unless, refused-stays}
 
 module _ (image schedule : List ℕ) (l : Slices) where
   -- 1 to 6
-  pub check-stays : (e : Refusal) (r : ℕ) → checkedOf (decode image) ≡ Refused e → r ≡ numberOf e → ImageRunPromise image schedule l r l
+  pub check-stays : (e : Refusal) (r : ℕ) → readAnswered (checkAnswer (decode image)) ≡ Refused e → r ≡ numberOf e → ImageRunPromise image schedule l r l
   unfolding imageRunAnswer imageRunLeft numberAnswered
   check-stays e r h k = let q = found-bad (decode image) e h in record { answer = rw q k; leaves = rw q }
 
-  -- where the check finds counts
-  answered : (z : Counted) (d : Decoded) (i : Image) → d ≡ good i → sizesOf (stateOf i) ≡ sizesCounted z
-      → imageRunAnswer image schedule l d ≡ unless (imageRunRefusal image schedule (sizesCounted z) l) (run schedule (stateOf i))
+  -- where the check finds sizes
+  answered : (z : Sizes) (d : Decoded) (i : Image) → d ≡ good i → sizesOf (stateOf i) ≡ z
+      → imageRunAnswer image schedule l d ≡ unless (imageRunRefusal image schedule z l) (run schedule (stateOf i))
   unfolding imageRunAnswer
   answered z d i e k = rw (e, k)
 
   -- 7, 9 and 10
-  pub sound-refused : (z : Counted) (r : ℕ) → checkedOf (decode image) ≡ Sound z → r ≡ numbered (imageRunRefusal image schedule (sizesCounted z) l)
+  pub sound-refused : (z : Sizes) (r : ℕ) → readAnswered (checkAnswer (decode image)) ≡ Read z → r ≡ numbered (imageRunRefusal image schedule z l)
       → (r ≡ 0 → ⊥) → ImageRunPromise image schedule l r l
   sound-refused z r h k n =
       let f = found-good (decode image) z h in
-      let refusal : Option Refusal = imageRunRefusal image schedule (sizesCounted z) l in
+      let refusal : Option Refusal = imageRunRefusal image schedule z l in
       let ran : Ran = run schedule (stateOf (f .image)) in
       let a = sym (answered z (decode image) (f .image) (f .is) (f .sizes)) in
       record {
@@ -45,7 +43,7 @@ module _ (image schedule : List ℕ) (l : Slices) where
         leaves = refused-stays refusal ran l (λ e. n (k ∙ e)) ∙ ap (λ (x : Answer Ran). imageRunLeft x l) a;
       }
 
-  pub sound-accepted : (z : Counted) (after : Slices) → checkedOf (decode image) ≡ Sound z → imageRunRefusal image schedule (sizesCounted z) l ≡ none
+  pub sound-accepted : (z : Sizes) (after : Slices) → readAnswered (checkAnswer (decode image)) ≡ Read z → imageRunRefusal image schedule z l ≡ none
       → after ≡ imageRunLeft (imageRunAnswer image schedule l (decode image)) l → ImageRunPromise image schedule l 0 after
   unfolding unless numberAnswered
   sound-accepted z after h e k =

@@ -1,35 +1,35 @@
 -- What a run leaves in every lent slice, from what each of its calls promises.
 use Prim.Native.Nat.{ℕ, _+_, _≤_}
-use mathlib.Core.Path.{_≡_, ap, _∙_, subst}
+use mathlib.Core.Path.{_≡_, ap, _∙_}
 use mathlib.Core.Bool.{true}
 use mathlib.Core.Option.{none}
 use mathlib.Core.List.{List, _++_}
 use native.Mathlib.Omega.{arith}
 use lib.ListN.{length, take}
-use lib.Seq.{take-all}
 use borrow.Author.Tests.{le-ltb}
 use Rattle.window.specs.declared.Row.{Row}
 use Rattle.step.specs.declared.ProcessTable.{ProcessTable}
 use Rattle.step.specs.State.{State}
 use Rattle.run.specs.declared.Counts.{Counts}
 use Rattle.run.specs.Run.{Ran, run}
-use Rattle.runner.specs.declared.RunAnswer.{RunAnswer}
+use Rattle.library.specs.declared.RunAnswer.{RunAnswer}
 use Rattle.image.specs.Codec.{Bytes}
 use Rattle.image.specs.Image.{Image, good, stateOf, decode, encode}
 use Rattle.image.specs.Fields.{over}
-use Rattle.image_write.specs.declared.Writing.{Writing}
-use Rattle.image_write.specs.Writing.{lengthWritten}
-use Rattle.calls.specs.declared.Sizes.{Sizes}
-use Rattle.calls.specs.Buffers.{Buffers, Room, roomOf, fits, sizesOf, fieldsIn, holding}
-use Rattle.calls.specs.Calls.{answers, unless}
-use Rattle.buffered.specs.declared.SizesRead.{SizesRead}
-use Rattle.buffered.specs.Held.{lentBuffers, roomFrom, heldRows}
-use Rattle.buffered.specs.Promises.{ReadPromise, RunPromise, WritePromise}
+use Rattle.library.specs.declared.WriteAnswer.{WriteAnswer}
+use Rattle.image_write.specs.Code.Lengths.{lengthWritten}
+use Rattle.library.specs.declared.Sizes.{Sizes}
+use Rattle.library.specs.Buffers.{Buffers, roomOf, fits, sizesOf, fieldsIn, holding}
+use Rattle.library.specs.Calls.{answers, unless}
+use Rattle.library.specs.declared.ReadAnswer.{ReadAnswer}
+use Rattle.library.specs.Held.{lentBuffers, roomFrom}
+use Rattle.library.specs.Promises.{ReadPromise, RunPromise, WritePromise}
 use Rattle.report.specs.Report.{rowLines, countsLine, reportOf}
-use Rattle.reporting.specs.Texts.{copiedInto}
+use Rattle.report_text.specs.Texts.{copiedInto, reportRoom}
 use Rattle.hep_c.specs.Answers.{Slices, slices, imageRunRefusal, imageRunAnswer, countsListed, imageRunLeft, countsAnswered}
 use Rattle.hep_c.specs.Laws.Fitting.{Accepted, accepted}
-use Rattle.hep_c.specs.Laws.Runs.{counted, fields₂, held₂, room₂, wrote, image-written}
+use Rattle.hep_c.specs.Laws.Runs.{counted, fields₂, held₂, wrote, image-written}
+use Rattle.window.specs.Limits.{tasks}
 
 -- a copy of a text that has room
 copied-over : (text report : List ℕ) → length text ≤ length report → copiedInto text report ≡ over text report
@@ -49,7 +49,7 @@ module _ (image schedule : List ℕ) (i : Image) (n : Sizes) (bytes : Bytes imag
   abbrev buffers₀ : Buffers
   buffers₀ = lentBuffers rows t₀ constants tags words program dataTags dataWords
 
-  taken : Accepted schedule n (roomFrom 7 (length constants) (length tags) (length words) (length program) (length dataTags) (length dataWords)) (length image) (length output) (length counts) (length report)
+  taken : Accepted schedule n (roomFrom tasks (length constants) (length tags) (length words) (length program) (length dataTags) (length dataWords)) (length image) (length output) (length counts) (length report)
   unfolding imageRunRefusal
   taken = accepted schedule n _ (length image) (length output) (length counts) (length report) fine
 
@@ -63,7 +63,7 @@ module _ (image schedule : List ℕ) (i : Image) (n : Sizes) (bytes : Bytes imag
 
   -- after the reading, and after the run
   module _ (rows₁ rows₂ : List Row) (t₁ t₂ : ProcessTable) (constants₁ tags₁ words₁ program₁ dataTags₁ dataWords₁ tags₂ words₂ dataTags₂ dataWords₂ : List ℕ)
-      (x : SizesRead) (reads : ReadPromise buffers₀ image x (lentBuffers rows₁ t₁ constants₁ tags₁ words₁ program₁ dataTags₁ dataWords₁))
+      (x : ReadAnswer) (reads : ReadPromise buffers₀ image x (lentBuffers rows₁ t₁ constants₁ tags₁ words₁ program₁ dataTags₁ dataWords₁))
       (y : RunAnswer) (runs : RunPromise n (lentBuffers rows₁ t₁ constants₁ tags₁ words₁ program₁ dataTags₁ dataWords₁) schedule y (lentBuffers rows₂ t₂ constants₁ tags₂ words₂ program₁ dataTags₂ dataWords₂)) where
     abbrev buffers₁ : Buffers
     buffers₁ = lentBuffers rows₁ t₁ constants₁ tags₁ words₁ program₁ dataTags₁ dataWords₁
@@ -86,25 +86,15 @@ module _ (image schedule : List ℕ) (i : Image) (n : Sizes) (bytes : Bytes imag
     unfolding fieldsIn
     rows-are = ap (λ (s : State). s .rows) (fields₂ image schedule i n bytes d sizes buffers₀ buffers₁ buffers₂ fit₀ (taken .schedule-taken) x reads y runs)
 
-    -- there are seven rows still
-    rows-held : heldRows (record { at = rows₂; n = 7 }) ≡ rows₂
-    unfolding heldRows roomOf
-    rows-held =
-        let k : length rows₂ ≡ 7 = ap (λ (r : Room). r .rows) (room₂ image schedule i n bytes d sizes buffers₀ buffers₁ buffers₂ fit₀ (taken .schedule-taken) x reads y runs) ∙ seven in
-        take-all 7 rows₂ (omega (arith, k))
-
     -- the report of the state after the run
     pub report-is : (c : Counts) → c ≡ countsAnswered y → rowLines t₂ (take (n .rows) rows₂) ++ countsLine c (t₂ .flag) ≡ reportOf ran
     unfolding reportOf
     report-is c e = rw (e, counts-are, table-is, rows-are)
 
-    module _ (w : Writing) (output₂ : List ℕ) (writes₀ : WritePromise n (lentBuffers (heldRows (record { at = rows₂; n = 7 })) t₂ constants₁ tags₂ words₂ program₁ dataTags₂ dataWords₂) w output output₂)
+    module _ (w : WriteAnswer) (output₂ : List ℕ) (writes : WritePromise n buffers₂ w output output₂)
         (c : Counts) (c-is : c ≡ countsAnswered y) (k : ℕ) (k-is : k ≡ lengthWritten w)
-        (text : List ℕ) (text-is : text ≡ rowLines t₂ (take (n .rows) rows₂) ++ countsLine c (t₂ .flag)) (m : ℕ) (m-is : m ≡ length text) (short : m ≤ 512)
+        (text : List ℕ) (text-is : text ≡ rowLines t₂ (take (n .rows) rows₂) ++ countsLine c (t₂ .flag)) (m : ℕ) (m-is : m ≡ length text) (short : m ≤ reportRoom)
         (report₂ : List ℕ) (copied : report₂ ≡ copiedInto text report) (counts₂ : List ℕ) (put : counts₂ ≡ over (countsListed c k m) counts) where
-      writes : WritePromise n buffers₂ w output output₂
-      writes = subst (λ (r : List Row). WritePromise n (lentBuffers r t₂ constants₁ tags₂ words₂ program₁ dataTags₂ dataWords₂) w output output₂) rows-held writes₀
-
       shown-is : text ≡ reportOf ran
       shown-is = text-is ∙ report-is c c-is
 

@@ -14,21 +14,21 @@ use Rattle.run.specs.Run.{run}
 use Rattle.run.specs.Laws.Run.{run-lengths}
 use Rattle.run.specs.Kept.{run-keeps-sound}
 use Rattle.run.specs.Schedule.{scheduleRefusal}
-use Rattle.runner.specs.declared.RunAnswer.{RunAnswer}
-use Rattle.runner.specs.declared.RunAnswer.the-variants.{Counted}
+use Rattle.library.specs.declared.RunAnswer.{RunAnswer}
+use Rattle.library.specs.declared.RunAnswer.the-variants.{Counted}
 use Rattle.image.specs.Codec.{Bytes}
 use Rattle.image.specs.Image.{Image, good, stateOf, decode, encode}
 use Rattle.image.specs.Fields.{over}
 use Rattle.image.specs.RoundTrips.{reads-only-sound}
-use Rattle.image_write.specs.declared.Writing.{Writing}
-use Rattle.image_write.specs.declared.Writing.the-variants.{Wrote}
-use Rattle.calls.specs.declared.Sizes.{Sizes}
-use Rattle.calls.specs.Buffers.{Buffers, roomOf, fits, sizesOf, fieldsIn, holding}
-use Rattle.calls.specs.Calls.{unless, leaving, orElse, decodedRefusal, readRefusal, readLeaves, stateRefusal, runRefusal, runAnswer, runLeaves, outputRefusal, writeRefusal, writeAnswer, writeLeaves}
-use Rattle.calls.specs.InPlace.{read-in-place, run-in-place}
-use Rattle.calls.specs.Laws.InPlace.{Sized, held-by-read, read-sized, lengths-sized}
-use Rattle.buffered.specs.declared.SizesRead.{SizesRead}
-use Rattle.buffered.specs.Promises.{ReadPromise, runAnswered, RunPromise, writeAnswered, WritePromise}
+use Rattle.library.specs.declared.WriteAnswer.{WriteAnswer}
+use Rattle.library.specs.declared.WriteAnswer.the-variants.{Wrote}
+use Rattle.library.specs.declared.Sizes.{Sizes}
+use Rattle.library.specs.Buffers.{Buffers, roomOf, fits, sizesOf, fieldsIn, holding}
+use Rattle.library.specs.Calls.{unless, leaving, orElse, decodedRefusal, readRefusal, readLeaves, stateRefused, stateRefusal, runRefusal, runAnswer, runLeaves, outputRefusal, writeRefusal, writeAnswer, writeLeaves}
+use Rattle.library.specs.InPlace.{read-in-place, run-in-place}
+use Rattle.library.specs.Laws.InPlace.{Sized, held-by-read, read-sized, lengths-sized}
+use Rattle.library.specs.declared.ReadAnswer.{ReadAnswer}
+use Rattle.library.specs.Promises.{ReadPromise, runAnswered, RunPromise, writeAnswered, WritePromise}
 use Rattle.batch.specs.Laws.Room.{room-kept}
 use Rattle.hep_c.specs.Answers.{growth}
 use Rattle.hep_c.specs.Laws.Grown.{grown}
@@ -57,14 +57,14 @@ held-twice n s t b z y =
 
 -- a sound state that fits isn't refused
 state-fine : (n : Sizes) (b : Buffers) → fits n (roomOf b) ≡ true → sound (fieldsIn n b) ≡ true → stateRefusal n b ≡ none
-unfolding stateRefusal
+unfolding stateRefusal stateRefused
 state-fine n b f s = rw (f, s)
 
 -- ---- the three calls
 
 module _ (image schedule : List ℕ) (i : Image) (n : Sizes) (bytes : Bytes image) (d : decode image ≡ good i) (sizes : sizesOf (stateOf i) ≡ n)
     (b₀ b₁ b₂ : Buffers) (fit : fits n (roomOf b₀) ≡ true) (fine : scheduleRefusal schedule ≡ none)
-    (x : SizesRead) (reads : ReadPromise b₀ image x b₁) (y : RunAnswer) (runs : RunPromise n b₁ schedule y b₂) where
+    (x : ReadAnswer) (reads : ReadPromise b₀ image x b₁) (y : RunAnswer) (runs : RunPromise n b₁ schedule y b₂) where
   abbrev after : State
   after = run schedule (stateOf i) .state
 
@@ -120,7 +120,7 @@ module _ (image schedule : List ℕ) (i : Image) (n : Sizes) (bytes : Bytes imag
       let g : length (encode after) ≤ k = omega (arith, grown image i after d after-sound (run-lengths schedule (stateOf i))) in
       rw (state-fine n b₂ (ap (fits n) room₂ ∙ fit) (ap sound fields₂ ∙ after-sound), fields₂, le-ltb k (length (encode after)) g)
 
-  module _ (before written : List ℕ) (w : Writing) (roomy : length image + growth ≤ length before) (writes : WritePromise n b₂ w before written) where
+  module _ (before written : List ℕ) (w : WriteAnswer) (roomy : length image + growth ≤ length before) (writes : WritePromise n b₂ w before written) where
     pub wrote : w ≡ Wrote (length (encode after))
     unfolding writeAnswered writeAnswer unless
     wrote = writes .answer ∙ rw (write-fine (length before) roomy, fields₂)

@@ -6,7 +6,7 @@ use mathlib.Core.List.{List, [], _∷_, map, append-nil}
 use native.Mathlib.Omega.{arith}
 use lib.ListN.{length}
 use Rattle.word.specs.Laws.Conjunctions.{also, both}
-use Rattle.step.specs.Soundness.{distinct, windowsSound, roomSound}
+use Rattle.step.specs.Soundness.{distinct, windowsSound, totalSound}
 use Rattle.refusal.specs.declared.Refusal.the-variants.{WindowPastMemory, ProcessesClash}
 use Rattle.image.specs.Codec.{Bytes, Result, refused, accepted}
 use Rattle.image.specs.Image.{Image, good, bad, ptOf, afterSections, decode, imageCodec}
@@ -17,7 +17,7 @@ use Rattle.image.specs.Laws.Passed.{PassedImage, image-passes, passes-im
 pub record PassedAfter (i : Image) : Type 0 where
   pub windows : windowsSound (length (i .registers)) (length (i .program)) (length (i .dataWords)) (i .rows) ≡ true
   pub once : distinct (map ptOf (i .processes)) ≡ true
-  pub room : roomSound (length (i .processes)) (i .flag) ≡ true
+  pub room : totalSound (length (i .processes)) (i .flag) ≡ true
 
 -- what is read leaves nothing and passes these tests
 pub after-good : (x : Result Image) (i : Image) → afterSections x ≡ good i → (x ≡ accepted i []) × PassedAfter i
@@ -27,7 +27,7 @@ after-good (accepted j (x ∷ r)) i h = let z : _≡_ {A = ℕ} 0 1 = cc in absu
 after-good (accepted j []) i h = go _ _ refl refl h
   where
     go : (w p : Bool) → windowsSound (length (j .registers)) (length (j .program)) (length (j .dataWords)) (j .rows) ≡ w
-        → distinct (map ptOf (j .processes)) && roomSound (length (j .processes)) (j .flag) ≡ p
+        → distinct (map ptOf (j .processes)) && totalSound (length (j .processes)) (j .flag) ≡ p
         → cond (not w) (bad WindowPastMemory) (cond (not p) (bad ProcessesClash) (good j)) ≡ good i → (accepted j [] ≡ accepted i []) × PassedAfter i
     go false p a b k = let z : _≡_ {A = ℕ} 0 1 = cc in absurd (omega arith)
     go true false a b k = let z : _≡_ {A = ℕ} 0 1 = cc in absurd (omega arith)
@@ -39,7 +39,7 @@ after-good (accepted j []) i h = go _ _ refl refl h
 good-after : (i : Image) → PassedAfter i → afterSections (accepted i []) ≡ good i
 unfolding afterSections
 good-after i p =
-    let b : distinct (map ptOf (i .processes)) && roomSound (length (i .processes)) (i .flag) ≡ true = also (p .once) (p .room) in
+    let b : distinct (map ptOf (i .processes)) && totalSound (length (i .processes)) (i .flag) ≡ true = also (p .once) (p .room) in
     rw (p .windows, b)
 
 -- an image that passes every test

@@ -14,7 +14,7 @@ use Rattle.word.specs.Laws.Conjunctions.{also, both}
 use Rattle.step.specs.declared.Queue.{Queue}
 use Rattle.step.specs.Queues.{listOf, livePts}
 use Rattle.step.specs.State.{State, pswsOf}
-use Rattle.step.specs.Soundness.{every, distinct, hasRow, queueShaped, queuesSound, ptSound, roomSound, memorySound, windowsSound, sound}
+use Rattle.step.specs.Soundness.{every, distinct, hasRow, queueShaped, queuesSound, ptSound, totalSound, memorySound, windowsSound, sound}
 use Rattle.window.specs.Sound.{tagSound, stateSound}
 use Rattle.word.specs.Fields.{pswSound}
 use Rattle.step.specs.Laws.Occurrences.{length-once}
@@ -191,7 +191,7 @@ sound-accepted s e =
       after = record {
         windows = windows-same s h ∙ p .windows;
         once = ap distinct (pts-from psw 1 qs) ∙ p .table .once;
-        room = ap (λ (n : ℕ). roomSound n (s .table .flag)) (length-from psw 1 qs) ∙ p .table .room;
+        room = ap (λ (n : ℕ). totalSound n (s .table .flag)) (length-from psw 1 qs) ∙ p .table .room;
       };
     }
 
@@ -212,7 +212,7 @@ accepted-sound s h a =
         small = ap (every ptSound) (sym (pts-from psw 1 qs)) ∙ i .processes .pts;
         psws = ap (every pswSound) (sym (psws-from psw 1 qs)) ∙ i .processes .psws;
         flag = i .processes .flag;
-        room = ap (λ (n : ℕ). roomSound n (s .table .flag)) (sym (length-from psw 1 qs)) ∙ a .after .room;
+        room = ap (λ (n : ℕ). totalSound n (s .table .flag)) (sym (length-from psw 1 qs)) ∙ a .after .room;
       };
       memories = record {
         constants = i .constants;

@@ -1,7 +1,8 @@
+-- Skeleton and paths (.before ..) are generated: docs/PROOFS.md.
 -- `image_check::check` meets its contract: the sections one after the other, and then the tests behind them.
 use mathlib.Core.Path.{_∙_}
-use Rattle.image_words.specs.Reading.{numberAt}
-use Rattle.image_words.specs.Scanning.{tagTest}
+use Rattle.image_bytes.specs.Code.Reading.{numberAt}
+use Rattle.image_bytes.specs.Code.Scanning.{tagTest}
 use Rattle.image_check.proofs.Chains.{image-scan}
 use Rattle.image_check.proofs.Ends.{refused-image, ended-image}
 use borrow.Author.Needs.{needs}
@@ -51,7 +52,7 @@ returns c =
     let check-words2 = c .before .before .before .before .check-words2 in
     let check-cells2 = c .before .before .before .check-cells2 in
     let at = c .before .c in
-    let s = args .s .now in
+    let s = args .image .now in
     let e = image-scan s (check-tasks .ensures) (rw (number-at .ensures .0) at (check-processes .ensures)) (check-words .ensures)
     (check-cells .ensures) (check-words2 .ensures) (check-cells2 .ensures) in
     refused-image s (e ∙ at .given .1)
@@ -68,7 +69,7 @@ returns-2 c =
     let check-words2 = c .before .before .before .before .before .check-words2 in
     let check-cells2 = c .before .before .before .before .check-cells2 in
     let at = c .before .before .c2 in
-    let s = args .s .now in
+    let s = args .image .now in
     let e = image-scan s (check-tasks .ensures) (rw (number-at .ensures .0) at (check-processes .ensures)) (check-words .ensures)
     (check-cells .ensures) (check-words2 .ensures) (check-cells2 .ensures) in
     c .check-end .ensures ∙ ended-image s (e ∙ at .given .1)

@@ -1,7 +1,8 @@
+-- Skeleton and paths (.before ..) are generated: docs/PROOFS.md.
 -- `image_check::check_below` meets its contract: a number is good by its value.
 use mathlib.Core.Path.{refl, sym}
 use lib.Dec.{ltb}
-use Rattle.image_words.specs.Laws.Scans.{number-scan}
+use Rattle.image_bytes.specs.Laws.Scans.{number-scan}
 use borrow.Author.Needs.{needs}
 use Rattle.image_check.proofs.check_below.Statement.{statement}
 use Rattle.image_check.proofs.check_below.Tie as tie

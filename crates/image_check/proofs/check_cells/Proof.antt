@@ -1,9 +1,10 @@
+-- Skeleton and paths (.before ..) are generated: docs/PROOFS.md.
 -- `image_check::check_cells` meets its contract: the count, and as many cells.
 use mathlib.Core.Path.{refl, sym, _∙_}
 use Rattle.image.specs.Codec.{noState, uniformSection}
 use Rattle.image.specs.Image.{cellCodec, cellsCodec}
-use Rattle.image_words.specs.Scanning.{tagTest}
-use Rattle.image_words.specs.Laws.Scans.{listSection-scan}
+use Rattle.image_bytes.specs.Code.Scanning.{tagTest}
+use Rattle.image_bytes.specs.Laws.Scans.{listSection-scan}
 use borrow.Author.Needs.{needs}
 use Rattle.image_check.proofs.check_cells.Statement.{statement}
 use Rattle.image_check.proofs.check_cells.Tie as tie

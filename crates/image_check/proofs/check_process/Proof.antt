@@ -1,3 +1,4 @@
+-- Skeleton and paths (.before ..) are generated: docs/PROOFS.md.
 -- `image_check::check_process` meets its contract: its three fields, one after the other.
 use mathlib.Core.Path.{sym, _∙_}
 use mathlib.Core.Bool.{_&&_}
@@ -6,9 +7,9 @@ use Rattle.word.specs.Fields.{pswSound}
 use Rattle.refusal.specs.declared.Refusal.the-variants.{ProcessField}
 use Rattle.step.specs.Soundness.{ptSound, hasRow}
 use Rattle.image.specs.Image.{processCodec, toProcess, fromProcess}
-use Rattle.image_words.specs.Laws.Spans.{num-spans}
-use Rattle.image_words.specs.Laws.Scans.{number-scan, field-scan, then-scan, via-scan}
-use Rattle.image_check.specs.Checked.{rowsAt}
+use Rattle.image_bytes.specs.Laws.Spans.{num-spans}
+use Rattle.image_bytes.specs.Laws.Scans.{number-scan, field-scan, then-scan, via-scan}
+use Rattle.image_check.specs.Code.Places.{rowsAt}
 use borrow.Author.Needs.{needs}
 use native.Mathlib.Omega.{arith}
 use Rattle.image_check.proofs.check_process.Statement.{statement}

@@ -1,13 +1,14 @@
+-- Skeleton and paths (.before ..) are generated: docs/PROOFS.md.
 -- `image_check::check_processes` meets its contract: the count, the flag, and as many processes.
 use mathlib.Core.Path.{refl, sym, ap, _∙_}
 use Rattle.refusal.specs.declared.Refusal.the-variants.{ProcessField}
 use Rattle.step.specs.Soundness.{flagSound}
 use Rattle.image.specs.Codec.{decMany}
 use Rattle.image.specs.Image.{processCodec, processTask, processesCodec}
-use Rattle.image_words.specs.Scanning.{scan}
-use Rattle.image_words.specs.Laws.Spans.{num-spans}
-use Rattle.image_words.specs.Laws.Scans.{within, number-scan, section-scan}
-use Rattle.image_check.specs.Checked.{rowsAt}
+use Rattle.image_bytes.specs.Code.Scanning.{scan}
+use Rattle.image_bytes.specs.Laws.Spans.{num-spans}
+use Rattle.image_bytes.specs.Laws.Scans.{within, number-scan, section-scan}
+use Rattle.image_check.specs.Code.Places.{rowsAt}
 use borrow.Author.Needs.{needs}
 use native.Mathlib.Omega.{arith}
 use Rattle.image_check.proofs.check_processes.Statement.{statement}

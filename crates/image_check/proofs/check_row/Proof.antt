@@ -1,3 +1,4 @@
+-- Skeleton and paths (.before ..) are generated: docs/PROOFS.md.
 -- `image_check::check_row` meets its contract: its fields, one after the other.
 use mathlib.Core.Path.{sym, _∙_}
 use Rattle.image_check.proofs.Chains.{row-scan}

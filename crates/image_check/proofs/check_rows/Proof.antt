@@ -1,9 +1,10 @@
+-- Skeleton and paths (.before ..) are generated: docs/PROOFS.md.
 -- `image_check::check_rows` meets its contract: what is left to check after task `before` finds what all finds.
 use mathlib.Core.Path.{_≡_, refl, sym, _∙_}
 use Rattle.image.specs.Codec.{decMany}
 use Rattle.image.specs.Image.{rowCodec, rowTask}
-use Rattle.image_words.specs.Scanning.{scan, Within}
-use Rattle.image_words.specs.Laws.Scans.{within, many-scan, many-none}
+use Rattle.image_bytes.specs.Code.Scanning.{scan, Within}
+use Rattle.image_bytes.specs.Laws.Scans.{within, many-scan, many-none}
 use Rattle.image_check.specs.Laws.Sections.{row-spans}
 use Rattle.image_check.proofs.Chains.{row-leads}
 use borrow.Author.Needs.{needs}

@@ -1,7 +1,8 @@
+-- Skeleton and paths (.before ..) are generated: docs/PROOFS.md.
 -- `image_check::check_tasks` meets its contract: the count, and as many rows.
 use mathlib.Core.Path.{refl, sym, _∙_}
 use Rattle.image.specs.Image.{rowCodec, rowTask, tasksCodec}
-use Rattle.image_words.specs.Laws.Scans.{within, listSection-scan}
+use Rattle.image_bytes.specs.Laws.Scans.{within, listSection-scan}
 use borrow.Author.Needs.{needs}
 use native.Mathlib.Omega.{arith}
 use Rattle.image_check.proofs.check_tasks.Statement.{statement}

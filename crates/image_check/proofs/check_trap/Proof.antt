@@ -1,9 +1,10 @@
+-- Skeleton and paths (.before ..) are generated: docs/PROOFS.md.
 -- `image_check::check_trap` meets its contract: its two fields, one after the other.
 use mathlib.Core.Path.{sym, _∙_}
 use Rattle.refusal.specs.declared.Refusal.the-variants.{TaskField}
 use Rattle.step.specs.Soundness.{kindSound, recordSound}
-use Rattle.image_words.specs.Laws.Scans.{number-scan, field-scan}
-use Rattle.image_check.specs.Checked.{trapCodec}
+use Rattle.image_bytes.specs.Laws.Scans.{number-scan, field-scan}
+use Rattle.image_check.specs.Code.Places.{trapCodec}
 use borrow.Author.Needs.{needs}
 use native.Mathlib.Omega.{arith}
 use Rattle.image_check.proofs.check_trap.Statement.{statement}

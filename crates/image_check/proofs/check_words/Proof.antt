@@ -1,8 +1,9 @@
+-- Skeleton and paths (.before ..) are generated: docs/PROOFS.md.
 -- `image_check::check_words` meets its contract: the count, and as many words.
 use mathlib.Core.Path.{refl, sym, _∙_}
 use Rattle.image.specs.Codec.{noState, uniformSection}
 use Rattle.image.specs.Image.{wordCodec, wordsCodec}
-use Rattle.image_words.specs.Laws.Scans.{listSection-scan}
+use Rattle.image_bytes.specs.Laws.Scans.{listSection-scan}
 use borrow.Author.Needs.{needs}
 use Rattle.image_check.proofs.check_words.Statement.{statement}
 use Rattle.image_check.proofs.check_words.Tie as tie

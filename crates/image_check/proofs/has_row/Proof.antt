@@ -1,17 +1,19 @@
+-- Skeleton and paths (.before ..) are generated: docs/PROOFS.md.
 -- `image_check::has_row` meets its contract: the rows still to be looked at settle the answer.
 use Prim.Native.Nat.{_+_, _*_, _≤_}
 use mathlib.Core.Path.{_≡_, refl, sym, _∙_}
 use Rattle.step.specs.Soundness.{hasRow}
-use Rattle.image_words.specs.Reading.{numberAt}
-use Rattle.image_check.specs.Checked.{rowsAt}
+use Rattle.image_bytes.specs.Code.Reading.{numberAt}
+use Rattle.image_check.specs.Code.Places.{rowsAt}
 use Rattle.image_check.proofs.Loops.{rowsFrom, row-found, row-next, row-none}
 use borrow.Author.Needs.{needs}
 use native.Mathlib.Omega.{arith}
 use Rattle.image_check.proofs.has_row.Statement.{statement}
 use Rattle.image_check.proofs.has_row.Tie as tie
+use Rattle.image.specs.Image.{rowLength}
 
 abbrev Inv-loop : tie.InvT-loop
-Inv-loop s n t p₀ k₀ p k = (p + 28 * k ≤ 7141) × (hasRow t (rowsAt n s) ≡ hasRow t (rowsFrom k p s))
+Inv-loop s n t p₀ k₀ p k = (p + rowLength * k ≤ 7141) × (hasRow t (rowsAt n s) ≡ hasRow t (rowsFrom k p s))
 
 abbrev μ-loop : tie.MeasureT-loop
 μ-loop s n t p₀ k₀ p k = k

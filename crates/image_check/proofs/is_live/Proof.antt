@@ -1,19 +1,21 @@
+-- Skeleton and paths (.before ..) are generated: docs/PROOFS.md.
 -- `image_check::is_live` meets its contract: the PTs still to be looked at settle the answer.
 use Prim.Native.Nat.{ℕ, _+_, _*_, _≤_}
 use mathlib.Core.Path.{_≡_, refl, sym, ap, _∙_}
 use mathlib.Core.Bool.{not}
 use lib.Dec.{eqb}
 use Rattle.step.specs.Queues.{occ}
-use Rattle.image_words.specs.Reading.{numberAt}
-use Rattle.image_check.specs.Checked.{ptsAt}
+use Rattle.image_bytes.specs.Code.Reading.{numberAt}
+use Rattle.image_check.specs.Code.Places.{ptsAt}
 use Rattle.image_check.proofs.Loops.{live-found, live-next, live-none}
 use borrow.Author.Needs.{needs}
 use native.Mathlib.Omega.{arith}
 use Rattle.image_check.proofs.is_live.Statement.{statement}
 use Rattle.image_check.proofs.is_live.Tie as tie
+use Rattle.image.specs.Image.{processLength}
 
 abbrev Inv-loop : tie.InvT-loop
-Inv-loop s at n x p₀ k₀ p k = (p + 10 * k ≤ 65536) × (occ x (ptsAt n at s) ≡ occ x (ptsAt k p s))
+Inv-loop s at n x p₀ k₀ p k = (p + processLength * k ≤ 65536) × (occ x (ptsAt n at s) ≡ occ x (ptsAt k p s))
 
 abbrev μ-loop : tie.MeasureT-loop
 μ-loop s at n x p₀ k₀ p k = k

@@ -1,3 +1,4 @@
+-- Skeleton and paths (.before ..) are generated: docs/PROOFS.md.
 -- `image_check::pts_distinct` meets its contract: the PTs still to be looked at settle the answer.
 use Prim.Native.Nat.{_+_, _-_, _*_, _≤_}
 use mathlib.Core.Path.{_≡_, refl, sym, _∙_}
@@ -6,16 +7,17 @@ use borrow.Author.Tests.{not-true, not-false}
 use lib.Dec.{eqb}
 use Rattle.step.specs.Queues.{occ}
 use Rattle.step.specs.Soundness.{distinct}
-use Rattle.image_words.specs.Reading.{fieldAt, numberAt}
-use Rattle.image_check.specs.Checked.{ptsAt}
+use Rattle.image_bytes.specs.Code.Reading.{fieldAt, numberAt}
+use Rattle.image_check.specs.Code.Places.{ptsAt}
 use Rattle.image_check.proofs.Loops.{distinct-next, distinct-none}
 use borrow.Author.Needs.{needs}
 use native.Mathlib.Omega.{arith}
 use Rattle.image_check.proofs.pts_distinct.Statement.{statement}
 use Rattle.image_check.proofs.pts_distinct.Tie as tie
+use Rattle.image.specs.Image.{processLength}
 
 abbrev Inv-loop : tie.InvT-loop
-Inv-loop s at n p₀ k₀ p k = (p + 10 * k ≤ 65536) × (distinct (ptsAt n at s) ≡ distinct (ptsAt k p s))
+Inv-loop s at n p₀ k₀ p k = (p + processLength * k ≤ 65536) × (distinct (ptsAt n at s) ≡ distinct (ptsAt k p s))
 
 abbrev μ-loop : tie.MeasureT-loop
 μ-loop s at n p₀ k₀ p k = k
@@ -44,7 +46,7 @@ returns c =
     let is-live = c .before .is-live in
     let loop-test = c .before .before .before .loop-test in
     let s = args .s .now in
-    let t : eqb (occ (fieldAt 1 (l .p) s) (ptsAt (l .k - 1) (l .p + 10) s)) 0 ≡ false = not-true _
+    let t : eqb (occ (fieldAt 1 (l .p) s) (ptsAt (l .k - 1) (l .p + processLength) s)) 0 ≡ false = not-true _
     (rw (number-at .ensures .0) at (sym (is-live .ensures) ∙ c .if1 .taken)) in
     sym (l .inv .1 ∙ distinct-next s (l .p) (l .k) (loop-test .taken) ∙ rw t)
 
@@ -63,7 +65,7 @@ loop-again c =
     let is-live = c .before .is-live in
     let loop-test = c .before .before .before .loop-test in
     let s = args .s .now in
-    let t : eqb (occ (fieldAt 1 (l .p) s) (ptsAt (l .k - 1) (l .p + 10) s)) 0 ≡ true = not-false _
+    let t : eqb (occ (fieldAt 1 (l .p) s) (ptsAt (l .k - 1) (l .p + processLength) s)) 0 ≡ true = not-false _
     (rw (number-at .ensures .0) at (sym (is-live .ensures) ∙ c .if1 .left)) in
     (omega (arith, l .inv .0, loop-test .taken), l .inv .1 ∙ distinct-next s (l .p) (l .k) (loop-test .taken) ∙ rw t)
 

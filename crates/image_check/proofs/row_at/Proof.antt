@@ -1,8 +1,9 @@
+-- Skeleton and paths (.before ..) are generated: docs/PROOFS.md.
 -- `image_check::row_at` meets its contract: field by field.
 use native.Mathlib.Nat.{add-zero}
-use Rattle.image_words.specs.Reading.{numberAt}
-use Rattle.image_words.specs.Scanning.{valueAt}
-use Rattle.image_check.specs.Checked.{rowAt}
+use Rattle.image_bytes.specs.Code.Reading.{numberAt}
+use Rattle.image_bytes.specs.Code.Scanning.{valueAt}
+use Rattle.image_check.specs.Code.Places.{rowAt}
 use borrow.Author.Needs.{needs}
 use Rattle.image_check.proofs.row_at.Statement.{statement}
 use Rattle.image_check.proofs.row_at.Tie as tie

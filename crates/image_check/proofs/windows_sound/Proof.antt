@@ -1,18 +1,20 @@
+-- Skeleton and paths (.before ..) are generated: docs/PROOFS.md.
 -- `image_check::windows_sound` meets its contract: the rows still to be looked at settle the answer.
 use Prim.Native.Nat.{_+_, _*_, _≤_}
 use mathlib.Core.Path.{_≡_, refl, sym, _∙_}
 use mathlib.Core.Bool.{true, false}
 use borrow.Author.Tests.{not-true, not-false}
 use Rattle.step.specs.Soundness.{rowEndsIn, windowsSound}
-use Rattle.image_check.specs.Checked.{rowAt, rowsAt}
+use Rattle.image_check.specs.Code.Places.{rowAt, rowsAt}
 use Rattle.image_check.proofs.Loops.{rowsFrom, windows-next, windows-none}
 use borrow.Author.Needs.{needs}
 use native.Mathlib.Omega.{arith}
 use Rattle.image_check.proofs.windows_sound.Statement.{statement}
 use Rattle.image_check.proofs.windows_sound.Tie as tie
+use Rattle.image.specs.Image.{rowLength}
 
 abbrev Inv-loop : tie.InvT-loop
-Inv-loop s n registers program data-words p₀ k₀ p k = (p + 28 * k ≤ 7141) × (windowsSound registers program data-words
+Inv-loop s n registers program data-words p₀ k₀ p k = (p + rowLength * k ≤ 7141) × (windowsSound registers program data-words
     (rowsAt n s) ≡ windowsSound registers program data-words (rowsFrom k p s))
 
 abbrev μ-loop : tie.MeasureT-loop

@@ -5,7 +5,7 @@ use mathlib.Core.Bool.{Bool}
 use mathlib.Core.List.{List}
 use native.Mathlib.Nat.{add-zero}
 use native.Mathlib.Omega.{arith}
-use lib.ListN.{drop}
+use lib.ListN.{drop, length-map}
 use lib.Seq.{drop-drop}
 use Rattle.word.specs.Fields.{pswSound}
 use Rattle.window.specs.declared.Row.{Row}
@@ -13,20 +13,21 @@ use Rattle.window.specs.Sound.{bits, tagSound, stateSound}
 use Rattle.step.specs.Soundness.{taskSound, kindSound, recordSound, ptSound, flagSound}
 use Rattle.refusal.specs.declared.Refusal.the-variants.{TaskField, ProcessField}
 use Rattle.image.specs.Codec.{field, uniformSection, noState}
-use Rattle.image.specs.Image.{rowCodec, toRow, fromRow, rowTask, tasksCodec, processCodec, toProcess, fromProcess, processTask, processesCodec}
-use Rattle.image.specs.Image.{wordsCodec, cellsCodec, imageCodec, toImage, fromImage}
-use Rattle.image_words.specs.Reading.{fieldAt, listed, wordsAt, cellFrom, cellsAt}
-use Rattle.image_words.specs.Laws.Listed.{length-listed, listed-at}
-use Rattle.image_words.specs.Laws.Spans.{Spans, spans-as, num-spans, seq-spans, via-spans, section-spans, listSection-spans}
-use Rattle.image_words.specs.Laws.Cells.{word-spans, cell-spans}
-use Rattle.image_words.specs.Laws.Placed.{Placed, placed, seq-placed, via-placed}
-use Rattle.image_check.specs.declared.Counted.{Counted}
-use Rattle.image_check.specs.Checked.{countsOf, rowAt, rowsAt, processAt, processesAt, countsIn, imageAt}
-use Rattle.image_check.specs.Checked.{processesPlace, constantsPlace, registersPlace, programPlace, dataPlace, endPlace}
+use Rattle.image.specs.Image.{rowCodec, toRow, fromRow, rowTask, tasksCodec, processCodec, toProcess, fromProcess, processTask, processesCodec, rowLength, processLength}
+use Rattle.image.specs.Image.{wordsCodec, cellsCodec, imageCodec, toImage, fromImage, memoryOf, stateOf}
+use Rattle.image_bytes.specs.Code.Reading.{fieldAt, listed, wordsAt, cellFrom, cellsAt}
+use Rattle.image_bytes.specs.Laws.Listed.{length-listed, listed-at}
+use Rattle.image_bytes.specs.Laws.Spans.{Spans, spans-as, num-spans, seq-spans, via-spans, section-spans, listSection-spans}
+use Rattle.image_bytes.specs.Laws.Cells.{word-spans, cell-spans}
+use Rattle.image_bytes.specs.Laws.Placed.{Placed, placed, seq-placed, via-placed}
+use Rattle.library.specs.declared.Sizes.{Sizes}
+use Rattle.library.specs.Buffers.{sizesOf}
+use Rattle.image_check.specs.Code.Places.{rowAt, rowsAt, processAt, processesAt, sizesIn, imageAt}
+use Rattle.image_check.specs.Code.Places.{processesPlace, constantsPlace, registersPlace, programPlace, dataPlace, endPlace}
 
 -- ---- rows and processes
 
-pub row-spans : (before : ℕ) → Spans (rowCodec before) (rowAt 0) (λ _. 28)
+pub row-spans : (before : ℕ) → Spans (rowCodec before) (rowAt 0) (λ _. rowLength)
 unfolding rowCodec rowAt
 row-spans before =
     spans-as (via-spans toRow fromRow
@@ -42,7 +43,7 @@ row-spans before =
     (λ kind. num-spans 8 TaskField (recordSound kind))))))))))))
     (λ b. simp drop-drop)
 
-pub process-spans : (rows : List Row) (before : ℕ) → Spans (processCodec rows before) (processAt 0) (λ _. 10)
+pub process-spans : (rows : List Row) (before : ℕ) → Spans (processCodec rows before) (processAt 0) (λ _. processLength)
 unfolding processCodec processAt
 process-spans rows before =
     spans-as (via-spans toProcess fromProcess
@@ -61,12 +62,12 @@ process-place s p = simp (drop-drop, add-zero)
 
 -- ---- sections
 
-pub tasks-spans : Spans tasksCodec (λ b. listed 28 (λ p. rowAt 0 (drop p b)) (field 1 b) 1) (λ b. 1 + 28 * field 1 b)
+pub tasks-spans : Spans tasksCodec (λ b. listed rowLength (λ p. rowAt 0 (drop p b)) (field 1 b) 1) (λ b. 1 + rowLength * field 1 b)
 unfolding tasksCodec
 tasks-spans = listSection-spans rowTask row-spans 1 7 0
 
 pub processes-spans : (rows : List Row)
-    → Spans (processesCodec rows) (λ b. (field 1 (drop 1 b), listed 10 (λ p. processAt 0 (drop p b)) (field 1 b) 2)) (λ b. 2 + 10 * field 1 b)
+    → Spans (processesCodec rows) (λ b. (field 1 (drop 1 b), listed processLength (λ p. processAt 0 (drop p b)) (field 1 b) 2)) (λ b. 2 + processLength * field 1 b)
 unfolding processesCodec
 processes-spans rows = section-spans processTask (process-spans rows) (num-spans 1 ProcessField flagSound) 1 64 0
 
@@ -79,22 +80,22 @@ unfolding cellsCodec uniformSection
 cells-spans f w most = listSection-spans noState (λ _. cell-spans f) w most tt
 
 -- the rows of the whole input
-pub first-rows : (s : List ℕ) (n : ℕ) → listed 28 (λ p. rowAt 0 (drop p s)) n 1 ≡ rowsAt n s
+pub first-rows : (s : List ℕ) (n : ℕ) → listed rowLength (λ p. rowAt 0 (drop p s)) n 1 ≡ rowsAt n s
 unfolding rowsAt
-first-rows s n = listed-at 28 (rowAt 0) (λ p. rowAt p s) s (row-place s) 0 n 1
+first-rows s n = listed-at rowLength (rowAt 0) (λ p. rowAt p s) s (row-place s) 0 n 1
 
 module _ (s : List ℕ) where
-  tasks-placed : Placed s tasksCodec 0 (rowsAt (fieldAt 1 0 s) s) (1 + 28 * fieldAt 1 0 s)
+  tasks-placed : Placed s tasksCodec 0 (rowsAt (fieldAt 1 0 s) s) (1 + rowLength * fieldAt 1 0 s)
   tasks-placed = placed tasks-spans s 0 (first-rows s (field 1 s)) (omega arith)
 
   module _ (p : ℕ) where
     processes-placed : (rows : List Row)
-        → Placed s (processesCodec rows) p (fieldAt 1 (p + 1) s, processesAt (fieldAt 1 p s) (p + 2) s) (p + (2 + 10 * fieldAt 1 p s))
+        → Placed s (processesCodec rows) p (fieldAt 1 (p + 1) s, processesAt (fieldAt 1 p s) (p + 2) s) (p + (2 + processLength * fieldAt 1 p s))
     unfolding processesAt
     processes-placed rows =
         placed (processes-spans rows) s p
         (ap₂ (λ (f : ℕ) (l : List _). (f, l)) (ap (field 1) (drop-drop 1 p s))
-        (listed-at 10 (processAt 0) (λ q. processAt q s) s (process-place s) p (fieldAt 1 p s) 2))
+        (listed-at processLength (processAt 0) (λ q. processAt q s) s (process-place s) p (fieldAt 1 p s) 2))
         refl
 
     words-placed : (w most : ℕ) → Placed s (wordsCodec w most) p (wordsAt (fieldAt w p s) (p + w) s) (p + (w + 8 * fieldAt w p s))
@@ -107,8 +108,8 @@ module _ (s : List ℕ) where
         placed (cells-spans f w most) s p (listed-at 9 (cellFrom 0) (λ q. cellFrom q s) s (λ q. simp (drop-drop, add-zero)) p (fieldAt w p s) w) refl
 
   -- the whole
-  pub image-placed : Placed s imageCodec 0 (imageAt (countsIn s) s) (endPlace (countsIn s))
-  unfolding imageCodec imageAt endPlace dataPlace programPlace registersPlace constantsPlace processesPlace countsIn
+  pub image-placed : Placed s imageCodec 0 (imageAt (sizesIn s) s) (endPlace (sizesIn s) s)
+  unfolding imageCodec imageAt endPlace dataPlace programPlace registersPlace constantsPlace processesPlace sizesIn
   image-placed =
       via-placed toImage fromImage
       (seq-placed tasks-placed
@@ -118,7 +119,7 @@ module _ (s : List ℕ) where
       (λ _. seq-placed (words-placed _ 4 (2 ^ 20))
       (λ _. cells-placed _ stateSound 4 (2 ^ 20)))))))
 
--- its counts are those that it was read by
-pub counts-image : (z : Counted) (s : List ℕ) → countsOf (imageAt z s) ≡ z
-unfolding countsOf imageAt rowsAt processesAt wordsAt cellsAt
-counts-image z s = simp length-listed
+-- its sizes are those that it was read by
+pub sizes-image : (n : Sizes) (s : List ℕ) → sizesOf (stateOf (imageAt n s)) ≡ n
+unfolding sizesOf stateOf memoryOf imageAt rowsAt processesAt wordsAt cellsAt
+sizes-image n s = simp (length-map, length-listed)

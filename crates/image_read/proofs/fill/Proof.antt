@@ -1,6 +1,5 @@
+-- Skeleton and paths (.before ..) are generated: docs/PROOFS.md.
 -- `image_read::fill` meets its contract: the sections follow one another to the end of the input.
-use Rattle.image_check.specs.Checked.{processesPlace, constantsPlace, registersPlace, programPlace, dataPlace}
-use Rattle.image_read.specs.Read.{buffers}
 use Rattle.image_read.proofs.Whole.{all-filled}
 use native.Mathlib.Omega.{arith}
 use borrow.Author.Needs.{needs}
@@ -62,16 +61,16 @@ fill-first-cells-requires : tie.Need-fill-first-cells-requires
 fill-first-cells-requires c κs = search needs
 
 add-fill-first-words-2 : tie.Need-add-fill-first-words-2
-add-fill-first-words-2 c = omega (arith, c .before .before .before .before .before .before .before .before .before .before .before .before .before .before .before .before .before .before .before .before .before .before .before .pre .ends, c .before .before .before .before .before .before .before .before .before .before .before .before .before .before .before .before .before .before .before .before .before .before .before .good)
+add-fill-first-words-2 c = omega (arith, c .before .before .before .before .before .before .before .before .before .before .before .before .before .before .before .before .before .before .before .before .before .before .pre .ends, c .before .before .before .before .before .before .before .before .before .before .before .before .before .before .before .before .before .before .before .before .before .before .good)
 
 fill-first-words-requires-2 : tie.Need-fill-first-words-requires-2
-fill-first-words-requires-2 c κs = let p = c .before .before .before .before .before .before .before .before .before .before .before .before .before .before .before .before .before .before .before .before .before .before .before .before .pre in (p .program, omega (arith, p .ends))
+fill-first-words-requires-2 c κs = let p = c .before .before .before .before .before .before .before .before .before .before .before .before .before .before .before .before .before .before .before .before .before .before .before .pre in (p .program, omega (arith, p .ends))
 
 add-fill-first-cells-2 : tie.Need-add-fill-first-cells-2
-add-fill-first-cells-2 c = omega (arith, c .before .before .before .before .before .before .before .before .before .before .before .before .before .before .before .before .before .before .before .before .before .before .before .before .before .before .before .pre .ends, c .before .before .before .before .before .before .before .before .before .before .before .before .before .before .before .before .before .before .before .before .before .before .before .before .before .before .before .good)
+add-fill-first-cells-2 c = omega (arith, c .before .before .before .before .before .before .before .before .before .before .before .before .before .before .before .before .before .before .before .before .before .before .before .before .before .before .pre .ends, c .before .before .before .before .before .before .before .before .before .before .before .before .before .before .before .before .before .before .before .before .before .before .before .before .before .before .good)
 
 fill-first-cells-requires-2 : tie.Need-fill-first-cells-requires-2
-fill-first-cells-requires-2 c κs = let p = c .before .before .before .before .before .before .before .before .before .before .before .before .before .before .before .before .before .before .before .before .before .before .before .before .before .before .before .before .before .pre in ((p .dataTags, p .dataWords), omega (arith, p .ends))
+fill-first-cells-requires-2 c κs = let p = c .before .before .before .before .before .before .before .before .before .before .before .before .before .before .before .before .before .before .before .before .before .before .before .before .before .before .before .before .pre in ((p .dataTags, p .dataWords), omega (arith, p .ends))
 
 same-length : tie.Need-same-length
 same-length c = search needs
@@ -92,10 +91,10 @@ same-length-6 : tie.Need-same-length-6
 same-length-6 c = search needs
 
 returns : tie.Need-returns
-unfolding processesPlace constantsPlace registersPlace programPlace dataPlace
-returns c =
-    let a = c .before .before .before .before .before .before .before .before .before .before .before .before .before .before .before .before .before .before .before .before .before .before .before .before .before .before .before .before .before .before .before .before .before .before .args in
-    all-filled (a .z) (a .s .now) (buffers (a .constants .now) (a .tags .now) (a .words .now) (a .program .now) (a .data-tags .now) (a .data-words .now))
+returns c rows t =
+    let s = c .before .before .before .before .before .before .before .before .before .before .before .before .before .before .before .before .before .before .before .before .before .before .before .before .before .before .before .before .before .before .before .before .before in
+    let a = s .args in
+    all-filled (a .n) (a .m) (a .image .now) rows t (a .constants .now) (a .register-tags .now) (a .register-words .now) (a .program .now) (a .data-tags .now) (a .data-words .now) (s .pre .processes)
     (c .before .before .before .before .before .before .before .before .before .before .before .before .before .before .before .before .before .before .before .before .fill-first-words .ensures) (c .before .before .before .before .before .before .before .before .before .before .before .before .before .before .before .fill-first-cells .ensures)
     (c .before .before .before .before .before .before .before .before .before .fill-first-words2 .ensures) (c .before .before .before .before .fill-first-cells2 .ensures)
 

@@ -1,6 +1,7 @@
+-- Skeleton and paths (.before ..) are generated: docs/PROOFS.md.
 -- `image_read::psws_at` meets its contract: by the laws of `Table`.
 use Prim.Native.Nat.{_-_}
-use Rattle.image_words.specs.Reading.{numberAt}
+use Rattle.image_bytes.specs.Code.Reading.{numberAt}
 use Rattle.image_read.proofs.Table.{Setting, psw-start, psw-step, psw-past, psw-done}
 use borrow.Author.Needs.{needs}
 use Rattle.image_read.proofs.psws_at.Statement.{statement}

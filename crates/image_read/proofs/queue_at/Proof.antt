@@ -1,7 +1,8 @@
+-- Skeleton and paths (.before ..) are generated: docs/PROOFS.md.
 -- `image_read::queue_at` meets its contract: by the laws of `Table`.
 use mathlib.Core.Path.{sym, _∙_}
 use mathlib.Core.Logic.{⊎-elim}
-use Rattle.image_words.specs.Reading.{numberAt}
+use Rattle.image_bytes.specs.Code.Reading.{numberAt}
 use Rattle.image_read.proofs.Table.{Queueing, queue-start, queue-taken, queue-skipped, queue-done}
 use borrow.Author.Needs.{needs}
 use Rattle.image_read.proofs.queue_at.Statement.{statement}

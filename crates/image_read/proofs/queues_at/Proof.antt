@@ -1,3 +1,4 @@
+-- Skeleton and paths (.before ..) are generated: docs/PROOFS.md.
 -- `image_read::queues_at` meets its contract: one queue after another.
 use Rattle.image.specs.Image.{queuesOf}
 use borrow.Author.Needs.{needs}

@@ -1,7 +1,8 @@
+-- Skeleton and paths (.before ..) are generated: docs/PROOFS.md.
 -- `image_read::read` meets its contract: a refusal of the check, or what it found.
-use mathlib.Core.Path.{sym, _∙_}
-use Rattle.image_read.specs.Read.{buffers}
-use Rattle.image_read.proofs.Whole.{image-refused}
+use mathlib.Core.Path.{refl, sym, _∙_}
+use lib.ListN.{length-map}
+use Rattle.image_read.specs.Laws.Read.{read-refused}
 use borrow.Author.Needs.{needs}
 use Rattle.image_read.proofs.read.Statement.{statement}
 use Rattle.image_read.proofs.read.Tie as tie
@@ -23,8 +24,11 @@ read-sound-requires c κs = sym (c .before .before .before .before .before .befo
 
 returns : tie.Need-returns
 returns c =
-    let a = c .before .before .before .before .before .before .before .before .before .before .before .before .args in
-    rw (c .refused .ensures) (image-refused (a .s .now) (buffers (a .constants .now) (a .tags .now) (a .words .now) (a .program .now) (a .data-tags .now) (a .data-words .now)) (sym (c .before .before .before .before .check .ensures) ∙ c .before .before .found .given .1))
+    let s = c .before .before .before .before .before .before .before .before .before .before .before .before in
+    let a = s .args in
+    let seven = sym (length-map (a .rows .at) _) ∙ s .good .0 .1 .1 .0 .1 .0 .1 in
+    rw (c .refused .ensures)
+    (read-refused _ (a .image .now) _ (sym (c .before .before .before .before .check .ensures) ∙ c .before .before .found .given .1), record { count = refl; places = seven })
 
 same-length : tie.Need-same-length
 same-length c = search needs
@@ -50,4 +54,17 @@ returns-2 c = search needs
 pub read-spec : {M : Type 1} → statement M
 read-spec =
     tie.close
-    (tie.spec check-requires enum-known-found refused-requires enum-known-found-2 read-sound-requires returns same-length same-length-2 same-length-3 same-length-4 same-length-5 same-length-6 returns-2)
+    (tie.spec
+    check-requires
+    enum-known-found
+    refused-requires
+    enum-known-found-2
+    read-sound-requires
+    returns
+    same-length
+    same-length-2
+    same-length-3
+    same-length-4
+    same-length-5
+    same-length-6
+    returns-2)

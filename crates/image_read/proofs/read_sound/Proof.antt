@@ -1,46 +1,42 @@
--- `image_read::read_sound` meets its contract: what the check found says which image it is.
-use mathlib.Core.Path.{sym, _∙_}
+-- Skeleton and paths (.before ..) are generated: docs/PROOFS.md.
+-- `image_read::read_sound` meets its contract: no room in one of the buffers, or the image.
+use Prim.Native.Nat.{min}
+use mathlib.Core.Path.{_≡_, refl, sym, _∙_}
+use mathlib.Core.Bool.{true, false}
+use lib.ListN.{length, length-map}
 use borrow.Author.Tests.{not-true, not-false}
-use Rattle.image_check.specs.Checked.{processesPlace}
+use Rattle.library.specs.Buffers.{fits}
+use Rattle.library.specs.Held.{roomFrom}
 use Rattle.image_check.specs.Laws.Found.{found}
-use Rattle.image_read.specs.Read.{buffers}
-use Rattle.image_read.specs.Laws.Few.{found-few}
-use Rattle.image_read.specs.Laws.Room.{room-of}
-use Rattle.image_read.proofs.Whole.{short-buffer, image-read}
-use native.Mathlib.Omega.{arith}
+use Rattle.image_read.specs.Laws.Read.{read-short}
 use borrow.Author.Needs.{needs}
 use Rattle.image_read.proofs.read_sound.Statement.{statement}
 use Rattle.image_read.proofs.read_sound.Tie as tie
 
-has-room-requires : tie.Need-has-room-requires
-has-room-requires c κs = search needs
+row-count-requires : tie.Need-row-count-requires
+row-count-requires c κs = search needs
+
+fits-requires : tie.Need-fits-requires
+fits-requires c κs = search needs
 
 refused-requires : tie.Need-refused-requires
 refused-requires c κs = search needs
 
 returns : tie.Need-returns
 returns c =
-    let a = c .before .before .before .before .before .before .before .before .before .before .args in
+    let s = c .before .before .before .before .before .before .before .before .before .before .before in
+    let a = s .args in
+    let seven = sym (length-map (a .rows .at) _) ∙ s .good .0 .1 .1 .0 .1 .0 .1 in
+    let q : fits (a .n) (roomFrom (min (a .rows .n) 7) (length (a .constants .now)) (length (a .register-tags .now)) (length (a .register-words .now)) (length (a .program .now)) (length (a .data-tags .now)) (length (a .data-words .now))) ≡ false = rw (← c .before .before .before .row-count .ensures) (sym (c .before .before .fits2 .ensures) ∙ not-true _ (c .before .if1 .taken)) in
     rw (c .refused .ensures)
-    (short-buffer (a .z) (a .s .now) (buffers (a .constants .now) (a .tags .now) (a .words .now) (a .program .now) (a .data-tags .now) (a .data-words .now)) (found (c .before .before .before .before .before .before .before .before .before .before .args .s .now) (c .before .before .before .before .before .before .before .before .before .before .args .z) (c .before .before .before .before .before .before .before .before .before .before .pre))
-    (sym (c .before .before .has-room .ensures) ∙ not-true _ (c .before .if1 .taken)))
+    (read-short (a .rows) (a .table) (a .constants .now) (a .register-tags .now) (a .register-words .now) (a .program .now) (a .data-tags .now) (a .data-words .now) (a .image .now) (a .n) seven (found (a .image .now) (a .n) (s .pre)) q, record { count = refl; places = seven })
 
-rows-at-requires : tie.Need-rows-at-requires
-rows-at-requires c κs = found-few (c .before .before .before .before .before .before .before .before .before .args .z) (c .before .before .before .before .before .before .before .before .before .args .s .now) (found (c .before .before .before .before .before .before .before .before .before .args .s .now) (c .before .before .before .before .before .before .before .before .before .args .z) (c .before .before .before .before .before .before .before .before .before .pre)) .0
-
-mul-table-at : tie.Need-mul-table-at
-mul-table-at c = omega (arith, found-few (c .before .before .before .before .before .before .before .before .before .before .before .args .z) (c .before .before .before .before .before .before .before .before .before .before .before .args .s .now) (found (c .before .before .before .before .before .before .before .before .before .before .before .args .s .now) (c .before .before .before .before .before .before .before .before .before .before .before .args .z) (c .before .before .before .before .before .before .before .before .before .before .before .pre)) .0)
-
-add-table-at : tie.Need-add-table-at
-add-table-at c = omega (arith, found-few (c .before .before .before .before .before .before .before .before .before .before .before .args .z) (c .before .before .before .before .before .before .before .before .before .before .before .args .s .now) (found (c .before .before .before .before .before .before .before .before .before .before .before .args .s .now) (c .before .before .before .before .before .before .before .before .before .before .before .args .z) (c .before .before .before .before .before .before .before .before .before .before .before .pre)) .0)
-
-table-at-requires : tie.Need-table-at-requires
-table-at-requires c κs = let f = found-few (c .before .before .before .before .before .before .before .before .before .before .before .args .z) (c .before .before .before .before .before .before .before .before .before .before .before .args .s .now) (found (c .before .before .before .before .before .before .before .before .before .before .before .args .s .now) (c .before .before .before .before .before .before .before .before .before .before .before .args .z) (c .before .before .before .before .before .before .before .before .before .before .before .pre)) in (omega (arith, f .0), f .1)
-
-fill-requires : tie.Need-fill-requires
-fill-requires c κs =
-    let a = c .before .before .before .before .before .before .before .before .before .before .before .before .before .before .before .before .before .before .args in
-    room-of (a .z) _ _ _ _ _ _ _ (found (c .before .before .before .before .before .before .before .before .before .before .before .before .before .before .before .before .before .before .args .s .now) (c .before .before .before .before .before .before .before .before .before .before .before .before .before .before .before .before .before .before .args .z) (c .before .before .before .before .before .before .before .before .before .before .before .before .before .before .before .before .before .before .pre) .ends) (sym (c .before .before .before .before .before .before .before .before .before .before .has-room .ensures) ∙ not-false _ (c .before .before .before .before .before .before .before .before .before .if1 .left))
+read-fitting-requires : tie.Need-read-fitting-requires
+read-fitting-requires c κs =
+    let s = c .before .before .before .before .before .before .before .before .before .before .before .before .before .before .before .before in
+    let a = s .args in
+    let q : fits (a .n) (roomFrom (min (a .rows .n) 7) (length (a .constants .now)) (length (a .register-tags .now)) (length (a .register-words .now)) (length (a .program .now)) (length (a .data-tags .now)) (length (a .data-words .now))) ≡ true = rw (← c .before .before .before .before .before .before .before .before .row-count .ensures) (sym (c .before .before .before .before .before .before .before .fits2 .ensures) ∙ not-false _ (c .before .before .before .before .before .before .if1 .left)) in
+    (s .pre, q)
 
 same-length : tie.Need-same-length
 same-length c = search needs
@@ -61,14 +57,21 @@ same-length-6 : tie.Need-same-length-6
 same-length-6 c = search needs
 
 returns-2 : tie.Need-returns-2
-unfolding processesPlace
-returns-2 c =
-    let a = c .before .before .before .before .before .before .before .before .before .before .before .before .before .before .before .before .before .before .before .before .before .before .before .before .before .before .before .before .before .before .before .args in
-    image-read (a .z) (a .s .now) (buffers (a .constants .now) (a .tags .now) (a .words .now) (a .program .now) (a .data-tags .now) (a .data-words .now)) (found (c .before .before .before .before .before .before .before .before .before .before .before .before .before .before .before .before .before .before .before .before .before .before .before .before .before .before .before .before .before .before .before .args .s .now) (c .before .before .before .before .before .before .before .before .before .before .before .before .before .before .before .before .before .before .before .before .before .before .before .before .before .before .before .before .before .before .before .args .z) (c .before .before .before .before .before .before .before .before .before .before .before .before .before .before .before .before .before .before .before .before .before .before .before .before .before .before .before .before .before .before .before .pre))
-    (sym (c .before .before .before .before .before .before .before .before .before .before .before .before .before .before .before .before .before .before .before .before .before .before .before .has-room .ensures) ∙ not-false _ (c .before .before .before .before .before .before .before .before .before .before .before .before .before .before .before .before .before .before .before .before .before .before .if1 .left))
-    (c .before .before .before .before .before .before .before .before .before .before .before .before .before .before .before .before .before .before .before .before .before .rows-at .ensures) (c .before .before .before .before .before .before .before .before .before .before .before .before .before .before .before .before .before .before .before .table-at .ensures) (c .before .before .before .before .before .before .before .before .before .before .before .before .fill .ensures)
+returns-2 c = c .before .before .before .before .before .before .before .before .before .before .before .before .read-fitting .ensures (c .before .before .before .before .before .before .before .before .before .before .before .before .before .before .before .before .before .before .before .before .before .before .before .before .before .before .before .before .before .args .table)
 
 pub read-sound-spec : {M : Type 1} → statement M
 read-sound-spec =
     tie.close
-    (tie.spec has-room-requires refused-requires returns rows-at-requires mul-table-at add-table-at table-at-requires fill-requires same-length same-length-2 same-length-3 same-length-4 same-length-5 same-length-6 returns-2)
+    (tie.spec
+    row-count-requires
+    fits-requires
+    refused-requires
+    returns
+    read-fitting-requires
+    same-length
+    same-length-2
+    same-length-3
+    same-length-4
+    same-length-5
+    same-length-6
+    returns-2)

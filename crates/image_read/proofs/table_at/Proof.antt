@@ -1,6 +1,6 @@
+-- Skeleton and paths (.before ..) are generated: docs/PROOFS.md.
 -- `image_read::table_at` meets its contract.
-use Rattle.image_words.specs.Reading.{numberAt}
-use Rattle.image_read.specs.Read.{tableRead}
+use Rattle.image_bytes.specs.Code.Reading.{numberAt}
 use borrow.Author.Needs.{needs}
 use Rattle.image_read.proofs.table_at.Statement.{statement}
 use Rattle.image_read.proofs.table_at.Tie as tie
@@ -27,7 +27,7 @@ queues-at-requires : tie.Need-queues-at-requires
 queues-at-requires c κs = search needs
 
 returns : tie.Need-returns
-unfolding tableRead numberAt
+unfolding numberAt
 returns c = rw (c .queues-at .ensures, c .before .psws-at .ensures, c .before .before .number-at .ensures .0)
 
 pub table-at-spec : {M : Type 1} → statement M

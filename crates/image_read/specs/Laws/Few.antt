@@ -1,5 +1,5 @@
 -- An accepted image has at most 7 rows and 64 processes, as its counts say.
-use Prim.Native.Nat.{ℕ, zero, suc, _≤_}
+use Prim.Native.Nat.{ℕ, zero, suc, _+_, _≤_}
 use mathlib.Core.Path.{_≡_, refl, sym, ap, _∙_}
 use mathlib.Core.Bool.{Bool, true, false, cond}
 use mathlib.Core.List.{List, [], _∷_}
@@ -12,13 +12,16 @@ use Rattle.step.specs.Soundness.{flagSound}
 use Rattle.refusal.specs.declared.Refusal.the-variants.{InputEnds, CountOverLimit, ProcessField}
 use Rattle.image.specs.declared.Process.{Process}
 use Rattle.image.specs.Codec.{Codec, refused, accepted, field, bind, num, count, seq, via, decMany, section, noHeader, listSection}
-use Rattle.image.specs.Image.{Image, toImage, rowCodec, rowTask, tasksCodec, processCodec, processTask, processesCodec, imageCodec, decode}
+use Rattle.image.specs.Image.{Image, Decoded, good, stateOf, toImage, rowCodec, rowTask, tasksCodec, processCodec, processTask, processesCodec, imageCodec, decode, rowLength, processLength}
 use Rattle.image.specs.Laws.Codec.{bind-elim}
 use Rattle.image.specs.Laws.Accepted.{after-good}
-use Rattle.image_check.specs.declared.Counted.{Counted}
-use Rattle.image_check.specs.Checked.{imageAt, countsOf}
-use Rattle.image_check.specs.Laws.Sections.{counts-image}
-use Rattle.image_check.specs.Laws.Found.{Found}
+use Rattle.image_bytes.specs.Laws.Listed.{length-listed}
+use Rattle.library.specs.declared.Sizes.{Sizes}
+use Rattle.library.specs.Buffers.{sizesOf}
+use Rattle.library.specs.Calls.{checkAnswer}
+use Rattle.library.specs.Promises.{readAnswered}
+use Rattle.image_check.specs.Code.Places.{rowAt, rowsAt, processAt, processesAt, processesPlace, processCount, imageAt}
+use Rattle.image_check.specs.Laws.Found.{Found, found}
 
 -- ---- a section has as many values as its count says
 
@@ -77,9 +80,18 @@ image-few b i r h =
     (omega (arith, tasks-few b rows u k, ap (λ (z : Image). length (z .rows)) e), omega (arith, processes-few rows u p w n, ap (λ (z : Image). length (z .processes)) e))
 
 -- what a check found
-pub found-few : (z : Counted) (s : List ℕ) → Found z s → (z .rows ≤ 7) × (z .processes ≤ 64)
-unfolding decode countsOf
-found-few z s f =
-    let w = image-few s (imageAt z s) [] (after-good (imageCodec .dec s) (imageAt z s) (f .accepts) .0) in
-    let e = counts-image z s in
-    (omega (arith, w .0, ap (λ (y : Counted). y .rows) e), omega (arith, w .1, ap (λ (y : Counted). y .processes) e))
+pub found-few : (n : Sizes) (s : List ℕ) → Found n s → (n .rows ≤ 7) × (processCount n s ≤ 64)
+unfolding decode imageAt rowsAt processesAt
+found-few n s f =
+    let w = image-few s (imageAt n s) [] (after-good (imageCodec .dec s) (imageAt n s) (f .accepts) .0) in
+    (omega (arith, w .0, length-listed rowLength (λ p. rowAt p s) (n .rows) 1), omega (arith, w .1, length-listed processLength (λ p. processAt p s) (processCount n s) (processesPlace n + 2)))
+
+-- what is found of an accepted image
+pub found-image : (s : List ℕ) (i : Image) → decode s ≡ good i → Found (sizesOf (stateOf i)) s
+unfolding readAnswered checkAnswer
+found-image s i d = found s (sizesOf (stateOf i)) (ap (λ (x : Decoded). readAnswered (checkAnswer x)) d)
+
+-- it has at most seven rows
+pub few-rows : (s : List ℕ) (i : Image) → decode s ≡ good i → length (i .rows) ≤ 7
+unfolding sizesOf stateOf
+few-rows s i d = found-few (sizesOf (stateOf i)) s (found-image s i d) .0

@@ -1,5 +1,5 @@
 -- `image_write::length_written` meets its contract.
-use Rattle.image_write.specs.Writing.{lengthWritten}
+use Rattle.image_write.specs.Code.Lengths.{lengthWritten}
 use borrow.Author.Needs.{needs}
 use Rattle.image_write.proofs.length_written.Statement.{statement}
 use Rattle.image_write.proofs.length_written.Tie as tie

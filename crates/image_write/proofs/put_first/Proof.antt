@@ -1,5 +1,6 @@
+-- Skeleton and paths (.before ..) are generated: docs/PROOFS.md.
 use borrow.Author.Needs.{needs}
-use Rattle.image_write.specs.Bytes.{rowFirst}
+use Rattle.image_write.specs.Code.Bytes.{rowFirst}
 use Rattle.image_write.proofs.Going.{four}
 use Rattle.image_write.proofs.put_first.Statement.{statement}
 use Rattle.image_write.proofs.put_first.Tie as tie

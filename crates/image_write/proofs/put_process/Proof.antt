@@ -1,7 +1,8 @@
+-- Skeleton and paths (.before ..) are generated: docs/PROOFS.md.
 use borrow.Author.Needs.{needs}
 use Rattle.image.specs.Codec.{num, seq, via}
 use Rattle.image.specs.Image.{processCodec}
-use Rattle.image_write.specs.Bytes.{processBytes}
+use Rattle.image_write.specs.Code.Bytes.{processBytes}
 use Rattle.image_write.proofs.Going.{three}
 use Rattle.image_write.proofs.put_process.Statement.{statement}
 use Rattle.image_write.proofs.put_process.Tie as tie

@@ -1,9 +1,10 @@
+-- Skeleton and paths (.before ..) are generated: docs/PROOFS.md.
 use Prim.Native.Nat.{_<_}
 use native.Mathlib.Omega.{arith}
 use borrow.Author.Needs.{needs}
 use Rattle.step.specs.Queues.{listOf}
 use Rattle.image.specs.Image.{processesIn}
-use Rattle.image_write.specs.Bytes.{processesBytes}
+use Rattle.image_write.specs.Code.Bytes.{processesBytes}
 use Rattle.image_write.proofs.Going.{Going, start, spelled, ends, place-ends}
 use Rattle.image_write.proofs.Parts.{ringBytes, ring-starts, ring-none, queue-length, ring-room, ring-goes}
 use Rattle.image_write.proofs.put_queue.Statement.{statement}

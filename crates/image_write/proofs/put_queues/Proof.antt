@@ -1,9 +1,10 @@
+-- Skeleton and paths (.before ..) are generated: docs/PROOFS.md.
 use Prim.Native.Nat.{_+_, _-_, _≤_}
 use mathlib.Core.Path.{_≡_, refl}
 use native.Mathlib.Omega.{arith}
 use lib.ListN.{drop}
 use Rattle.image.specs.Image.{processesFrom}
-use Rattle.image_write.specs.Bytes.{processesBytes}
+use Rattle.image_write.specs.Code.Bytes.{processesBytes}
 use Rattle.image_write.proofs.Going.{Going, start, ends, place-ends}
 use Rattle.image_write.proofs.Parts.{processes-length, from-length, queues-none, queues-room, queues-go}
 use Rattle.image_write.proofs.put_queues.Statement.{statement}

@@ -1,5 +1,6 @@
+-- Skeleton and paths (.before ..) are generated: docs/PROOFS.md.
 use borrow.Author.Needs.{needs}
-use Rattle.image_write.specs.Bytes.{rowRecord}
+use Rattle.image_write.specs.Code.Bytes.{rowRecord}
 use Rattle.image_write.proofs.Going.{two}
 use Rattle.image_write.proofs.put_record.Statement.{statement}
 use Rattle.image_write.proofs.put_record.Tie as tie

@@ -1,3 +1,4 @@
+-- Skeleton and paths (.before ..) are generated: docs/PROOFS.md.
 use borrow.Author.Needs.{needs}
 use Rattle.image_write.proofs.Parts.{row-put}
 use Rattle.image_write.proofs.put_row.Statement.{statement}

@@ -1,8 +1,9 @@
+-- Skeleton and paths (.before ..) are generated: docs/PROOFS.md.
 use Prim.Native.Nat.{_-_, _≤_}
 use native.Mathlib.Omega.{arith}
 use lib.ListN.{take, drop}
 use Rattle.image_write.proofs.Parts.{rows-size, rows-none, rows-room, rows-goes}
-use Rattle.image_write.specs.Bytes.{rowsBytes}
+use Rattle.image_write.specs.Code.Bytes.{rowsBytes}
 use Rattle.image_write.proofs.Going.{Going, start, ends, place-ends}
 use Rattle.image_write.proofs.put_rows.Statement.{statement}
 use Rattle.image_write.proofs.put_rows.Tie as tie
@@ -37,7 +38,7 @@ loop-less c = omega arith
 loop-again : tie.Need-loop-again Inv-loop μ-loop
 loop-again c =
     let l = c .before .before .before .before .before .before in
-    (omega arith, rows-goes (l .before .before .args .t3) (l .before .before .args .n) (l .loop .i) (l .loop .inv .1) (c .before .before .before .before .before .loop-test .taken) (omega (arith, l .before .before .pre)) (c .before .before .put-row .ensures))
+    (omega arith, rows-goes (l .before .before .args .t3) (l .before .before .args .n) (l .loop .i) (l .loop .inv .1) (c .before .before .before .before .before .loop-test .taken) (omega (arith, l .before .before .pre)) _ (c .before .before .put-row .ensures))
 
 same-length : tie.Need-same-length Inv-loop μ-loop
 same-length c = c .before .loop .inv .1 .same

@@ -1,5 +1,6 @@
+-- Skeleton and paths (.before ..) are generated: docs/PROOFS.md.
 use borrow.Author.Needs.{needs}
-use Rattle.image_write.specs.Bytes.{rowSecond}
+use Rattle.image_write.specs.Code.Bytes.{rowSecond}
 use Rattle.image_write.proofs.Going.{four}
 use Rattle.image_write.proofs.put_second.Statement.{statement}
 use Rattle.image_write.proofs.put_second.Tie as tie

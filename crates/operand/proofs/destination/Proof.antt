@@ -1,4 +1,5 @@
-use Rattle.operand.specs.Spans.{destinationBelow}
+-- Skeleton and paths (.before ..) are generated: docs/PROOFS.md.
+use Rattle.operand.specs.Code.Spans.{destinationBelow}
 use borrow.Author.Needs.{needs}
 use Rattle.operand.proofs.destination.Statement.{statement}
 use Rattle.operand.proofs.destination.Tie as tie

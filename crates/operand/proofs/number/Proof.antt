@@ -1,4 +1,4 @@
-use Rattle.operand.specs.Spans.{numberIn}
+use Rattle.operand.specs.Code.Spans.{numberIn}
 use borrow.Author.Needs.{needs}
 use Rattle.operand.proofs.number.Statement.{statement}
 use Rattle.operand.proofs.number.Tie as tie

@@ -1,5 +1,6 @@
+-- Skeleton and paths (.before ..) are generated: docs/PROOFS.md.
 use borrow.Author.Tests.{eq-eqb, ne-eqb}
-use Rattle.operand.specs.Spans.{released}
+use Rattle.operand.specs.Code.Spans.{released}
 use borrow.Author.Needs.{needs}
 use Rattle.operand.proofs.release.Statement.{statement}
 use Rattle.operand.proofs.release.Tie as tie

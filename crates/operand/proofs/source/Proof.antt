@@ -1,4 +1,5 @@
-use Rattle.operand.specs.Spans.{sourceBelow}
+-- Skeleton and paths (.before ..) are generated: docs/PROOFS.md.
+use Rattle.operand.specs.Code.Spans.{sourceBelow}
 use borrow.Author.Needs.{needs}
 use Rattle.operand.proofs.source.Statement.{statement}
 use Rattle.operand.proofs.source.Tie as tie

@@ -15,7 +15,7 @@ use Rattle.operand.specs.declared.Lookup.{Lookup}
 use Rattle.operand.specs.declared.Lookup.the-variants.{Found}
 use Rattle.operand.specs.declared.Lookup.the-variants as lookup
 use Rattle.operand.specs.Field.{constantOf, accessOf, effectiveOf, registerLookup, sourceLookup, destinationLookup, lookupOf}
-use Rattle.operand.specs.Spans.{Spans, sourceBelow, destinationBelow, numberIn}
+use Rattle.operand.specs.Code.Spans.{Spans, sourceBelow, destinationBelow, numberIn}
 use Rattle.operand.specs.Laws.Operands.{Within, lookup-within}
 
 module _ (row : Row) (cb base end : ℕ) (s : Spans row cb base end) (psw f : ℕ) where

@@ -32,7 +32,7 @@ use Rattle.operation.specs.Roles.{rolesOf, illegalInstruction, bOf}
 use Rattle.operation.specs.Perform.{wordPlace}
 use Rattle.operation.specs.Environment.{Environment, environmentOf}
 use Rattle.operation.specs.Decide.{foundOperand, decideFound, foundOperands, decideLookups, decideOperands, decideListed, decideCode, decideFetched, decide}
-use Rattle.operation.specs.FoundOperands.{foundAt, allFoundAt}
+use Rattle.operation.specs.Code.FoundOperands.{foundAt, allFoundAt}
 
 -- an answer that is told in two ways
 pub told : {A : Type 0} {x y z : A} → x ≡ y → x ≡ z → y ≡ z

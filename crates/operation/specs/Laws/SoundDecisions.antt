@@ -25,7 +25,7 @@ use Rattle.operand.specs.declared.Operand.the-variants.{Register, Constant, Abs
 use Rattle.operand.specs.declared.Lookup.{Lookup}
 use Rattle.operand.specs.declared.Lookup.the-variants.{Found}
 use Rattle.operand.specs.declared.Lookup.the-variants as lookup
-use Rattle.operand.specs.Access.{emptying, sourceLeft, destinationTag, destinationLeft}
+use Rattle.operand.specs.Access.{codeLine, emptying, sourceLeft, destinationTag, destinationLeft}
 use Rattle.operation.specs.declared.Roles.{Roles}
 use Rattle.operation.specs.declared.Trap.{Trap}
 use Rattle.operation.specs.declared.Trap.the-variants as trap
@@ -116,12 +116,12 @@ unfolding sourceLeft
 source-sound Unused ac o c t w = tt
 source-sound Free ac o c t w = tt
 source-sound Destination ac o c t w = tt
-source-sound Source ac o c t w = either (SoundWrite tagSound) (eqb ac 2) (emptying-sound o c t w) tt
+source-sound Source ac o c t w = either (SoundWrite tagSound) (codeLine ac .sourceEmptied) (emptying-sound o c t w) tt
 
 tag-sound : (ac q : ℕ) → q ≤ 6 → tagSound (destinationTag ac q) ≡ true
 unfolding destinationTag
 tag-sound ac q h =
-    either (λ (t : ℕ). tagSound t ≡ true) (eqb ac 3) (empty-sound (q % 8) (omega arith)) (full-sound (q % 8) (omega arith))
+    either (λ (t : ℕ). tagSound t ≡ true) (codeLine ac .destinationEmptied) (empty-sound (q % 8) (omega arith)) (full-sound (q % 8) (omega arith))
 
 destination-sound : (ac : ℕ) (o : Operand) (w q : ℕ) → wordSound w ≡ true → q ≤ 6 → SoundWrite tagSound (destinationLeft ac o w q)
 unfolding destinationLeft

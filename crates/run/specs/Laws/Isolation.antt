@@ -174,18 +174,18 @@ apart-of A s k = record {
 -- ---- two runs
 
 -- a set A of tasks that may share windows among themselves
-pub isolation-of-set : (decide : Environment → Decision) (A : ℕ → Bool) (ts us : List ℕ) (s s′ : State) (c c′ : Counts)
+pub isolation-of-set : (instructions : Environment → Decision) (A : ℕ → Bool) (ts us : List ℕ) (s s′ : State) (c c′ : Counts)
     → Inv s → Inv s′ → Apart A s → Apart A s′
     → ((t : ℕ) → A t ≡ true → Compared t s s′) → ((t : ℕ) → A t ≡ true → SameProgram t s s′) → SameConstants s s′
     → only A ts ≡ only A us
-    → runBy decide ts s c .state .table .flag ≡ 0 → runBy decide us s′ c′ .state .table .flag ≡ 0
-    → (t : ℕ) → A t ≡ true → Compared t (runBy decide ts s c .state) (runBy decide us s′ c′ .state)
-isolation-of-set decide A ts us s s′ c c′ inv inv′ apart apart′ h p k e z z′ t m =
-    subst₂ (Compared t) (sym (run-after decide ts s c)) (sym (run-after decide us s′ c′))
-    (compared-of A (after decide ts s) (after decide us s′)
-    (runs-agree decide A ts us s s′ e
-    (record { inv = inv; apart = apart-of A s apart; down = ap (λ (x : State). x .table .flag) (sym (run-after decide ts s c)) ∙ z })
-    (record { inv = inv′; apart = apart-of A s′ apart′; down = ap (λ (x : State). x .table .flag) (sym (run-after decide us s′ c′)) ∙ z′ })
+    → runBy instructions ts s c .state .table .flag ≡ 0 → runBy instructions us s′ c′ .state .table .flag ≡ 0
+    → (t : ℕ) → A t ≡ true → Compared t (runBy instructions ts s c .state) (runBy instructions us s′ c′ .state)
+isolation-of-set instructions A ts us s s′ c c′ inv inv′ apart apart′ h p k e z z′ t m =
+    subst₂ (Compared t) (sym (run-after instructions ts s c)) (sym (run-after instructions us s′ c′))
+    (compared-of A (after instructions ts s) (after instructions us s′)
+    (runs-agree instructions A ts us s s′ e
+    (record { inv = inv; apart = apart-of A s apart; down = ap (λ (x : State). x .table .flag) (sym (run-after instructions ts s c)) ∙ z })
+    (record { inv = inv′; apart = apart-of A s′ apart′; down = ap (λ (x : State). x .table .flag) (sym (run-after instructions us s′ c′)) ∙ z′ })
     (agree-of A s s′ h p k)) t m)
 
 -- ---- one task

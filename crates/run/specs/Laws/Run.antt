@@ -11,7 +11,7 @@ use Rattle.step.specs.declared.Ending.{Ending}
 use Rattle.step.specs.declared.Ending.the-variants.{Executed, Waved, Trapped, Idle}
 use Rattle.step.specs.State.{State}
 use Rattle.step.specs.Step.{stepBy}
-use Rattle.step.specs.Laws.Step.{step-flag}
+use Rattle.step.specs.Laws.Step.{flag-kept}
 use Rattle.step.specs.Laws.Lengths.{SameLengths, same-lengths, lengths-join, step-lengths}
 use Rattle.run.specs.declared.Counts.{Counts}
 use Rattle.run.specs.Run.{counted, noCounts, runBy, run}
@@ -27,33 +27,37 @@ sum-counted Waved c = omega arith
 sum-counted (Trapped k p) c = omega arith
 sum-counted Idle c = omega arith
 
-module _ (decide : Environment → Decision) where
+module _ (instructions : Environment → Decision) where
   -- the state after a schedule
   unfoldable pub after : List ℕ → State → State
   after [] s = s
-  after (t ∷ ts) s = after ts (stepBy decide t s .state)
+  after (t ∷ ts) s = after ts (stepBy instructions t s .state)
 
-  pub run-after : (ts : List ℕ) (s : State) (c : Counts) → runBy decide ts s c .state ≡ after ts s
+  pub run-after : (ts : List ℕ) (s : State) (c : Counts) → runBy instructions ts s c .state ≡ after ts s
   unfolding runBy after
   run-after [] s c = refl
-  run-after (t ∷ ts) s c = run-after ts (stepBy decide t s .state) (counted (stepBy decide t s .ending) c)
+  run-after (t ∷ ts) s c = run-after ts (stepBy instructions t s .state) (counted (stepBy instructions t s .ending) c)
 
-  sum-run : (ts : List ℕ) (s : State) (c : Counts) → sum (runBy decide ts s c .counts) ≡ length ts + sum c
+  sum-run : (ts : List ℕ) (s : State) (c : Counts) → sum (runBy instructions ts s c .counts) ≡ length ts + sum c
   unfolding runBy
   sum-run [] s c = omega arith
   sum-run (t ∷ ts) s c =
-      sum-run ts (stepBy decide t s .state) (counted (stepBy decide t s .ending) c) ∙ omega (arith, sum-counted (stepBy decide t s .ending) c)
+      sum-run ts (stepBy instructions t s .state) (counted (stepBy instructions t s .ending) c) ∙ omega (arith, sum-counted (stepBy instructions t s .ending) c)
+
+  -- the flag stays or goes up
+  pub after-kept : (P : ℕ → Type 0) → P 1 → (ts : List ℕ) (s : State) → P (s .table .flag) → P (after ts s .table .flag)
+  unfolding after
+  after-kept P up [] s k = k
+  after-kept P up (t ∷ ts) s k = after-kept P up ts (stepBy instructions t s .state) (flag-kept instructions P up t s k)
 
   -- the flag is down at the end: it was down throughout
   pub after-flag : (ts : List ℕ) (s : State) → after ts s .table .flag ≡ 0 → s .table .flag ≡ 0
-  unfolding after
-  after-flag [] s z = z
-  after-flag (t ∷ ts) s z = step-flag decide t s (after-flag ts (stepBy decide t s .state) z)
+  after-flag ts s = after-kept (λ (x : ℕ). x ≡ 0 → s .table .flag ≡ 0) (λ e. absurd (omega arith)) ts s (λ z. z)
 
   after-lengths : (ts : List ℕ) (s : State) → SameLengths (after ts s) s
   unfolding after
   after-lengths [] s = same-lengths s
-  after-lengths (t ∷ ts) s = lengths-join (after-lengths ts (stepBy decide t s .state)) (step-lengths decide t s)
+  after-lengths (t ∷ ts) s = lengths-join (after-lengths ts (stepBy instructions t s .state)) (step-lengths instructions t s)
 
 -- a run changes the length of no memory, and not how many rows there are
 pub run-lengths : (schedule : List ℕ) (s : State) → SameLengths (run schedule s .state) s
@@ -65,7 +69,11 @@ pub run-counts : (schedule : List ℕ) (s : State) → sum (run schedule s .coun
 unfolding run
 run-counts schedule s = sum-run decide schedule s noCounts ∙ omega arith
 
--- a run never lowers the flag
+-- a run never lowers the flag: down at the end, it was down at the start; up at the start, it is up at the end
 pub run-flag : (schedule : List ℕ) (s : State) → run schedule s .state .table .flag ≡ 0 → s .table .flag ≡ 0
 unfolding run
 run-flag schedule s z = after-flag decide schedule s (ap (λ (x : State). x .table .flag) (sym (run-after decide schedule s noCounts)) ∙ z)
+
+pub run-flag-up : (schedule : List ℕ) (s : State) → s .table .flag ≡ 1 → run schedule s .state .table .flag ≡ 1
+unfolding run
+run-flag-up schedule s u = ap (λ (x : State). x .table .flag) (run-after decide schedule s noCounts) ∙ after-kept decide (λ (x : ℕ). x ≡ 1) refl schedule s u

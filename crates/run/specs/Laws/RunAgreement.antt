@@ -30,45 +30,45 @@ module _ (A : ℕ → Bool) where
   unfolding only
   only-out t ts m = ap (λ (b : Bool). cond b (t ∷ only ts) (only ts)) m
 
-module _ (decide : Environment → Decision) (A : ℕ → Bool) where
+module _ (instructions : Environment → Decision) (A : ℕ → Bool) where
   -- a state, and a schedule that leaves the flag down
   pub record Ready (ts : List ℕ) (s : State) : Type 0 where
     pub inv : Inv s
     pub apart : Apart A s
-    pub down : after decide ts s .table .flag ≡ 0
+    pub down : after instructions ts s .table .flag ≡ 0
 
-  down-first : (t : ℕ) (ts : List ℕ) (s : State) → Ready (t ∷ ts) s → stepBy decide t s .state .table .flag ≡ 0
+  down-first : (t : ℕ) (ts : List ℕ) (s : State) → Ready (t ∷ ts) s → stepBy instructions t s .state .table .flag ≡ 0
   unfolding after
-  down-first t ts s r = after-flag decide ts (stepBy decide t s .state) (r .down)
+  down-first t ts s r = after-flag instructions ts (stepBy instructions t s .state) (r .down)
 
-  ready-next : (t : ℕ) (ts : List ℕ) (s : State) → Ready (t ∷ ts) s → Ready ts (stepBy decide t s .state)
+  ready-next : (t : ℕ) (ts : List ℕ) (s : State) → Ready (t ∷ ts) s → Ready ts (stepBy instructions t s .state)
   unfolding after
   ready-next t ts s r = record {
-    inv = step-inv decide t s (r .inv) (down-first t ts s r);
-    apart = apart-step decide A t s (r .inv) (down-first t ts s r) (r .apart);
+    inv = step-inv instructions t s (r .inv) (down-first t ts s r);
+    apart = apart-step instructions A t s (r .inv) (down-first t ts s r) (r .apart);
     down = r .down;
   }
 
-  outside : (t : ℕ) (ts : List ℕ) (s : State) → A t ≡ false → Ready (t ∷ ts) s → Agree A s (stepBy decide t s .state)
-  outside t ts s out r = step-outside decide A t s out (r .inv) (r .apart) (down-first t ts s r)
+  outside : (t : ℕ) (ts : List ℕ) (s : State) → A t ≡ false → Ready (t ∷ ts) s → Agree A s (stepBy instructions t s .state)
+  outside t ts s out r = step-outside instructions A t s out (r .inv) (r .apart) (down-first t ts s r)
 
   inside : (t : ℕ) (ts us : List ℕ) (s s′ : State) → A t ≡ true → Agree A s s′ → Ready (t ∷ ts) s → Ready (t ∷ us) s′
-      → Agree A (stepBy decide t s .state) (stepBy decide t s′ .state)
+      → Agree A (stepBy instructions t s .state) (stepBy instructions t s′ .state)
   inside t ts us s s′ m g r r′ =
-      step-inside decide A s s′ g (step-flag decide t s (down-first t ts s r) ∙ sym (step-flag decide t s′ (down-first t us s′ r′))) t m
+      step-inside instructions A s s′ g (step-flag instructions t s (down-first t ts s r) ∙ sym (step-flag instructions t s′ (down-first t us s′ r′))) t m
       (r .inv) (r′ .inv) (down-first t ts s r) (down-first t us s′ r′)
 
   -- nothing of A in the schedule
-  all-outside : (us : List ℕ) (s : State) → only A us ≡ [] → Ready us s → Agree A s (after decide us s)
+  all-outside : (us : List ℕ) (s : State) → only A us ≡ [] → Ready us s → Agree A s (after instructions us s)
   unfolding after
   all-outside [] s e r = agree-refl A s
-  all-outside (u ∷ us) s e r = go (A u) refl (λ k. all-outside us (stepBy decide u s .state) k (ready-next u us s r))
+  all-outside (u ∷ us) s e r = go (A u) refl (λ k. all-outside us (stepBy instructions u s .state) k (ready-next u us s r))
     where
-      go : (b : Bool) → A u ≡ b → (only A us ≡ [] → Agree A (stepBy decide u s .state) (after decide us (stepBy decide u s .state)))
-          → Agree A s (after decide us (stepBy decide u s .state))
+      go : (b : Bool) → A u ≡ b → (only A us ≡ [] → Agree A (stepBy instructions u s .state) (after instructions us (stepBy instructions u s .state)))
+          → Agree A s (after instructions us (stepBy instructions u s .state))
       go true m ih = absurd (cons≢nil (sym (only-in A u us m) ∙ e))
       go false m ih =
-          agree-trans A s (stepBy decide u s .state) (after decide us (stepBy decide u s .state)) (outside u us s m r) (ih (sym (only-out A u us m) ∙ e))
+          agree-trans A s (stepBy instructions u s .state) (after instructions us (stepBy instructions u s .state)) (outside u us s m r) (ih (sym (only-out A u us m) ∙ e))
 
   -- the schedule up to the first item of A, which is x
   record Reaches (us : List ℕ) (s : State) (x : ℕ) (xs : List ℕ) : Type 0 where
@@ -77,14 +77,14 @@ module _ (decide : Environment → Decision) (A : ℕ → Bool) where
     sees : Agree A s s₁
     ready : Ready (x ∷ us₁) s₁
     left : only A us₁ ≡ xs
-    ends : after decide us s ≡ after decide (x ∷ us₁) s₁
+    ends : after instructions us s ≡ after instructions (x ∷ us₁) s₁
 
   reaches : (us : List ℕ) (s : State) (x : ℕ) (xs : List ℕ) → only A us ≡ x ∷ xs → Ready us s → Reaches us s x xs
   unfolding after
   reaches [] s x xs e r = absurd (nil≢cons (sym (only-nil A) ∙ e))
-  reaches (u ∷ us) s x xs e r = go (A u) refl (λ k. reaches us (stepBy decide u s .state) x xs k (ready-next u us s r))
+  reaches (u ∷ us) s x xs e r = go (A u) refl (λ k. reaches us (stepBy instructions u s .state) x xs k (ready-next u us s r))
     where
-      go : (b : Bool) → A u ≡ b → (only A us ≡ x ∷ xs → Reaches us (stepBy decide u s .state) x xs) → Reaches (u ∷ us) s x xs
+      go : (b : Bool) → A u ≡ b → (only A us ≡ x ∷ xs → Reaches us (stepBy instructions u s .state) x xs) → Reaches (u ∷ us) s x xs
       go true m ih =
           let q : u ∷ only A us ≡ x ∷ xs = sym (only-in A u us m) ∙ e in
           let h : u ≡ x = head-eq-of-cons-eq q in
@@ -94,35 +94,35 @@ module _ (decide : Environment → Decision) (A : ℕ → Bool) where
             sees = agree-refl A s;
             ready = subst (λ (y : ℕ). Ready (y ∷ us) s) h r;
             left = tail-eq-of-cons-eq q;
-            ends = ap (λ (y : ℕ). after decide us (stepBy decide y s .state)) h;
+            ends = ap (λ (y : ℕ). after instructions us (stepBy instructions y s .state)) h;
           }
       go false m ih =
-          let k : Reaches us (stepBy decide u s .state) x xs = ih (sym (only-out A u us m) ∙ e) in
+          let k : Reaches us (stepBy instructions u s .state) x xs = ih (sym (only-out A u us m) ∙ e) in
           record {
             us₁ = k .us₁;
             s₁ = k .s₁;
-            sees = agree-trans A s (stepBy decide u s .state) (k .s₁) (outside u us s m r) (k .sees);
+            sees = agree-trans A s (stepBy instructions u s .state) (k .s₁) (outside u us s m r) (k .sees);
             ready = k .ready;
             left = k .left;
             ends = k .ends;
           }
 
   pub runs-agree : (ts us : List ℕ) (s s′ : State) → only A ts ≡ only A us → Ready ts s → Ready us s′ → Agree A s s′
-      → Agree A (after decide ts s) (after decide us s′)
+      → Agree A (after instructions ts s) (after instructions us s′)
   unfolding after
-  runs-agree [] us s s′ e r r′ g = agree-trans A s s′ (after decide us s′) g (all-outside us s′ (sym e ∙ only-nil A) r′)
+  runs-agree [] us s s′ e r r′ g = agree-trans A s s′ (after instructions us s′) g (all-outside us s′ (sym e ∙ only-nil A) r′)
   runs-agree (t ∷ ts) us s s′ e r r′ g =
-      go (A t) refl (λ us₂ s₂ k q h. runs-agree ts us₂ (stepBy decide t s .state) s₂ k (ready-next t ts s r) q h)
+      go (A t) refl (λ us₂ s₂ k q h. runs-agree ts us₂ (stepBy instructions t s .state) s₂ k (ready-next t ts s r) q h)
     where
       go : (b : Bool) → A t ≡ b
-          → ((us₂ : List ℕ) (s₂ : State) → only A ts ≡ only A us₂ → Ready us₂ s₂ → Agree A (stepBy decide t s .state) s₂
-          → Agree A (after decide ts (stepBy decide t s .state)) (after decide us₂ s₂))
-          → Agree A (after decide ts (stepBy decide t s .state)) (after decide us s′)
+          → ((us₂ : List ℕ) (s₂ : State) → only A ts ≡ only A us₂ → Ready us₂ s₂ → Agree A (stepBy instructions t s .state) s₂
+          → Agree A (after instructions ts (stepBy instructions t s .state)) (after instructions us₂ s₂))
+          → Agree A (after instructions ts (stepBy instructions t s .state)) (after instructions us s′)
       go true m ih =
           let k : Reaches us s′ t (only A ts) = reaches us s′ t (only A ts) (sym e ∙ only-in A t ts m) r′ in
-          subst (Agree A (after decide ts (stepBy decide t s .state))) (sym (k .ends))
-          (ih (k .us₁) (stepBy decide t (k .s₁) .state) (sym (k .left)) (ready-next t (k .us₁) (k .s₁) (k .ready))
+          subst (Agree A (after instructions ts (stepBy instructions t s .state))) (sym (k .ends))
+          (ih (k .us₁) (stepBy instructions t (k .s₁) .state) (sym (k .left)) (ready-next t (k .us₁) (k .s₁) (k .ready))
           (inside t ts (k .us₁) s (k .s₁) m (agree-trans A s s′ (k .s₁) g (k .sees)) r (k .ready)))
       go false m ih =
           ih us s′ (sym (only-out A t ts m) ∙ e) r′
-          (agree-trans A (stepBy decide t s .state) s s′ (agree-sym A s (stepBy decide t s .state) (outside t ts s m r)) g)
+          (agree-trans A (stepBy instructions t s .state) s s′ (agree-sym A s (stepBy instructions t s .state) (outside t ts s m r)) g)

@@ -70,20 +70,20 @@ visible-same w m n c d h k e (Register a) = λ i. record { tag = seen-same w (m 
 visible-same w m n c d h k e (Constant a) = e a
 visible-same w m n c d h k e Absent = refl
 
-module _ (decide : Environment → Decision) where
-  pub apart-step : (A : ℕ → Bool) (t : ℕ) (s : State) → Inv s → stepBy decide t s .state .table .flag ≡ 0 → Apart A s → Apart A (stepBy decide t s .state)
+module _ (instructions : Environment → Decision) where
+  pub apart-step : (A : ℕ → Bool) (t : ℕ) (s : State) → Inv s → stepBy instructions t s .state .table .flag ≡ 0 → Apart A s → Apart A (stepBy instructions t s .state)
   apart-step A t s inv z k = record {
-    windows = λ m u v i o r x e f. k .windows m u v i o r x (sym (fixed-step decide t u s inv z) ∙ e) (sym (fixed-step decide t v s inv z) ∙ f);
+    windows = λ m u v i o r x e f. k .windows m u v i o r x (sym (fixed-step instructions t u s inv z) ∙ e) (sym (fixed-step instructions t v s inv z) ∙ f);
   }
 
   -- a step of a task outside A changes nothing that A sees
-  pub step-outside : (A : ℕ → Bool) (u : ℕ) (s : State) → A u ≡ false → Inv s → Apart A s → stepBy decide u s .state .table .flag ≡ 0
-      → Agree A s (stepBy decide u s .state)
+  pub step-outside : (A : ℕ → Bool) (u : ℕ) (s : State) → A u ≡ false → Inv s → Apart A s → stepBy instructions u s .state .table .flag ≡ 0
+      → Agree A s (stepBy instructions u s .state)
   step-outside A u s out inv k z = record {
-    owns = λ t m. sym (own-step-other decide u t s (λ e. true≢false (sym m ∙ ap A (sym e) ∙ out)) inv z);
-    constants = λ a. ap (λ (l : List ℕ). constantAt l a) (sym (constants-step decide u s));
-    cells = λ x t m r e a i. sym (step-outside-window decide x u s a (λ y f. k .windows x t u m out r y e f a i));
-    code = λ t m r e a i. ap (λ (l : List ℕ). getElem? l a) (sym (program-step decide u s));
+    owns = λ t m. sym (own-step-other instructions u t s (λ e. true≢false (sym m ∙ ap A (sym e) ∙ out)) inv z);
+    constants = λ a. ap (λ (l : List ℕ). constantAt l a) (sym (constants-step instructions u s));
+    cells = λ x t m r e a i. sym (step-outside-window instructions x u s a (λ y f. k .windows x t u m out r y e f a i));
+    code = λ t m r e a i. ap (λ (l : List ℕ). getElem? l a) (sym (program-step instructions u s));
   }
 
   -- a step of a task of A, in two states that agree on A
@@ -104,37 +104,37 @@ module _ (decide : Environment → Decision) where
       };
     }
 
-    head-same : (r : Row) → fixedAt t s ≡ some (fixed r) → (ps : List ℕ) → headDecides decide s r ps ≡ headDecides decide s′ r ps
+    head-same : (r : Row) → fixedAt t s ≡ some (fixed r) → (ps : List ℕ) → headDecides instructions s r ps ≡ headDecides instructions s′ r ps
     unfolding headDecides
     head-same r e [] = refl
-    head-same r e (p ∷ ps) = ap (λ (x : Environment). some (decide x)) (environment-same r e p)
+    head-same r e (p ∷ ps) = ap (λ (x : Environment). some (instructions x)) (environment-same r e p)
 
-    decided-same : decided decide s (own t s) ≡ decided decide s′ (own t s′)
+    decided-same : decided instructions s (own t s) ≡ decided instructions s′ (own t s′)
     unfolding fixedAt rowDecides
-    decided-same = go (own t s) refl ∙ ap (decided decide s′) (g .owns t m)
+    decided-same = go (own t s) refl ∙ ap (decided instructions s′) (g .owns t m)
       where
-        go : (o : Option Own) → own t s ≡ o → decided decide s o ≡ decided decide s′ o
+        go : (o : Option Own) → own t s ≡ o → decided instructions s o ≡ decided instructions s′ o
         go none e = refl
         go (some o) e = ap (λ (x : Option Decision). cond (eqb (o .row .kind) noTrap) x none) (head-same (o .row) (ap fixedOf e) (o .processes))
 
-    pub step-inside : Inv s → Inv s′ → stepBy decide t s .state .table .flag ≡ 0 → stepBy decide t s′ .state .table .flag ≡ 0
-        → Agree A (stepBy decide t s .state) (stepBy decide t s′ .state)
+    pub step-inside : Inv s → Inv s′ → stepBy instructions t s .state .table .flag ≡ 0 → stepBy instructions t s′ .state .table .flag ≡ 0
+        → Agree A (stepBy instructions t s .state) (stepBy instructions t s′ .state)
     step-inside inv inv′ z z′ = record {
       owns = λ u n. go u n (eqb t u) (eq? t u);
       constants = λ a.
-          ap (λ (l : List ℕ). constantAt l a) (constants-step decide t s) ∙ g .constants a ∙ sym (ap (λ (l : List ℕ). constantAt l a) (constants-step decide t s′));
+          ap (λ (l : List ℕ). constantAt l a) (constants-step instructions t s) ∙ g .constants a ∙ sym (ap (λ (l : List ℕ). constantAt l a) (constants-step instructions t s′));
       cells = λ x u n r e a i.
-          list-step decide x t s a
-          ∙ (λ j. hitsIn decide x (decided-same j) (g .owns t m j) a (g .cells x u n r (sym (fixed-step decide t u s inv z) ∙ e) a i j))
-          ∙ sym (list-step decide x t s′ a);
+          list-step instructions x t s a
+          ∙ (λ j. hitsIn instructions x (decided-same j) (g .owns t m j) a (g .cells x u n r (sym (fixed-step instructions t u s inv z) ∙ e) a i j))
+          ∙ sym (list-step instructions x t s′ a);
       code = λ u n r e a i.
-          ap (λ (l : List ℕ). getElem? l a) (program-step decide t s)
-          ∙ g .code u n r (sym (fixed-step decide t u s inv z) ∙ e) a i
-          ∙ sym (ap (λ (l : List ℕ). getElem? l a) (program-step decide t s′));
+          ap (λ (l : List ℕ). getElem? l a) (program-step instructions t s)
+          ∙ g .code u n r (sym (fixed-step instructions t u s inv z) ∙ e) a i
+          ∙ sym (ap (λ (l : List ℕ). getElem? l a) (program-step instructions t s′));
     }
       where
-        go : (u : ℕ) → A u ≡ true → (b : Bool) → Eq? t u b → own u (stepBy decide t s .state) ≡ own u (stepBy decide t s′ .state)
+        go : (u : ℕ) → A u ≡ true → (b : Bool) → Eq? t u b → own u (stepBy instructions t s .state) ≡ own u (stepBy instructions t s′ .state)
         go u n true (same e) =
-            subst (λ (v : ℕ). own v (stepBy decide t s .state) ≡ own v (stepBy decide t s′ .state)) e
-            (own-step decide t s inv z ∙ ap₂ (localIn decide) decided-same (g .owns t m) ∙ sym (own-step decide t s′ inv′ z′))
-        go u n false (differ h) = own-step-other decide t u s h inv z ∙ g .owns u n ∙ sym (own-step-other decide t u s′ h inv′ z′)
+            subst (λ (v : ℕ). own v (stepBy instructions t s .state) ≡ own v (stepBy instructions t s′ .state)) e
+            (own-step instructions t s inv z ∙ ap₂ (localIn instructions) decided-same (g .owns t m) ∙ sym (own-step instructions t s′ inv′ z′))
+        go u n false (differ h) = own-step-other instructions t u s h inv z ∙ g .owns u n ∙ sym (own-step-other instructions t u s′ h inv′ z′)

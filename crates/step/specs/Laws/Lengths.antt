@@ -60,9 +60,9 @@ act-lengths s r d = record {
   dataWords = length-storedAll wordOf (dataWordWindow r) (dataWrites d) (s .dataWords .words);
 }
 
-pub step-lengths : (decide : Environment → Decision) (t : ℕ) (s : State) → SameLengths (stepBy decide t s .state) s
-step-lengths decide t s =
-    elim (steps decide t s) [
+pub step-lengths : (instructions : Environment → Decision) (t : ℕ) (s : State) → SameLengths (stepBy instructions t s .state) s
+step-lengths instructions t s =
+    elim (steps instructions t s) [
       | idles e n ↦ subst (λ (x : State). SameLengths x s) (sym e) (same-lengths s)
       | acts r d f q o n e ↦ subst (λ (x : State). SameLengths x s) (sym e) (act-lengths s r d)
     ]

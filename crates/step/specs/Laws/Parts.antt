@@ -26,9 +26,9 @@ use Rattle.step.specs.declared.Decided.the-variants.{Idle, Decides}
 use Rattle.step.specs.declared.StepResult.{StepResult}
 use Rattle.step.specs.Queues.{ring, listOf, headOf, lowestFree}
 use Rattle.step.specs.State.{State, state, findRow, putRow, noQueue, queueIn, taskQueue, withQueue, pswsOf, processesOf, environment}
-use Rattle.step.specs.Act.{registerWrites, dataWrites, trappedRow, tableOf, Change, Stepped, changeOf, fateIn, createdIn, faultIn, createdPsw, headPsw, act}
+use Rattle.step.specs.Act.{registerWrites, dataWrites, trappedRow, tableOf, Change, Stepped, changeOf, fateIn, createdIn, faultIn, createdPsws, headPsws, act}
 use Rattle.step.specs.Step.{noTrap, headDecides, rowDecides, acted, stepRow, stepBy, step}
-use Rattle.step.specs.Parts.{decidedAs, hasRoom, fateCreates, creates, fateResult, decisionResult, resultOf, fatePsws, decisionPsws, pswsAfter, registersWritten, dataWritten, movedQueue, flagAfter, rowAfter, Acts}
+use Rattle.step.specs.Code.Parts.{decidedAs, belowTotal, fateCreates, creates, fateResult, decisionResult, resultOf, fatePsws, decisionPsws, pswsAfter, registersWritten, dataWritten, movedQueue, flagAfter, rowAfter, Acts}
 use Rattle.step.specs.Laws.Occurrences.{Heads}
 use Rattle.step.specs.Laws.Queues.{heads}
 use Rattle.step.specs.Laws.Rows.{put-same, find-task}
@@ -66,25 +66,25 @@ changed table r x psw = record {
 }
 
 module _ (table : ProcessTable) (r : Row) (free : ℕ) (room : Bool) where
-  fate-parts : (f : Fate) → (fateCreates f ≡ true → free ≡ lowestFree (table .queues)) → (fateCreates f ≡ true → room ≡ hasRoom (table .queues))
+  fate-parts : (f : Fate) → (fateCreates f ≡ true → free ≡ lowestFree (table .queues)) → (fateCreates f ≡ true → room ≡ belowTotal (table .queues))
       → fateIn table r f ≡ changed table r (fateResult free room f) (fatePsws (headOf (taskQueue table (r .task))) free f (table .psw))
-  unfolding fateIn fateCreates fateResult fatePsws headPsw createdIn createdPsw faultIn rowAfter movedQueue flagAfter
+  unfolding fateIn fateCreates fateResult fatePsws headPsws createdIn createdPsws faultIn rowAfter movedQueue flagAfter
   fate-parts (Continues p) g h = refl
   fate-parts Quits g h = refl
-  fate-parts (Creates p new) g h = rw (g refl, h refl) (go (hasRoom (table .queues)))
+  fate-parts (Creates p new) g h = rw (g refl, h refl) (go (belowTotal (table .queues)))
     where
       go : (b : Bool) → cond b (createdIn table r p new) (faultIn table r p new)
-          ≡ changed table r (fateResult (lowestFree (table .queues)) b (Creates p new)) (createdPsw table r p new)
+          ≡ changed table r (fateResult (lowestFree (table .queues)) b (Creates p new)) (createdPsws table r p new)
       go true = refl
       go false = refl
 
   change-parts : (d : Decision) → (creates (decidedAs (some d)) ≡ true → free ≡ lowestFree (table .queues))
-      → (creates (decidedAs (some d)) ≡ true → room ≡ hasRoom (table .queues))
+      → (creates (decidedAs (some d)) ≡ true → room ≡ belowTotal (table .queues))
       → changeOf table r d ≡ changed table r (decisionResult free room d) (decisionPsws (headOf (taskQueue table (r .task))) free d (table .psw))
-  unfolding changeOf creates decidedAs decisionResult decisionPsws headPsw rowAfter movedQueue flagAfter
+  unfolding changeOf creates decidedAs decisionResult decisionPsws headPsws rowAfter movedQueue flagAfter
   change-parts (Waits w) g h = refl
   change-parts (Traps k p) g h =
-      ap (λ (qs : List Queue). record { row = trappedRow r k p; table = tableOf (headPsw table (r .task) p) qs (table .flag); ending = Trapped k p })
+      ap (λ (qs : List Queue). record { row = trappedRow r k p; table = tableOf (headPsws table (r .task) p) qs (table .flag); ending = Trapped k p })
       (sym (queue-same (table .queues) (r .task)))
   change-parts (Executes e) g h = fate-parts (e .fate) g h
 
@@ -99,7 +99,7 @@ steppedBy s r x psw registers dataWords =
 module _ (s : State) (r : Row) (head free : ℕ) (room : Bool) (x : StepResult) (psw : List ℕ) (m n : Memory) (stands : putRow (r .task) r (s .rows) ≡ s .rows)
     (heads : head ≡ headOf (taskQueue (s .table) (r .task))) where
   acted-parts : (o : Option Decision) → (creates (decidedAs o) ≡ true → free ≡ lowestFree (s .table .queues))
-      → (creates (decidedAs o) ≡ true → room ≡ hasRoom (s .table .queues)) → Acts r (decidedAs o) head free room x (s .table .psw) psw (s .registers) m (s .dataWords) n
+      → (creates (decidedAs o) ≡ true → room ≡ belowTotal (s .table .queues)) → Acts r (decidedAs o) head free room x (s .table .psw) psw (s .registers) m (s .dataWords) n
       → acted decide s r o ≡ steppedBy s r x psw m n
   unfolding acted act steppedBy decidedAs resultOf pswsAfter registersWritten dataWritten written storedAll rowAfter movedQueue flagAfter
   acted-parts none g h a =
@@ -125,7 +125,7 @@ pub record Parts (t : ℕ) (s : State) (r : Row) (d : Decided) (x : StepResult) 
   pub decides : d ≡ decidedAs (rowDecides decide s r (processesOf (s .table) t))
   pub heads : head ≡ headOf (taskQueue (s .table) t)
   pub lowest : creates d ≡ true → free ≡ lowestFree (s .table .queues)
-  pub places : creates d ≡ true → room ≡ hasRoom (s .table .queues)
+  pub places : creates d ≡ true → room ≡ belowTotal (s .table .queues)
   pub acts : Acts r d head free room x (s .table .psw) psw (s .registers) m (s .dataWords) n
 
 step-parts : (t : ℕ) (s : State) (r : Row) (d : Decided) (x : StepResult) (psw : List ℕ) (m n : Memory) → Parts t s r d x psw m n
@@ -139,7 +139,7 @@ step-parts t s r d x psw m n p =
     (subst (λ (u : ℕ). p .head ≡ headOf (taskQueue (s .table) u)) e (p .heads))
     (rowDecides decide s r (processesOf (s .table) t))
     (subst (λ (d : Decided). creates d ≡ true → p .free ≡ lowestFree (s .table .queues)) (p .decides) (p .lowest))
-    (subst (λ (d : Decided). creates d ≡ true → p .room ≡ hasRoom (s .table .queues)) (p .decides) (p .places))
+    (subst (λ (d : Decided). creates d ≡ true → p .room ≡ belowTotal (s .table .queues)) (p .decides) (p .places))
     (subst (λ (d : Decided). Acts r d (p .head) (p .free) (p .room) x (s .table .psw) psw (s .registers) m (s .dataWords) n) (p .decides) (p .acts)))
 
 -- with what a run holds after the step: the row, the queues and the flag, each left as it is where it does not change

@@ -23,8 +23,8 @@ use Rattle.step.specs.declared.Ending.the-variants.{Executed, Trapped}
 use Rattle.step.specs.declared.Motion.the-variants.{Stays, TurnsAndJoins, Joins}
 use Rattle.step.specs.declared.Decided.the-variants.{Decides}
 use Rattle.step.specs.Act.{registerWrites, dataWrites}
-use Rattle.step.specs.Parts.{result, fateResult, decisionResult, resultOf, fatePsws, decisionPsws, pswsAfter, registersWritten, dataWritten, Acts}
-use Rattle.step.specs.Performs.{trapCourse, fateCourse, courseOf, Performs, courseResult}
+use Rattle.step.specs.Code.Parts.{result, fateResult, decisionResult, resultOf, fatePsws, decisionPsws, pswsAfter, registersWritten, dataWritten, Acts}
+use Rattle.step.specs.Code.Performs.{trapCourse, fateCourse, courseOf, Performs, courseResult}
 
 pub performs-along : (row : Row) (d d′ : Decision) (pt fresh : ℕ) (r : Course) (psw psw′ : List ℕ) (m m′ n n′ : Memory) → d ≡ d′
     → Performs row d pt fresh r psw psw′ m m′ n n′ → Performs row d′ pt fresh r psw psw′ m m′ n n′

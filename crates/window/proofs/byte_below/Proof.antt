@@ -1,5 +1,5 @@
 use borrow.Author.Tests.{le-leb, lt-leb}
-use Rattle.window.specs.Spans.{byteBelow}
+use Rattle.window.specs.Code.Spans.{byteBelow}
 use borrow.Author.Needs.{needs}
 use Rattle.window.proofs.byte_below.Statement.{statement}
 use Rattle.window.proofs.byte_below.Tie as tie

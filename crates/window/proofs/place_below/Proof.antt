@@ -1,5 +1,5 @@
 use borrow.Author.Tests.{lt-ltb, le-ltb}
-use Rattle.window.specs.Spans.{placeBelow}
+use Rattle.window.specs.Code.Spans.{placeBelow}
 use borrow.Author.Needs.{needs}
 use Rattle.window.proofs.place_below.Statement.{statement}
 use Rattle.window.proofs.place_below.Tie as tie

@@ -10,7 +10,7 @@ use Rattle.window.specs.declared.Row.{Row}
 use Rattle.window.specs.declared.Window.{Window}
 use Rattle.window.specs.declared.Place.the-variants.{At, Violation}
 use Rattle.window.specs.Windows.{placeIn, dataWindow, bytePlace}
-use Rattle.window.specs.Spans.{endOf, Span, placeBelow, byteBelow}
+use Rattle.window.specs.Code.Spans.{endOf, Span, placeBelow, byteBelow}
 
 -- one comparison with the end is the comparison with the last
 below-end : (w : Window) (e : ℕ) → placeBelow (w .first) (endOf w) e ≡ placeIn w e

@@ -1,3 +1,4 @@
+-- Skeleton and paths (.before ..) are generated: docs/PROOFS.md.
 use Prim.Native.Nat.{ℕ, _*_, _/_, _%_, _^_}
 use native.Mathlib.Omega.{arith}
 use mathlib.Core.Path.{_≡_, sym, ap, _∙_}

@@ -1,4 +1,0 @@
-pub mod Held
-pub mod Promises
-pub mod Left
-pub mod Laws

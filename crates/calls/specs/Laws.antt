@@ -1,3 +1,0 @@
--- The laws of the definitions: nothing here need be believed.
-pub mod Opened
-pub mod InPlace

@@ -1,0 +1,73 @@
+-- How many bytes values have, and that cells are written alike whatever their tags mean.
+use Prim.Native.Nat.{ℕ, zero, suc, _+_, _-_, _*_, _<_}
+use mathlib.Core.Path.{_≡_, refl, sym, ap, _∙_}
+use mathlib.Core.Bool.{Bool, true}
+use mathlib.Core.List.{List, [], _∷_, _++_}
+use native.Mathlib.Nat.{mul-zero, mul-suc}
+use native.Mathlib.Omega.{arith}
+use lib.ListN.{length, getD, drop, length-append}
+use Rattle.window.specs.declared.Cell.{Cell}
+use Rattle.window.specs.Memories.{cell}
+use Rattle.image.specs.Codec.{Codec, digits, num, count, seq, via, encMany, section, noHeader, listSection, noState, uniformSection}
+use Rattle.image.specs.Image.{wordCodec, wordsCodec, cellCodec, cellsCodec, cellsOf}
+use Rattle.image.specs.Laws.Numbers.{length-digits}
+use Rattle.image_bytes.specs.Code.Writing.{wordBytes, cellBytes}
+
+pub word-length : (v : ℕ) → length (wordCodec .enc v) ≡ 8
+unfolding wordCodec num
+word-length v = length-digits 8 v
+
+pub cell-length : (f : ℕ → Bool) (c : Cell) → length (cellCodec f .enc c) ≡ 9
+unfolding cellCodec via seq wordCodec num
+cell-length f c = rw (length-append, length-digits, length-digits)
+
+-- values of one format, of `size` bytes each
+pub uniform-length : {A : Type 0} (c : Codec A) (size : ℕ) → ((a : A) → length (c .enc a) ≡ size) → (xs : List A)
+    → length (encMany (λ _. c) noState tt xs) ≡ size * length xs
+unfolding encMany
+uniform-length c size long [] = sym (mul-zero size)
+uniform-length c size long (x ∷ xs) = rw (length-append, long x, uniform-length c size long xs, mul-suc) (omega arith)
+
+-- cells of tags and words of one length
+pub cells-length : (tags words : List ℕ) → length tags ≡ length words → length (cellsOf tags words) ≡ length words
+unfolding cellsOf
+cells-length [] ws h = h
+cells-length (t ∷ ts) [] h = refl
+cells-length (t ∷ ts) (w ∷ ws) h = ap suc (cells-length ts ws (omega arith))
+
+pub cells-cons : (tags words : List ℕ) (i : ℕ) → length tags ≡ length words → i < length words
+    → drop i (cellsOf tags words) ≡ cell (getD tags i 0) (getD words i 0) ∷ drop (suc i) (cellsOf tags words)
+unfolding cellsOf
+cells-cons [] ws i e h = absurd (omega arith)
+cells-cons (t ∷ ts) [] i e h = absurd (omega arith)
+cells-cons (t ∷ ts) (w ∷ ws) zero e h = refl
+cells-cons (t ∷ ts) (w ∷ ws) (suc i) e h = cells-cons ts ws i (omega arith) (omega arith)
+
+pub word-bytes-length : (words : List ℕ) → length (wordBytes words) ≡ 8 * length words
+unfolding wordBytes
+word-bytes-length words = uniform-length wordCodec 8 word-length words
+
+pub cell-bytes-length : (tags words : List ℕ) → length tags ≡ length words → length (cellBytes tags words) ≡ 9 * length words
+unfolding cellBytes
+cell-bytes-length tags words e =
+    uniform-length (cellCodec (λ _. true)) 9 (cell-length (λ _. true)) (cellsOf tags words) ∙ ap (λ (n : ℕ). 9 * n) (cells-length tags words e)
+
+-- cells are written alike whatever their tags mean
+cells-alike : (f g : ℕ → Bool) (cs : List Cell) → encMany (λ _. cellCodec f) noState tt cs ≡ encMany (λ _. cellCodec g) noState tt cs
+unfolding encMany cellCodec via seq num
+cells-alike f g [] = refl
+cells-alike f g (c ∷ cs) = ap (λ (l : List ℕ). cellCodec f .enc c ++ l) (cells-alike f g cs)
+
+pub cell-bytes : (f : ℕ → Bool) (tags words : List ℕ) → encMany (λ _. cellCodec f) noState tt (cellsOf tags words) ≡ cellBytes tags words
+unfolding cellBytes
+cell-bytes f tags words = cells-alike f (λ _. true) (cellsOf tags words)
+
+-- a section of words, and one of cells, as they are written
+pub words-written : (w most : ℕ) (words : List ℕ) → wordsCodec w most .enc words ≡ digits w (length words) ++ wordBytes words
+unfolding wordsCodec uniformSection listSection via section noHeader count num wordBytes
+words-written w most words = refl
+
+pub cells-written : (f : ℕ → Bool) (w most : ℕ) (tags words : List ℕ) → length tags ≡ length words
+    → cellsCodec f w most .enc (cellsOf tags words) ≡ digits w (length words) ++ cellBytes tags words
+unfolding cellsCodec uniformSection listSection via section noHeader count num
+cells-written f w most tags words e = rw (← cell-bytes f tags words, ← cells-length tags words e)

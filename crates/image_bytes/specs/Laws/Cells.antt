@@ -1,0 +1,134 @@
+-- Words and cells: what one and what many of them are as bytes, and what checking them finds.
+use Prim.Native.Nat.{ℕ, zero, suc, _+_, _-_, _*_, _/_, _≤_, _<_}
+use mathlib.Core.Path.{_≡_, refl, ap, _∙_}
+use mathlib.Core.Bool.{Bool, true, false, cond}
+use mathlib.Core.List.{List, _∷_}
+use native.Mathlib.Nat.{sub-zero}
+use native.Mathlib.Decide.{decLt}
+use native.Mathlib.Omega.{arith}
+use lib.ListN.{length, drop, length-drop}
+use lib.Seq.{drop-drop}
+use borrow.Author.Tests.{le-ltb, lt-ltb}
+use Rattle.step.specs.Soundness.{every}
+use Rattle.refusal.specs.declared.Refusal.the-variants.{InputEnds, CellField}
+use Rattle.image.specs.Codec.{bind, field, num, seq, via, decMany, noState}
+use Rattle.image.specs.Image.{wordCodec, cellCodec, toCell, fromCell}
+use Rattle.image_bytes.specs.declared.Scan.{Scan}
+use Rattle.image_bytes.specs.declared.Scan.the-variants.{Refused, At}
+use Rattle.image_bytes.specs.Code.Reading.{fieldAt, cellFrom, listed, tagsAt}
+use Rattle.image_bytes.specs.Code.Scanning.{scanned}
+use Rattle.image_bytes.specs.Laws.Spans.{Spans, num-spans, seq-spans, via-spans}
+use Rattle.image_bytes.specs.Laws.Scans.{scanned-map}
+
+pub word-spans : Spans wordCodec (field 8) (λ _. 8)
+unfolding wordCodec
+word-spans = num-spans 8 CellField _
+
+pub cell-spans : (f : ℕ → Bool) → Spans (cellCodec f) (cellFrom 0) (λ _. 9)
+unfolding cellCodec
+cell-spans f = via-spans toCell fromCell (seq-spans (num-spans 1 CellField f) (λ _. word-spans))
+
+-- ---- words
+
+module _ (s : List ℕ) where
+  abbrev words : (n p : ℕ) → Scan
+  words n p = scanned (length s) (decMany (λ _. wordCodec) noState tt n (drop p s))
+
+  word-there : (n p : ℕ) → 8 ≤ length s - p → words (suc n) p ≡ words n (p + 8)
+  unfolding decMany bind wordCodec num
+  word-there n p h =
+      rw (le-ltb (length (drop p s)) 8 (rw length-drop h), drop-drop 8 p s)
+      (scanned-map (length s) (decMany (λ _. wordCodec) noState tt n (drop (p + 8) s)) (λ xs. fieldAt 8 p s ∷ xs))
+
+  pub words-whole : (n p : ℕ) → 8 * n ≤ length s - p → words n p ≡ At (length s - ((length s - p) - 8 * n))
+  unfolding decMany scanned
+  words-whole zero p h = rw (length-drop, sub-zero)
+  words-whole (suc n) p h =
+      let e : (length s - (p + 8)) - 8 * n ≡ (length s - p) - 8 * suc n = omega arith in
+      word-there n p (omega arith) ∙ words-whole n (p + 8) (omega arith) ∙ ap (λ (k : ℕ). At (length s - k)) e
+
+  pub words-short : (n p : ℕ) → length s - p < 8 * n → words n p ≡ Refused InputEnds
+  unfolding decMany bind wordCodec num scanned
+  words-short zero p h = absurd (omega arith)
+  words-short (suc n) p h = go (decLt (length s - p) 8) (words-short n (p + 8))
+    where
+      go : Dec (length s - p < 8) → (length s - (p + 8) < 8 * n → words n (p + 8) ≡ Refused InputEnds) → words (suc n) p ≡ Refused InputEnds
+      go (yes l) more = rw (lt-ltb (length (drop p s)) 8 (rw length-drop l))
+      go (no l) more = word-there n p (omega arith) ∙ more (omega arith)
+
+-- ---- cells whose tags are to pass f
+
+module _ (f : ℕ → Bool) (s : List ℕ) where
+  abbrev cells : (n p : ℕ) → Scan
+  cells n p = scanned (length s) (decMany (λ _. cellCodec f) noState tt n (drop p s))
+
+  -- the tags of the first n
+  abbrev tags : (n p : ℕ) → Bool
+  tags n p = every f (tagsAt n p s)
+
+  cell-none : (n p : ℕ) → length s ≤ p → cells (suc n) p ≡ Refused InputEnds
+  unfolding decMany bind cellCodec via seq num scanned
+  cell-none n p h = rw (lt-ltb (length (drop p s)) 1 (rw length-drop (omega arith)))
+
+  cell-bad : (n p : ℕ) → p < length s → f (fieldAt 1 p s) ≡ false → cells (suc n) p ≡ Refused CellField
+  unfolding decMany bind cellCodec via seq num scanned
+  cell-bad n p h g = rw (le-ltb (length (drop p s)) 1 (rw length-drop (omega arith)), g)
+
+  cell-part : (n p : ℕ) → p < length s → length s - p < 9 → f (fieldAt 1 p s) ≡ true → cells (suc n) p ≡ Refused InputEnds
+  unfolding decMany bind cellCodec via seq num wordCodec scanned
+  cell-part n p h l g =
+      rw (le-ltb (length (drop p s)) 1 (rw length-drop (omega arith)), g, drop-drop 1 p s, lt-ltb (length (drop (p + 1) s)) 8 (rw length-drop (omega arith)))
+
+  cell-there : (n p : ℕ) → 9 ≤ length s - p → f (fieldAt 1 p s) ≡ true → cells (suc n) p ≡ cells n (p + 9)
+  unfolding decMany bind cellCodec via seq num wordCodec
+  cell-there n p h g =
+      let e : p + 1 + 8 ≡ p + 9 = omega arith in
+      rw (
+        le-ltb (length (drop p s)) 1 (rw length-drop (omega arith)),
+        g,
+        drop-drop 1 p s,
+        le-ltb (length (drop (p + 1) s)) 8 (rw length-drop (omega arith)),
+        drop-drop 8 (p + 1) s,
+        e,
+      )
+      (scanned-map (length s) (decMany (λ _. cellCodec f) noState tt n (drop (p + 9) s)) (λ xs. cellFrom p s ∷ xs))
+
+  -- all n are there
+  whole : (n p : ℕ) → 9 * n ≤ length s - p → cells n p ≡ cond (tags n p) (At (length s - ((length s - p) - 9 * n))) (Refused CellField)
+  unfolding decMany scanned tagsAt listed every
+  whole zero p h = rw (length-drop, sub-zero)
+  whole (suc n) p h = go (f (fieldAt 1 p s)) refl (whole n (p + 9) (omega arith))
+    where
+      go : (b : Bool) → f (fieldAt 1 p s) ≡ b → cells n (p + 9) ≡ cond (tags n (p + 9)) (At (length s - ((length s - (p + 9)) - 9 * n))) (Refused CellField)
+          → cells (suc n) p ≡ cond (tags (suc n) p) (At (length s - ((length s - p) - 9 * suc n))) (Refused CellField)
+      go true g i =
+          let e : (length s - (p + 9)) - 9 * n ≡ (length s - p) - 9 * suc n = omega arith in
+          cell-there n p (omega arith) g ∙ i ∙ rw (g, e)
+      go false g i = cell-bad n p (omega arith) g ∙ rw g
+
+  -- they are not: the tags that are there are those of (k + 8) / 9 cells, where k bytes are left
+  short : (n p : ℕ) → length s - p < 9 * n → cells n p ≡ cond (tags ((length s - p + 8) / 9) p) (Refused InputEnds) (Refused CellField)
+  unfolding tagsAt listed every
+  short zero p h = absurd (omega arith)
+  short (suc n) p h = go (decLt p (length s)) (decLt (length s - p) 9) (f (fieldAt 1 p s)) refl (short n (p + 9))
+    where
+      go : Dec (p < length s) → Dec (length s - p < 9) → (b : Bool) → f (fieldAt 1 p s) ≡ b
+          → (length s - (p + 9) < 9 * n → cells n (p + 9) ≡ cond (tags ((length s - (p + 9) + 8) / 9) (p + 9)) (Refused InputEnds) (Refused CellField))
+          → cells (suc n) p ≡ cond (tags ((length s - p + 8) / 9) p) (Refused InputEnds) (Refused CellField)
+      go (no a) l b g i = let e : (length s - p + 8) / 9 ≡ 0 = omega arith in cell-none n p (omega arith) ∙ rw e
+      go (yes a) (yes l) true g i = let e : (length s - p + 8) / 9 ≡ 1 = omega arith in cell-part n p a l g ∙ rw (e, g)
+      go (yes a) (yes l) false g i = let e : (length s - p + 8) / 9 ≡ 1 = omega arith in cell-bad n p a g ∙ rw (e, g)
+      go (yes a) (no l) true g i =
+          let e : (length s - p + 8) / 9 ≡ suc ((length s - (p + 9) + 8) / 9) = omega arith in
+          cell-there n p (omega arith) g ∙ i (omega arith) ∙ rw (e, g)
+      go (yes a) (no l) false g i =
+          let e : (length s - p + 8) / 9 ≡ suc ((length s - (p + 9) + 8) / 9) = omega arith in
+          cell-bad n p a g ∙ rw (e, g)
+
+  -- what is found where `left` bytes are left and a loop has tested the tags that are there
+  module _ (n p : ℕ) {left : ℕ} (rest : left ≡ length s - p) {ok : Bool} where
+    pub cells-whole : 9 * n ≤ left → ok ≡ tags n p → cells n p ≡ cond ok (At (length s - (left - 9 * n))) (Refused CellField)
+    cells-whole h e = rw (e, rest) (whole n p (omega (arith, rest)))
+
+    pub cells-short : left < 9 * n → ok ≡ tags ((left + 8) / 9) p → cells n p ≡ cond ok (Refused InputEnds) (Refused CellField)
+    cells-short h e = rw (e, rest) (short n p (omega (arith, rest)))

@@ -1,0 +1,139 @@
+-- Elements in the first places of a buffer: they are found there again, and what lies beyond them stays.
+use Prim.Native.Nat.{ℕ, _≤_}
+use mathlib.Core.Path.{_≡_, refl, sym, ap, _∙_, subst}
+use mathlib.Core.Bool.{Bool, true, false, cond, not, _&&_}
+use mathlib.Core.Option.{Option, none, some}
+use mathlib.Core.List.{List}
+use lib.ListN.{length, take, drop, length-map}
+use lib.Seq.{take-append-seam, drop-append-seam, length-take-le}
+use Rattle.refusal.specs.declared.Refusal.{Refusal}
+use Rattle.refusal.specs.declared.Refusal.the-variants.{UnsoundState}
+use Rattle.window.specs.Memories.{tagOf, wordOf}
+use Rattle.step.specs.State.{State}
+use Rattle.step.specs.Soundness.{sound}
+use Rattle.step.specs.Laws.Rows.{none-some}
+use Rattle.operation.specs.Decide.{decide}
+use Rattle.step.specs.Step.{stepBy, step}
+use Rattle.step.specs.Laws.Lengths.{SameLengths, step-lengths}
+use Rattle.run.specs.Schedule.{scheduleRefusal}
+use Rattle.image.specs.Image.{Image, memoryOf, stateOf, good, decode}
+use Rattle.image.specs.Fields.{over}
+use Rattle.library.specs.declared.Sizes.{Sizes}
+use Rattle.library.specs.Buffers.{Buffers, roomOf, fits, sizesOf, fieldsIn, spareIn, holding}
+use Rattle.library.specs.Calls.{unless, leaving, decodedRefusal, readRefusal, decodedAnswer, decodedLeaves, readLeaves, stateRefused, stateRefusal, orElse, runRefusal, taskRefusal, stepRefusal}
+use Rattle.library.specs.Laws.Places.{fitting}
+
+module _ {A : Type 0} where
+  over-take : (n : ℕ) (xs l : List A) → length xs ≡ n → take n (over xs l) ≡ xs
+  over-take n xs l e = subst (λ (k : ℕ). take k (over xs l) ≡ xs) e (take-append-seam xs (drop (length xs) l))
+
+  over-drop : (n : ℕ) (xs l : List A) → length xs ≡ n → drop n (over xs l) ≡ drop n l
+  over-drop n xs l e = subst (λ (k : ℕ). drop k (over xs l) ≡ drop k l) e (drop-append-seam xs (drop (length xs) l))
+
+-- a state with these counts
+pub record Sized (n : Sizes) (s : State) : Type 0 where
+  pub rows : length (s .rows) ≡ n .rows
+  pub constants : length (s .constants) ≡ n .constants
+  pub registerTags : length (s .registers .tags) ≡ n .registers
+  pub registerWords : length (s .registers .words) ≡ n .registers
+  pub program : length (s .program) ≡ n .program
+  pub dataTags : length (s .dataWords .tags) ≡ n .data_words
+  pub dataWords : length (s .dataWords .words) ≡ n .data_words
+
+pub holding-fields : (n : Sizes) (s : State) (b : Buffers) → Sized n s → fieldsIn n (holding s b) ≡ s
+unfolding fieldsIn holding
+holding-fields n s b z =
+    rw (
+      over-take (n .rows) (s .rows) (b .rows) (z .rows),
+      over-take (n .constants) (s .constants) (b .constants) (z .constants),
+      over-take (n .registers) (s .registers .tags) (b .registerTags) (z .registerTags),
+      over-take (n .registers) (s .registers .words) (b .registerWords) (z .registerWords),
+      over-take (n .program) (s .program) (b .program) (z .program),
+      over-take (n .data_words) (s .dataWords .tags) (b .dataTags) (z .dataTags),
+      over-take (n .data_words) (s .dataWords .words) (b .dataWords) (z .dataWords),
+    )
+
+pub holding-spare : (n : Sizes) (s : State) (b : Buffers) → Sized n s → spareIn n (holding s b) ≡ spareIn n b
+unfolding spareIn holding
+holding-spare n s b z =
+    rw (
+      over-drop (n .rows) (s .rows) (b .rows) (z .rows),
+      over-drop (n .constants) (s .constants) (b .constants) (z .constants),
+      over-drop (n .registers) (s .registers .tags) (b .registerTags) (z .registerTags),
+      over-drop (n .registers) (s .registers .words) (b .registerWords) (z .registerWords),
+      over-drop (n .program) (s .program) (b .program) (z .program),
+      over-drop (n .data_words) (s .dataWords .tags) (b .dataTags) (z .dataTags),
+      over-drop (n .data_words) (s .dataWords .words) (b .dataWords) (z .dataWords),
+    )
+
+-- ---- counts that fit
+
+pub fields-sized : (n : Sizes) (b : Buffers) → fits n (roomOf b) ≡ true → Sized n (fieldsIn n b)
+unfolding roomOf fieldsIn
+fields-sized n b e =
+    let f = fitting n (roomOf b) e in
+    record {
+      rows = length-take-le (n .rows) (b .rows) (f .rows);
+      constants = length-take-le (n .constants) (b .constants) (f .constants);
+      registerTags = length-take-le (n .registers) (b .registerTags) (f .registerTags);
+      registerWords = length-take-le (n .registers) (b .registerWords) (f .registerWords);
+      program = length-take-le (n .program) (b .program) (f .program);
+      dataTags = length-take-le (n .data_words) (b .dataTags) (f .dataTags);
+      dataWords = length-take-le (n .data_words) (b .dataWords) (f .dataWords);
+    }
+
+pub lengths-sized : (n : Sizes) (s s′ : State) → Sized n s → SameLengths s′ s → Sized n s′
+lengths-sized n s s′ z k = record {
+  rows = k .rows ∙ z .rows;
+  constants = k .constants ∙ z .constants;
+  registerTags = k .registerTags ∙ z .registerTags;
+  registerWords = k .registerWords ∙ z .registerWords;
+  program = k .program ∙ z .program;
+  dataTags = k .dataTags ∙ z .dataTags;
+  dataWords = k .dataWords ∙ z .dataWords;
+}
+
+-- a state that is read has as many tags as words
+pub read-sized : (i : Image) → Sized (sizesOf (stateOf i)) (stateOf i)
+unfolding sizesOf stateOf memoryOf
+read-sized i = record {
+  rows = refl;
+  constants = refl;
+  registerTags = length-map (i .registers) tagOf ∙ sym (length-map (i .registers) wordOf);
+  registerWords = refl;
+  program = refl;
+  dataTags = length-map (i .dataWords) tagOf ∙ sym (length-map (i .dataWords) wordOf);
+  dataWords = refl;
+}
+
+-- ---- a run that isn't refused has counts that fit
+
+pub run-fits : (n : Sizes) (b : Buffers) (schedule : List ℕ) → runRefusal n b schedule ≡ none → fits n (roomOf b) ≡ true
+unfolding runRefusal stateRefused stateRefusal orElse
+run-fits n b schedule e = go (fits n (roomOf b)) e
+  where
+    go : (t : Bool) → orElse (cond (not (t && sound (fieldsIn n b))) (some UnsoundState) none) (scheduleRefusal schedule) ≡ none → t ≡ true
+    go true q = refl
+    go false q = absurd (none-some UnsoundState (sym q))
+
+-- ---- a step that isn't refused has counts that fit, and keeps them
+
+pub step-fits : (n : Sizes) (b : Buffers) (t : ℕ) → stepRefusal n b t ≡ none → fits n (roomOf b) ≡ true
+unfolding stepRefusal stateRefused stateRefusal orElse
+step-fits n b t e = go (fits n (roomOf b)) e
+  where
+    go : (f : Bool) → orElse (cond (not (f && sound (fieldsIn n b))) (some UnsoundState) none) (taskRefusal t) ≡ none → f ≡ true
+    go true q = refl
+    go false q = absurd (none-some UnsoundState (sym q))
+
+pub step-sized : (n : Sizes) (b : Buffers) (t : ℕ) → fits n (roomOf b) ≡ true → Sized n (step t (fieldsIn n b) .state)
+unfolding step
+step-sized n b t e = lengths-sized n (fieldsIn n b) (stepBy decide t (fieldsIn n b) .state) (fields-sized n b e) (step-lengths decide t (fieldsIn n b))
+
+-- a reading that isn't refused leaves the buffers holding the state that its image is
+pub held-by-read : (b : Buffers) (bytes : List ℕ) (i : Image) → decode bytes ≡ good i → readRefusal (roomOf b) bytes ≡ none
+    → readLeaves b bytes ≡ holding (stateOf i) b
+unfolding readRefusal readLeaves decodedLeaves decodedAnswer unless leaving
+held-by-read b bytes i d e =
+    ap (decodedLeaves b) d
+    ∙ ap (λ (o : Option Refusal). leaving (unless o (sizesOf (stateOf i))) b (holding (stateOf i) b)) (sym (ap (decodedRefusal (roomOf b)) d) ∙ e)

@@ -1,0 +1,223 @@
+-- The refusals of the library's calls at both sides of their boundaries.
+use mathlib.Core.Path.{_≡_, refl}
+use mathlib.Core.Option.{Option, none, some}
+use mathlib.Core.List.{List, [], _∷_, _++_}
+use Prim.Native.Nat.{ℕ, _-_}
+use lib.ListN.{length, getD, take, drop, replicate}
+use Rattle.refusal.specs.declared.Refusal.{Refusal}
+use Rattle.refusal.specs.Numbers.{numberOf}
+use Rattle.window.specs.Memories.{cell}
+use Rattle.step.specs.declared.ProcessTable.{ProcessTable}
+use Rattle.step.specs.declared.Ending.the-variants.{Executed, Idle}
+use Rattle.image.specs.Image.{Image, imageCodec, queueOf, stateOf}
+use Rattle.library.specs.declared.Sizes.{Sizes}
+use Rattle.library.specs.Buffers.{Buffers, Room, holding}
+use Rattle.library.specs.Calls.{answers, readRefusal, readAnswer, readLeaves, runRefusal, runLeaves, stepRefusal, stepAnswer, stepLeaves, writeRefusal, writeAnswer, writeLeaves}
+use Rattle.library.specs.Laws.Opened.{opened}
+
+-- the number of a refusal, 0 where there is none
+unfoldable pub numbered : Option Refusal → ℕ
+numbered none = 0
+numbered (some e) = numberOf e
+
+-- ---- an image of one task, and buffers for it
+
+unfoldable pub trialImage : Image
+trialImage = record {
+  rows = record { task = 2; cb = 0; rb = 0; rl = 0; pb = 0; pl = 0; db = 1; dl = 0; kind = 255; psw = 0 } ∷ [];
+  flag = 0;
+  processes = record { pt = 4; task = 2; psw = 0 } ∷ [];
+  constants = 5 ∷ [];
+  registers = cell 0 6 ∷ cell 8 7 ∷ [];
+  program = replicate 16 0;
+  dataWords = cell 1 8 ∷ [];
+}
+
+unfoldable pub trialBytes : List ℕ
+trialBytes = imageCodec .enc trialImage
+
+-- its counts
+unfoldable pub trialSizes : Sizes
+trialSizes = record { rows = 1; constants = 1; registers = 2; program = 16; data_words = 1 }
+
+-- buffers that are just long enough, less so many places each
+unfoldable pub roomLess : (rows constants registerTags registerWords program dataTags dataWords : ℕ) → Room
+roomLess r c t w p d v = record {
+  rows = 1 - r;
+  constants = 1 - c;
+  registerTags = 2 - t;
+  registerWords = 2 - w;
+  program = 16 - p;
+  dataTags = 1 - d;
+  dataWords = 1 - v;
+}
+
+unfoldable pub noBuffers : Buffers
+noBuffers = record {
+  rows = [];
+  table = stateOf trialImage .table;
+  constants = [];
+  registerTags = [];
+  registerWords = [];
+  program = [];
+  dataTags = [];
+  dataWords = [];
+}
+
+-- the trial state in buffers of these lengths, none longer than its fields
+unfoldable pub buffersOf : Room → Buffers
+buffersOf room =
+    let b : Buffers = holding (stateOf trialImage) noBuffers in
+    record {
+      rows = take (room .rows) (b .rows);
+      table = b .table;
+      constants = take (room .constants) (b .constants);
+      registerTags = take (room .registerTags) (b .registerTags);
+      registerWords = take (room .registerWords) (b .registerWords);
+      program = take (room .program) (b .program);
+      dataTags = take (room .dataTags) (b .dataTags);
+      dataWords = take (room .dataWords) (b .dataWords);
+    }
+
+abbrev pub exact : Room
+exact = roomLess 0 0 0 0 0 0 0
+
+-- the buffers with another process table
+unfoldable pub withTable : ProcessTable → Buffers
+withTable table =
+    let b : Buffers = buffersOf exact in
+    record {
+      rows = b .rows;
+      table = table;
+      constants = b .constants;
+      registerTags = b .registerTags;
+      registerWords = b .registerWords;
+      program = b .program;
+      dataTags = b .dataTags;
+      dataWords = b .dataWords;
+    }
+
+-- tables that no image gives: a PT twice; a process of a task that has no row
+unfoldable pub ptTwice : ProcessTable
+ptTwice = record { psw = replicate 64 0; queues = queueOf [] ∷ queueOf (4 ∷ 4 ∷ []) ∷ replicate 5 (queueOf []); flag = 0 }
+
+unfoldable pub unlisted : ProcessTable
+unlisted = record { psw = replicate 64 0; queues = queueOf (4 ∷ []) ∷ replicate 6 (queueOf []); flag = 0 }
+
+-- ---- the trials
+
+pub record ReadTrials : Type 0 where
+  -- just enough room, and one place short of it in each buffer: 7
+  pub enough : numbered (readRefusal exact trialBytes) ≡ 0
+  pub rows : numbered (readRefusal (roomLess 1 0 0 0 0 0 0) trialBytes) ≡ 7
+  pub constants : numbered (readRefusal (roomLess 0 1 0 0 0 0 0) trialBytes) ≡ 7
+  pub registerTags : numbered (readRefusal (roomLess 0 0 1 0 0 0 0) trialBytes) ≡ 7
+  pub registerWords : numbered (readRefusal (roomLess 0 0 0 1 0 0 0) trialBytes) ≡ 7
+  pub program : numbered (readRefusal (roomLess 0 0 0 0 1 0 0) trialBytes) ≡ 7
+  pub dataTags : numbered (readRefusal (roomLess 0 0 0 0 0 1 0) trialBytes) ≡ 7
+  pub dataWords : numbered (readRefusal (roomLess 0 0 0 0 0 0 1) trialBytes) ≡ 7
+  -- 1 comes before 7
+  pub first : numbered (readRefusal (roomLess 1 1 1 1 1 1 1) (take 40 trialBytes)) ≡ 1
+  -- the answer is the counts; buffers of no room are left as they are
+  pub answer : readAnswer exact trialBytes ≡ answers trialSizes
+  pub left : readLeaves noBuffers trialBytes ≡ noBuffers
+
+pub record RunTrials : Type 0 where
+  -- a buffer as long as its count, and one place shorter: 8
+  pub enough : numbered (runRefusal trialSizes (buffersOf exact) (2 ∷ [])) ≡ 0
+  pub rows : numbered (runRefusal trialSizes (buffersOf (roomLess 1 0 0 0 0 0 0)) (2 ∷ [])) ≡ 8
+  pub constants : numbered (runRefusal trialSizes (buffersOf (roomLess 0 1 0 0 0 0 0)) (2 ∷ [])) ≡ 8
+  pub registerTags : numbered (runRefusal trialSizes (buffersOf (roomLess 0 0 1 0 0 0 0)) (2 ∷ [])) ≡ 8
+  pub registerWords : numbered (runRefusal trialSizes (buffersOf (roomLess 0 0 0 1 0 0 0)) (2 ∷ [])) ≡ 8
+  pub program : numbered (runRefusal trialSizes (buffersOf (roomLess 0 0 0 0 1 0 0)) (2 ∷ [])) ≡ 8
+  pub dataTags : numbered (runRefusal trialSizes (buffersOf (roomLess 0 0 0 0 0 1 0)) (2 ∷ [])) ≡ 8
+  pub dataWords : numbered (runRefusal trialSizes (buffersOf (roomLess 0 0 0 0 0 0 1)) (2 ∷ [])) ≡ 8
+  -- a state that no image reads as: 8, before 10
+  pub twice : numbered (runRefusal trialSizes (withTable ptTwice) (0 ∷ [])) ≡ 8
+  pub stray : numbered (runRefusal trialSizes (withTable unlisted) (2 ∷ [])) ≡ 8
+  -- a state that is one, and a list that is refused: 9, 10
+  pub long : numbered (runRefusal trialSizes (buffersOf exact) (replicate 65536 2)) ≡ 9
+  pub item : numbered (runRefusal trialSizes (buffersOf exact) (2 ∷ 0 ∷ [])) ≡ 10
+  -- refused: nothing is touched
+  pub left : runLeaves trialSizes (buffersOf exact) (2 ∷ 0 ∷ []) ≡ buffersOf exact
+
+pub record StepTrials : Type 0 where
+  -- a state that no image reads as: 8, before 10; a state that is one, and a task that isn't: 10
+  pub first : numbered (stepRefusal trialSizes (withTable ptTwice) 0) ≡ 8
+  pub low : numbered (stepRefusal trialSizes (buffersOf exact) 0) ≡ 10
+  pub high : numbered (stepRefusal trialSizes (buffersOf exact) 8) ≡ 10
+  -- refused: nothing is touched
+  pub left : stepLeaves trialSizes (buffersOf exact) 8 ≡ buffersOf exact
+  -- the task's NOP: executed, and its process goes on at PC 1
+  pub executed : stepAnswer trialSizes (buffersOf exact) 2 ≡ answers Executed
+  pub next : getD (stepLeaves trialSizes (buffersOf exact) 2 .table .psw) 4 0 ≡ 1
+  -- an unlisted task: idle, and nothing is touched
+  pub idle : stepAnswer trialSizes (buffersOf exact) 3 ≡ answers Idle
+  pub still : stepLeaves trialSizes (buffersOf exact) 3 ≡ buffersOf exact
+
+pub record WriteTrials : Type 0 where
+  -- a buffer as long as the image, and one byte shorter: 7
+  pub enough : numbered (writeRefusal trialSizes (buffersOf exact) (length trialBytes)) ≡ 0
+  pub short : numbered (writeRefusal trialSizes (buffersOf exact) (length trialBytes - 1)) ≡ 7
+  -- 8 comes before 7
+  pub first : numbered (writeRefusal trialSizes (withTable ptTwice) 0) ≡ 8
+  -- the answer is the length; the bytes are those that were read, and beyond them nothing is touched
+  pub answer : writeAnswer trialSizes (buffersOf exact) 1000 ≡ answers (length trialBytes)
+  pub bytes : writeLeaves trialSizes (buffersOf exact) (replicate 300 9) ≡ trialBytes ++ drop (length trialBytes) (replicate 300 9)
+  pub left : writeLeaves trialSizes (buffersOf exact) (9 ∷ []) ≡ 9 ∷ []
+
+-- naming this opens what the trials use
+unfoldable pub trialled : ℕ
+unfolding opened numbered trialImage trialBytes trialSizes roomLess noBuffers buffersOf withTable ptTwice unlisted
+trialled = 0
+
+pub read-trials : ReadTrials
+unfolding trialled
+read-trials = record {
+  enough = refl;
+  rows = refl;
+  constants = refl;
+  registerTags = refl;
+  registerWords = refl;
+  program = refl;
+  dataTags = refl;
+  dataWords = refl;
+  first = refl;
+  answer = refl;
+  left = refl;
+}
+
+pub run-trials : RunTrials
+unfolding trialled
+run-trials = record {
+  enough = refl;
+  rows = refl;
+  constants = refl;
+  registerTags = refl;
+  registerWords = refl;
+  program = refl;
+  dataTags = refl;
+  dataWords = refl;
+  twice = refl;
+  stray = refl;
+  long = refl;
+  item = refl;
+  left = refl;
+}
+
+pub step-trials : StepTrials
+unfolding trialled
+step-trials = record {
+  first = refl;
+  low = refl;
+  high = refl;
+  left = refl;
+  executed = refl;
+  next = refl;
+  idle = refl;
+  still = refl;
+}
+
+pub write-trials : WriteTrials
+unfolding trialled
+write-trials = record { enough = refl; short = refl; first = refl; answer = refl; bytes = refl; left = refl }

@@ -1,0 +1,2 @@
+-- The laws of the definitions: nothing here need be believed.
+pub mod Cut

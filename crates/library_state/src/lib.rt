@@ -1,0 +1,126 @@
+// Refusal 8 of a state in lent buffers: sizes that do not fit, or a state that no image reads as.
+ghost use mathlib.Core.Path.{_≡_};
+ghost use mathlib.Core.Bool.{true};
+ghost use Prim.Native.Nat.{min};
+ghost use lib.ListN.{length};
+ghost use Rattle.library.specs.Buffers.{fits};
+ghost use Rattle.library.specs.Calls.{stateRefused};
+ghost use Rattle.library.specs.Held.{roomFrom, heldRows, lentBuffers};
+ghost use Rattle.window.specs.Limits.{tasks};
+use library::Rows;
+use library::Sizes;
+use step::ProcessTable;
+use window::TASKS;
+
+// How many rows there are.
+pub fn row_count(n: usize) -> usize
+    ensures { λ r. ⌜ r ≡ min n tasks ⌝ }
+{
+    if n < TASKS { n } else { TASKS }
+}
+
+// Whether each size is at most the length of its buffers.
+pub fn fits(
+    n: Sizes,
+    rows: usize,
+    constants: usize,
+    register_tags: usize,
+    register_words: usize,
+    program: usize,
+    data_tags: usize,
+    data_words: usize,
+) -> bool
+    ensures { λ r. ⌜ r ≡ fits n (roomFrom rows constants «register_tags» «register_words» program data_tags data_words) ⌝ }
+{
+    if rows < n.rows {
+        return false;
+    }
+    if constants < n.constants {
+        return false;
+    }
+    if register_tags < n.registers {
+        return false;
+    }
+    if register_words < n.registers {
+        return false;
+    }
+    if program < n.program {
+        return false;
+    }
+    if data_tags < n.data_words {
+        return false;
+    }
+    n.data_words <= data_words
+}
+
+// Whether no image reads as the state, where its sizes fit.
+fn cut_refused(
+    rows: Rows,
+    table: ProcessTable,
+    constants: &[u64],
+    register_tags: &[u8],
+    register_words: &[u64],
+    program: &[u64],
+    data_tags: &[u8],
+    data_words: &[u64],
+    n: Sizes,
+) -> bool
+    requires { ⌜ fits n (roomFrom (min (rows .n) tasks) (length (now constants)) (length (now «register_tags»)) (length (now «register_words»)) (length (now program)) (length (now data_tags)) (length (now data_words))) ≡ true ⌝ }
+    ensures { λ r. ⌜ r ≡ stateRefused n (lentBuffers (heldRows rows) table (now (constants .entry)) (now («register_tags» .entry)) (now («register_words» .entry)) (now (program .entry)) (now (data_tags .entry)) (now (data_words .entry))) ⌝ }
+{
+    let at = rows.at;
+    let constant_count = n.constants;
+    let register_count = n.registers;
+    let program_count = n.program;
+    let data_count = n.data_words;
+    !step_soundness::sound(
+        at,
+        n.rows,
+        table,
+        &constants[..constant_count],
+        &register_tags[..register_count],
+        &register_words[..register_count],
+        &program[..program_count],
+        &data_tags[..data_count],
+        &data_words[..data_count],
+    )
+}
+
+// Refusal 8: a buffer is shorter than its size says, or no image reads as the state.
+pub fn refused(
+    rows: Rows,
+    table: ProcessTable,
+    constants: &[u64],
+    register_tags: &[u8],
+    register_words: &[u64],
+    program: &[u64],
+    data_tags: &[u8],
+    data_words: &[u64],
+    n: Sizes,
+) -> bool
+    ensures { λ r. ⌜ r ≡ stateRefused n (lentBuffers (heldRows rows) table (now (constants .entry)) (now («register_tags» .entry)) (now («register_words» .entry)) (now (program .entry)) (now (data_tags .entry)) (now (data_words .entry))) ⌝ }
+{
+    if !fits(
+        n,
+        row_count(rows.n),
+        constants.len(),
+        register_tags.len(),
+        register_words.len(),
+        program.len(),
+        data_tags.len(),
+        data_words.len(),
+    ) {
+        return true;
+    }
+    cut_refused(
+        rows,
+        table,
+        constants,
+        register_tags,
+        register_words,
+        program,
+        data_tags,
+        data_words,
+        n,
+    )
+}

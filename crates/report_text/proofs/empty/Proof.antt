@@ -1,0 +1,11 @@
+use mathlib.Core.Path.{refl}
+use Rattle.report_text.specs.Texts.{shown}
+use Rattle.report_text.proofs.empty.Statement.{statement}
+use Rattle.report_text.proofs.empty.Tie as tie
+
+returns : tie.Need-returns
+unfolding shown
+returns c = refl
+
+pub empty-spec : {M : Type 1} → statement M
+empty-spec = tie.close (tie.spec returns)

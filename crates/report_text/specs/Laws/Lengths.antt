@@ -1,0 +1,129 @@
+-- How long the lines of a report can be.
+use Prim.Native.Nat.{ℕ, zero, suc, _+_, _*_, _-_, _/_, _%_, _^_, _≤_, _<_}
+use mathlib.Core.Path.{_≡_, refl, ap, _∙_}
+use mathlib.Core.Bool.{Bool, true, false, cond}
+use mathlib.Core.List.{List, [], _∷_, _++_}
+use native.Mathlib.Omega.{arith}
+use borrow.Author.Tests.{ltb-true, ltb-false, lt-ltb}
+use lib.Dec.{ltb, eqb}
+use lib.ListN.{length, getD, replicate, length-append, length-map, List·getD-eq-default}
+use Rattle.word.specs.Fields.{pcOf}
+use Rattle.window.specs.declared.Row.{Row}
+use Rattle.step.specs.declared.ProcessTable.{ProcessTable}
+use Rattle.step.specs.Queues.{listOf}
+use Rattle.step.specs.State.{noQueue, queueIn, pswsOf, processesOf}
+use Rattle.step.specs.Laws.Queues.{length-list}
+use Rattle.run.specs.declared.Counts.{Counts}
+use Rattle.report.specs.Report.{decimalBy, decimal, hexDigit, hex, kindText, pcText, rowLine, rowLines, countsLine, newline}
+use Rattle.report_text.specs.Texts.{longestRow, longestCounts, longestReport, reportRoom}
+
+-- the live processes of a task are as many as its queue says
+pub length-processes : (table : ProcessTable) (task : ℕ) → length (processesOf table task) ≡ getD (table .queues) (task - 1) noQueue .len
+unfolding processesOf pswsOf queueIn
+length-processes table task = length-map (listOf (queueIn (table .queues) task)) (λ p. getD (table .psw) p 0) ∙ length-list (queueIn (table .queues) task)
+
+-- past the queues there are none
+pub no-processes : (table : ProcessTable) (task : ℕ) → length (table .queues) ≡ 7 → 7 ≤ task - 1 → length (processesOf table task) ≡ 0
+no-processes table task q h =
+    length-processes table task ∙ ap (λ x. x .len) (List·getD-eq-default (table .queues) noQueue {n = task - 1} (omega arith))
+
+-- ---- digits
+
+-- one digit more
+digits-step : (k n j : ℕ) → length (decimalBy k (n / 10)) ≤ j → length (decimalBy (suc k) n) ≤ suc j
+unfolding decimalBy
+digits-step k n j h = go (ltb n 10)
+  where
+    go : (b : Bool) → length (cond b ((48 + n) ∷ []) (decimalBy k (n / 10) ++ ((48 + n % 10) ∷ []))) ≤ suc j
+    go true = omega arith
+    go false = omega (arith, length-append (decimalBy k (n / 10)) ((48 + n % 10) ∷ []))
+
+digits-at-most : (k n : ℕ) → length (decimalBy k n) ≤ k
+unfolding decimalBy
+digits-at-most zero n = omega arith
+digits-at-most (suc k) n = digits-step k n k (digits-at-most k (n / 10))
+
+-- numbers below m have at most j digits
+abbrev Digits : (m j : ℕ) → Type 0
+Digits m j = (k n : ℕ) → n < m → length (decimalBy k n) ≤ j
+
+digits-more : (m j : ℕ) → Digits m j → Digits (m * 10) (suc j)
+unfolding decimalBy
+digits-more m j d zero n h = omega arith
+digits-more m j d (suc k) n h = digits-step k n j (d k (n / 10) (omega arith))
+
+digits-1 : Digits 10 1
+unfolding decimalBy
+digits-1 zero n h = omega arith
+digits-1 (suc k) n h = rw (lt-ltb n 10 h) (omega arith)
+
+digits-3 : Digits 1000 3
+digits-3 = digits-more 100 2 (digits-more 10 1 digits-1)
+
+length-hex : (k n : ℕ) → length (hex k n) ≡ k
+unfolding hex
+length-hex zero n = refl
+length-hex (suc k) n = omega (arith, length-append (hex k (n / 16)) (hexDigit (n % 16) ∷ []), length-hex k (n / 16))
+
+-- ---- lines
+
+-- dashes are as long as what they stand for
+dashed : (b : Bool) (dashes text : List ℕ) (k : ℕ) → length dashes ≡ k → length text ≡ k → length (cond b dashes text) ≡ k
+dashed true dashes text k d t = d
+dashed false dashes text k d t = t
+
+length-kind : (kind : ℕ) → length (kindText kind) ≡ 2
+unfolding kindText
+length-kind kind = dashed (eqb kind 255) (45 ∷ 45 ∷ []) (hex 2 kind) 2 refl (length-hex 2 kind)
+
+length-pc : (kind psw : ℕ) → length (pcText kind psw) ≡ 5
+unfolding pcText
+length-pc kind psw = dashed (eqb kind 255) (45 ∷ 45 ∷ 45 ∷ 45 ∷ 45 ∷ []) (hex 5 (pcOf psw)) 5 refl (length-hex 5 (pcOf psw))
+
+-- a task with a queue has one digit, one without has no processes
+length-task : (table : ProcessTable) (task : ℕ) → length (table .queues) ≡ 7 → task < 256 → length (decimal task) + length (decimal (length (processesOf table task))) ≤ 21
+unfolding decimal
+length-task table task q h = go (ltb task 8) refl
+  where
+    go : (b : Bool) → ltb task 8 ≡ b → length (decimal task) + length (decimal (length (processesOf table task))) ≤ 21
+    go true e = omega (arith, digits-1 20 task (omega (arith, ltb-true task 8 e)), digits-at-most 20 (length (processesOf table task)))
+    go false e =
+        rw (no-processes table task q (omega (arith, ltb-false task 8 e)))
+        (omega (arith, digits-3 20 task (omega arith), digits-1 20 0 (omega arith)))
+
+pub length-row : (table : ProcessTable) (r : Row) → length (table .queues) ≡ 7 → r .task < 256 → length (rowLine table r) ≤ longestRow
+unfolding rowLine
+length-row table r q h = simp length-append (omega (arith, length-task table (r .task) q h, length-kind (r .kind), length-pc (r .kind) (r .psw)))
+
+pub length-counts : (c : Counts) (flag : ℕ) → flag < 256 → length (countsLine c flag) ≤ longestCounts
+unfolding countsLine decimal
+length-counts c flag h =
+    simp length-append
+    (omega (
+      arith,
+      digits-at-most 20 (c .executed),
+      digits-at-most 20 (c .waved),
+      digits-at-most 20 (c .trapped),
+      digits-at-most 20 (c .idle),
+      digits-3 20 flag (omega arith),
+    ))
+
+pub length-refusal : (n : ℕ) → length (82 ∷ decimal n) + length newline ≤ reportRoom
+unfolding decimal
+length-refusal n = omega (arith, digits-at-most 20 n)
+
+-- ---- the bounds are reached
+
+unfoldable pub largest : ℕ
+largest = 2 ^ 64 - 1
+
+unfoldable pub longRow : Row
+longRow = record { task = 1; cb = 0; rb = 0; rl = 0; pb = 0; pl = 0; db = 0; dl = 0; kind = 255; psw = 0 }
+
+pub longest-row : (table : ProcessTable) → getD (table .queues) 0 noQueue .len ≡ largest → length (rowLine table longRow) ≡ longestRow
+unfolding largest longRow rowLine decimal decimalBy kindText pcText
+longest-row table h = rw (length-processes table 1, h)
+
+pub longest-report : (table : ProcessTable) → getD (table .queues) 0 noQueue .len ≡ largest → length (rowLines table (replicate 7 longRow) ++ countsLine (record { executed = largest; waved = largest; trapped = largest; idle = largest }) 255) ≡ longestReport
+unfolding largest rowLines countsLine decimal decimalBy
+longest-report table h = simp (length-append, longest-row table h)

@@ -1,1 +1,0 @@
-// Queues side by side in numbers, and trap records by task: definitions and laws alone.

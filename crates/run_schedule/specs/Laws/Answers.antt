@@ -1,0 +1,43 @@
+-- What a run promises by its refusals: 8, then 9, then 10, then the counts.
+use Prim.Native.Nat.{ℕ, _≤_, _<_}
+use mathlib.Core.Path.{_≡_}
+use mathlib.Core.Bool.{true, false}
+use mathlib.Core.Option.{none, some}
+use mathlib.Core.List.{List}
+use lib.ListN.{length}
+use borrow.Author.Tests.{lt-ltb, le-ltb}
+use Rattle.refusal.specs.declared.Refusal.{Refusal}
+use Rattle.refusal.specs.declared.Refusal.the-variants.{UnsoundState, ListTooLong, ItemOutOfRange}
+use Rattle.step.specs.Soundness.{every}
+use Rattle.run.specs.Run.{run}
+use Rattle.run.specs.Schedule.{itemSound, scheduleRefusal}
+use Rattle.library.specs.declared.RunAnswer.the-variants.{Refused, Counted}
+use Rattle.library.specs.declared.Sizes.{Sizes}
+use Rattle.library.specs.Buffers.{Buffers, fieldsIn, holding}
+use Rattle.library.specs.Calls.{unless, leaving, stateRefused, stateRefusal, orElse, runRefusal, runAnswer, runLeaves}
+use Rattle.library.specs.Promises.{runAnswered, RunPromise}
+use Rattle.library.specs.Laws.Numbers.{run-promise}
+
+module _ (n : Sizes) (b : Buffers) (l : List ℕ) where
+  refuses : (e : Refusal) → runRefusal n b l ≡ some e → RunPromise n b l (Refused e) b
+  unfolding runAnswered runAnswer runLeaves unless leaving
+  refuses e q = run-promise (rw q) (rw q)
+
+  pub unsound : stateRefused n b ≡ true → RunPromise n b l (Refused UnsoundState) b
+  unfolding runRefusal stateRefusal orElse
+  unsound e = refuses UnsoundState (rw e)
+
+  pub too-long : stateRefused n b ≡ false → 65535 < length l → RunPromise n b l (Refused ListTooLong) b
+  unfolding runRefusal stateRefusal orElse scheduleRefusal
+  too-long e h = refuses ListTooLong (rw (e, lt-ltb 65535 (length l) h))
+
+  pub out-of-range : stateRefused n b ≡ false → length l ≤ 65535 → every itemSound l ≡ false → RunPromise n b l (Refused ItemOutOfRange) b
+  unfolding runRefusal stateRefusal orElse scheduleRefusal
+  out-of-range e h i = refuses ItemOutOfRange (rw (e, le-ltb 65535 (length l) h, i))
+
+  pub runs : stateRefused n b ≡ false → length l ≤ 65535 → every itemSound l ≡ true
+      → RunPromise n b l (Counted (run l (fieldsIn n b) .counts)) (holding (run l (fieldsIn n b) .state) b)
+  unfolding runAnswered runAnswer runLeaves unless leaving runRefusal stateRefusal orElse scheduleRefusal
+  runs e h i =
+      let q : runRefusal n b l ≡ none = rw (e, le-ltb 65535 (length l) h, i) in
+      run-promise (rw q) (rw q)

@@ -1,0 +1,102 @@
+-- A run of slices that are cut to their sizes is a run of the state in the buffers.
+use Prim.Native.Nat.{ℕ, min, _≤_}
+use mathlib.Core.Path.{_≡_, sym, ap, _∙_}
+use mathlib.Core.Bool.{true, false}
+use mathlib.Core.List.{List, _++_}
+use native.Mathlib.Omega.{arith}
+use lib.ListN.{length, take, drop, length-take, length-drop}
+use borrow.Author.Tests.{not-false}
+use Rattle.window.specs.declared.Row.{Row}
+use Rattle.step.specs.declared.ProcessTable.{ProcessTable}
+use Rattle.step.specs.State.{State}
+use Rattle.step.specs.Soundness.{every}
+use Rattle.run.specs.declared.Counts.{Counts}
+use Rattle.run.specs.Run.{Ran, run}
+use Rattle.run.specs.Laws.Run.{run-lengths}
+use Rattle.run.specs.Schedule.{itemSound}
+use Rattle.step_soundness.specs.Code.Held.{stateIn, soundIn}
+use Rattle.library.specs.declared.RunAnswer.the-variants.{Counted}
+use Rattle.library.specs.declared.Sizes.{Sizes}
+use Rattle.library.specs.declared.Rows.{Rows}
+use Rattle.library.specs.Buffers.{Buffers, fits, fieldsIn, holding}
+use Rattle.library.specs.Calls.{stateRefused}
+use Rattle.library.specs.Held.{lentBuffers, heldRows}
+use Rattle.library.specs.Promises.{RunPromise}
+use Rattle.library.specs.Laws.Places.{Fitting, fitting, over-first, over-cut, over-places}
+use Rattle.library.specs.Laws.Held.{before, lengths, room-held, accepted}
+use Rattle.library.specs.Laws.Numbers.{run-promise}
+use Rattle.library_state.specs.Laws.Cut.{cut, cut-fields, cut-refused}
+use Rattle.run_schedule.specs.Laws.Answers.{runs}
+
+module _ (v : Rows) (table : ProcessTable) (constants tags words program dataTags dataWords : List ℕ) (n : Sizes) (seven : length (v .at) ≡ 7)
+    (sound : stateRefused n (before v table constants tags words program dataTags dataWords) ≡ false) where
+  abbrev held : Buffers
+  held = before v table constants tags words program dataTags dataWords
+
+  abbrev given : State
+  given = cut v table constants tags words program dataTags dataWords n
+
+  fit : fits n (lengths v table constants tags words program dataTags dataWords) ≡ true
+  fit = sym (ap (fits n) (room-held v table constants tags words program dataTags dataWords seven)) ∙ accepted n held sound .0
+
+  -- no size is above its buffer
+  pub sizes-fit : Fitting n (lengths v table constants tags words program dataTags dataWords)
+  sizes-fit = fitting n (lengths v table constants tags words program dataTags dataWords) fit
+
+  -- the state that is cut is sound
+  pub cut-sound : soundIn (n .rows) given ≡ true
+  cut-sound = not-false (soundIn (n .rows) given) (cut-refused v table constants tags words program dataTags dataWords n seven fit ∙ sound)
+
+  module _ (l : List ℕ) (rows′ : List Row) (table′ : ProcessTable) (c : Counts) (tags′ words′ dataTags′ dataWords′ : List ℕ) where
+    abbrev cutAfter : State
+    cutAfter = stateIn rows′ (n .rows) table′ (take (n .constants) constants) tags′ words′ (take (n .program) program) dataTags′ dataWords′
+
+    abbrev after : Buffers
+    after =
+        lentBuffers (take (v .n) rows′) table′ constants (tags′ ++ drop (n .registers) tags) (words′ ++ drop (n .registers) words) program
+        (dataTags′ ++ drop (n .data_words) dataTags) (dataWords′ ++ drop (n .data_words) dataWords)
+
+    -- there are seven rows still
+    pub rows-left : record { state = cutAfter; counts = c } ≡ run l given → drop (n .rows) rows′ ≡ drop (n .rows) (v .at) → length rows′ ≡ 7
+    unfolding stateIn
+    rows-left s d =
+        let h : n .rows ≤ min (v .n) 7 = sizes-fit .rows in
+        let t : length (take (n .rows) rows′) ≡ length (take (n .rows) (v .at)) = ap (λ (y : Ran). length (y .state .rows)) s ∙ run-lengths l given .rows in
+        omega (
+          arith,
+          seven,
+          h,
+          t,
+          length-take (n .rows) rows′,
+          length-take (n .rows) (v .at),
+          length-drop (n .rows) rows′,
+          length-drop (n .rows) (v .at),
+          ap length d,
+        )
+
+    module _ (k₁ : length tags′ ≡ length (take (n .registers) tags)) (k₂ : length words′ ≡ length (take (n .registers) words))
+        (k₃ : length dataTags′ ≡ length (take (n .data_words) dataTags)) (k₄ : length dataWords′ ≡ length (take (n .data_words) dataWords)) where
+      held-after : length rows′ ≡ 7 → drop (n .rows) rows′ ≡ drop (n .rows) (v .at) → after ≡ holding cutAfter held
+      unfolding holding stateIn heldRows
+      held-after i d =
+          let f = sizes-fit in
+          let h : n .rows ≤ min (v .n) 7 = f .rows in
+          rw (
+            ← over-places (n .rows) (v .n) (v .at) rows′ (omega (arith, h)) (omega (arith, h, i)) d (omega (arith, h, seven)),
+            over-first (n .constants) constants (f .constants),
+            ← over-cut (n .registers) tags tags′ k₁ (f .registerTags),
+            ← over-cut (n .registers) words words′ k₂ (f .registerWords),
+            over-first (n .program) program (f .program),
+            ← over-cut (n .data_words) dataTags dataTags′ k₃ (f .dataTags),
+            ← over-cut (n .data_words) dataWords dataWords′ k₄ (f .dataWords),
+          )
+
+      -- what the items leave of the cut slices is what a run leaves of the buffers
+      pub run-cuts : length l ≤ 65535 → every itemSound l ≡ true → record { state = cutAfter; counts = c } ≡ run l given → drop (n .rows) rows′ ≡ drop (n .rows) (v .at)
+          → RunPromise n held l (Counted c) after
+      run-cuts m i s d =
+          let h : n .rows ≤ min (v .n) 7 = sizes-fit .rows in
+          let q : run l (fieldsIn n held) ≡ record { state = cutAfter; counts = c } = ap (run l) (sym (cut-fields v table constants tags words program dataTags dataWords n (omega (arith, h)))) ∙ sym s in
+          let p = runs n held l sound m i in
+          run-promise (ap (λ (y : Ran). Counted (y .counts)) (sym q) ∙ p .answer)
+          (held-after (rows-left s d) d ∙ ap (λ (y : Ran). holding (y .state) held) (sym q) ∙ p .leaves)

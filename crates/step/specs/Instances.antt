@@ -1,0 +1,56 @@
+-- A waved step, as instances that compute: it changes only the queue, head to tail. S1 is read under access code 2 in each, so that a step that
+-- sets it empty all the same is told.
+use mathlib.Core.Path.{_≡_, refl}
+use mathlib.Core.List.{List, [], _∷_, _++_}
+use Prim.Native.Nat.{ℕ}
+use lib.ListN.{replicate}
+use Rattle.window.specs.Memories.{memory}
+use Rattle.operation.specs.Exclusions.{exclusionRow, instructionWord}
+use Rattle.step.specs.declared.Queue.{Queue}
+use Rattle.step.specs.declared.Ending.the-variants.{Waved}
+use Rattle.step.specs.Queues.{listOf}
+use Rattle.step.specs.State.{State, taskQueue}
+use Rattle.step.specs.Step.{step}
+use Rattle.step.specs.Laws.Opened.{opened}
+
+-- the queue of task 1 with these PTs from the start of its array
+unfoldable pub trialQueue : List ℕ → ℕ → Queue
+trialQueue pts n = record { pts = pts ++ replicate 62 0; head = 0; len = n }
+
+-- task 1 with the processes 3 and 5 at PC 0, registers 6 and 7, data words 32 to 63, all of them empty; register 7 has the word hex F8
+unfoldable pub trialState : (flag : ℕ) → (program : List ℕ) → State
+trialState flag program = record {
+  rows = exclusionRow ∷ [];
+  table = record { psw = replicate 64 0; queues = trialQueue (3 ∷ 5 ∷ []) 2 ∷ replicate 6 (trialQueue (0 ∷ 0 ∷ []) 0); flag = flag };
+  constants = [];
+  registers = memory (replicate 8 0) (replicate 7 0 ++ (0xF8 ∷ []));
+  program = program ++ replicate 14 0;
+  dataWords = memory (replicate 64 0) (replicate 64 9);
+}
+
+-- ending waved; rows, registers, data words, PSWs and flag as before; the head at the tail
+pub record WavedOnly (s : State) : Type 0 where
+  pub ending : step 1 s .ending ≡ Waved
+  pub rows : step 1 s .state .rows ≡ s .rows
+  pub registers : step 1 s .state .registers ≡ s .registers
+  pub dataWords : step 1 s .state .dataWords ≡ s .dataWords
+  pub psws : step 1 s .state .table .psw ≡ s .table .psw
+  pub flag : step 1 s .state .table .flag ≡ s .table .flag
+  pub before : listOf (taskQueue (s .table) 1) ≡ 3 ∷ 5 ∷ []
+  pub after : listOf (taskQueue (step 1 s .state .table) 1) ≡ 5 ∷ 3 ∷ []
+
+pub record WavedTrials : Type 0 where
+  -- an access test unmet: MOV waits for an empty D
+  pub access : WavedOnly (trialState 0 (instructionWord 0x611F 0x1000 0x1001 0 ∷ 0 ∷ []))
+  -- a data state unmet: LODI with SAC 1 of an empty word
+  pub datum : WavedOnly (trialState 0 (instructionWord 0x6C04 0 0x1001 0 ∷ 0 ∷ []))
+  -- a true CREATE with the create fault flag up
+  pub create : WavedOnly (trialState 1 (instructionWord 0x3970 0 0x1001 0x4000 ∷ 0 ∷ []))
+
+pub waved-trials : WavedTrials
+unfolding opened instructionWord exclusionRow trialQueue trialState
+waved-trials = record {
+  access = record { ending = refl; rows = refl; registers = refl; dataWords = refl; psws = refl; flag = refl; before = refl; after = refl };
+  datum = record { ending = refl; rows = refl; registers = refl; dataWords = refl; psws = refl; flag = refl; before = refl; after = refl };
+  create = record { ending = refl; rows = refl; registers = refl; dataWords = refl; psws = refl; flag = refl; before = refl; after = refl };
+}

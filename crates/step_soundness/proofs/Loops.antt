@@ -1,0 +1,135 @@
+-- The loops over rows and queues: a turn, and the ends.
+use Prim.Native.Nat.{ℕ, suc, _+_, _≤_, _<_, min}
+use mathlib.Core.Path.{_≡_, refl, sym, ap, _∙_}
+use mathlib.Core.Bool.{Bool, true, false, not, _&&_, _||_}
+use mathlib.Core.List.{List, [], _∷_}
+use native.Mathlib.Nat.{min-eq-left, min-eq-right}
+use native.Mathlib.Omega.{arith}
+use lib.ListN.{length, getD, take, drop, length-take, length-append, drop-of-length-le}
+use lib.Seq.{drop-cons, getD-take}
+use lib.Dec.{eqb, leb}
+use borrow.Author.Tests.{lt-leb, eq-eqb, ne-eqb}
+use Rattle.word.specs.Laws.Bools.{Le?, below, above, le?}
+use Rattle.window.specs.declared.Row.{Row}
+use Rattle.step.specs.declared.Queue.{Queue}
+use Rattle.step.specs.Queues.{listOf, livePts}
+use Rattle.step.specs.State.{noQueue}
+use Rattle.step.specs.Soundness.{rowSound, rowsSound, hasRow, rowEndsIn, windowsSound, queuesSound, totalSound}
+use Rattle.step_soundness.specs.Code.Held.{queueSound}
+use Rattle.step.specs.Laws.Queues.{length-list, live-next, live-none}
+
+-- ---- the elements of a list from the ith on
+
+module _ {A : Type 0} (l : List A) (i : ℕ) where
+  pub next-of : (d : A) → i < length l → drop i l ≡ getD l i d ∷ drop (i + 1) l
+  next-of d h = let m : suc i ≡ i + 1 = omega arith in drop-cons l i d h ∙ ap (λ (j : ℕ). getD l i d ∷ drop j l) m
+
+  pub none-of : length l ≤ i → drop i l ≡ []
+  none-of h = drop-of-length-le l h
+
+-- of the first n
+module _ {A : Type 0} (l : List A) (n i : ℕ) where
+  pub next-in : (d : A) → i < n → i < length l → drop i (take n l) ≡ getD l i d ∷ drop (i + 1) (take n l)
+  next-in d h k =
+      let m : i < length (take n l) = rw length-take (omega arith) in
+      next-of (take n l) i d m ∙ ap (λ (x : A). x ∷ drop (i + 1) (take n l)) (getD-take n l i d h)
+
+  pub past-count : n ≤ i → drop i (take n l) ≡ []
+  past-count h = let m : length (take n l) ≤ i = rw length-take (omega arith) in none-of (take n l) i m
+
+  pub past-end : length l ≤ i → drop i (take n l) ≡ []
+  past-end h = let m : length (take n l) ≤ i = rw length-take (omega arith) in none-of (take n l) i m
+
+-- ---- a test of every element, which may depend on a state that the elements before it have led to
+
+pub record Tested {S A : Type 0} (all : S → List A → Bool) : Type 0 where
+  pub test : S → A → Bool
+  pub next : S → A → S
+  pub nil : (s : S) → all s [] ≡ true
+  pub cons : (s : S) (x : A) (l : List A) → all s (x ∷ l) ≡ test s x && all (next s x) l
+
+module _ {S A : Type 0} {all : S → List A → Bool} (t : Tested all) where
+  pub goes : {s : S} {x : A} {l l′ : List A} {w : Bool} → l ≡ x ∷ l′ → t .test s x ≡ true → all s l ≡ w → all (t .next s x) l′ ≡ w
+  goes {s} {x} {l} {l′} d e i = sym (ap (all s) d ∙ t .cons s x l′ ∙ ap (λ (b : Bool). b && all (t .next s x) l′) e) ∙ i
+
+  pub fails : {s : S} {x : A} {l l′ : List A} {w : Bool} → l ≡ x ∷ l′ → t .test s x ≡ false → all s l ≡ w → false ≡ w
+  fails {s} {x} {l} {l′} d e i = sym (ap (all s) d ∙ t .cons s x l′ ∙ ap (λ (b : Bool). b && all (t .next s x) l′) e) ∙ i
+
+  pub ends : {s : S} {l : List A} {w : Bool} → l ≡ [] → all s l ≡ w → true ≡ w
+  ends {s} d i = sym (ap (all s) d ∙ t .nil s) ∙ i
+
+pub rows-nil : (before : ℕ) → rowsSound before [] ≡ true
+unfolding rowsSound
+rows-nil before = refl
+
+pub rows-cons : (before : ℕ) (r : Row) (rs : List Row) → rowsSound before (r ∷ rs) ≡ rowSound before r && rowsSound (r .task) rs
+unfolding rowsSound
+rows-cons before r rs = refl
+
+abbrev pub rows-tested : Tested rowsSound
+rows-tested = record { test = rowSound; next = λ before r. r .task; nil = rows-nil; cons = rows-cons }
+
+abbrev pub windows : (registers program dataWords : ℕ) → Unit {0} → List Row → Bool
+windows nr np nd u rs = windowsSound nr np nd rs
+
+pub windows-nil : (nr np nd : ℕ) → windowsSound nr np nd [] ≡ true
+unfolding windowsSound
+windows-nil nr np nd = refl
+
+pub windows-cons : (nr np nd : ℕ) (r : Row) (rs : List Row) → windowsSound nr np nd (r ∷ rs) ≡ rowEndsIn nr np nd r && windowsSound nr np nd rs
+unfolding windowsSound
+windows-cons nr np nd r rs = refl
+
+abbrev pub windows-tested : (registers program dataWords : ℕ) → Tested (windows registers program dataWords)
+windows-tested nr np nd = record { test = λ u. rowEndsIn nr np nd; next = λ u r. u; nil = λ u. windows-nil nr np nd; cons = λ u. windows-cons nr np nd }
+
+pub queues-nil : (rows : List Row) (t : ℕ) → queuesSound rows t [] ≡ true
+unfolding queuesSound
+queues-nil rows t = refl
+
+pub queues-cons : (rows : List Row) (t : ℕ) (q : Queue) (qs : List Queue) → queuesSound rows t (q ∷ qs) ≡ queueSound rows t q && queuesSound rows (suc t) qs
+unfolding queuesSound queueSound
+queues-cons rows t q qs = refl
+
+abbrev pub queues-tested : (rows : List Row) → Tested (queuesSound rows)
+queues-tested rows = record { test = queueSound rows; next = λ t q. suc t; nil = queues-nil rows; cons = queues-cons rows }
+
+-- ---- the row of a task
+
+module _ (t : ℕ) where
+  pub has-found : {x : Row} {l l′ : List Row} {w : Bool} → l ≡ x ∷ l′ → x .task ≡ t → hasRow t l ≡ w → true ≡ w
+  unfolding hasRow
+  has-found {x} {l} {l′} d e i = sym (ap (hasRow t) d ∙ ap (λ (b : Bool). b || hasRow t l′) (eq-eqb (x .task) t e)) ∙ i
+
+  pub has-goes : {x : Row} {l l′ : List Row} {w : Bool} → l ≡ x ∷ l′ → (x .task ≡ t → ⊥) → hasRow t l ≡ w → hasRow t l′ ≡ w
+  unfolding hasRow
+  has-goes {x} {l} {l′} d e i = sym (ap (hasRow t) d ∙ ap (λ (b : Bool). b || hasRow t l′) (ne-eqb (x .task) t e)) ∙ i
+
+  pub has-ends : {l : List Row} {w : Bool} → l ≡ [] → hasRow t l ≡ w → false ≡ w
+  unfolding hasRow
+  has-ends d i = sym (ap (hasRow t) d) ∙ i
+
+-- ---- how many PTs the queues have from the kth on
+
+module _ (qs : List Queue) (k : ℕ) where
+  -- one queue more is counted
+  pub count-goes : (n m : ℕ) → k < length qs → n + length (livePts (drop k qs)) ≡ m → n + getD qs k noQueue .len + length (livePts (drop (k + 1) qs)) ≡ m
+  count-goes n m h i =
+      let e : length (livePts (drop k qs)) ≡ length (listOf (getD qs k noQueue)) + length (livePts (drop (k + 1) qs)) =
+      ap length (live-next qs k h) ∙ length-append (listOf (getD qs k noQueue)) (livePts (drop (k + 1) qs)) in
+      omega (arith, length-list (getD qs k noQueue))
+
+  pub count-full : (n m : ℕ) → k < length qs → 64 ≤ n + getD qs k noQueue .len → n + length (livePts (drop k qs)) ≡ m → 64 ≡ min 64 m
+  count-full n m h f i = sym (min-eq-left (omega (arith, count-goes n m h i)))
+
+  pub count-ends : (n m : ℕ) → length qs ≤ k → n < 64 → n + length (livePts (drop k qs)) ≡ m → n ≡ min 64 m
+  count-ends n m h f i = let e = ap length (live-none qs k h) in let q : m ≡ n = omega arith in rw q (sym (min-eq-right (omega arith)))
+
+-- counted to 64, they leave the same room
+pub room-counted : (live flag : ℕ) → totalSound (min 64 live) flag ≡ totalSound live flag
+unfolding totalSound
+room-counted live flag = ap (λ (b : Bool). not (b && eqb flag 0)) (go (leb 64 live) (le? 64 live))
+  where
+    go : (b : Bool) → Le? 64 live b → leb 64 (min 64 live) ≡ b
+    go true (below k) = rw (min-eq-left k)
+    go false (above k) = let h : live ≤ 64 = omega arith in rw (min-eq-right h) (lt-leb 64 live k)

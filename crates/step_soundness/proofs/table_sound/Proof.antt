@@ -1,0 +1,79 @@
+-- Skeleton and paths (.before ..) are generated: docs/PROOFS.md.
+use Prim.Native.Nat.{ℕ}
+use mathlib.Core.Bool.{_&&_}
+use mathlib.Core.Path.{_≡_, sym, ap, _∙_}
+use lib.ListN.{take, length, length-map}
+use borrow.Author.Tests.{not-true, not-false, eq-eqb, le-leb, lt-leb}
+use borrow.Author.Needs.{needs}
+use Rattle.step.specs.Queues.{livePts}
+use Rattle.step.specs.Soundness.{queuesSound, processesSound, totalSound, flagSound, tableSound}
+use Rattle.step_soundness.proofs.Loops.{room-counted}
+use Rattle.step_soundness.proofs.table_sound.Statement.{statement}
+use Rattle.step_soundness.proofs.table_sound.Tie as tie
+
+-- the arrays have their lengths, so the tests of the rest decide
+opened : (c : tie.Start) → (let rows = take (c .args .n) (c .args .rows) in let t = c .args .table in
+    tableSound rows t
+    ≡ queuesSound rows 1 (t .queues)
+    && (processesSound (t .psw) (livePts (t .queues)) && (flagSound (t .flag) && totalSound (length (livePts (t .queues))) (t .flag))))
+unfolding tableSound
+opened c =
+    let wide : length (c .args .table .psw) ≡ 64 = search needs in
+    let seven : length (c .args .table .queues) ≡ 7 = simp length-map at (c .good .1 .1 .0 .1 .1 .1 .0 .1 .0 .1) in
+    simp (eq-eqb _ _ wide, eq-eqb _ _ seven)
+
+queues-sound-requires : tie.Need-queues-sound-requires
+queues-sound-requires c κs = search needs
+
+returns : tie.Need-returns
+returns c = let s = c .before .before .before .before in sym (opened s ∙ simp (sym (c .before .queues-sound .ensures) ∙ not-true (c .before .queues-sound .result) (c .if1 .taken)))
+
+processes-sound-requires : tie.Need-processes-sound-requires
+processes-sound-requires c κs = search needs
+
+returns-2 : tie.Need-returns-2
+returns-2 c =
+    let s = c .before .before .before .before .before .before in
+    let q = c .before .before .before .queues-sound in
+    let p = c .before .processes-sound in
+    sym (opened s ∙ simp (sym (q .ensures) ∙ not-false (q .result) (c .before .before .if1 .left), sym (p .ensures) ∙ not-true (p .result) (c .if2 .taken)))
+
+returns-3 : tie.Need-returns-3
+unfolding flagSound
+returns-3 c =
+    let s = c .before .before .before .before .before .before .before in
+    let q = c .before .before .before .before .queues-sound in
+    let p = c .before .before .processes-sound in
+    sym (opened s ∙ simp (sym (q .ensures) ∙ not-false (q .result) (c .before .before .before .if1 .left), sym (p .ensures) ∙ not-false (p .result) (c .before .if2 .left), lt-leb _ _ (c .if3 .taken)))
+
+live-requires : tie.Need-live-requires
+live-requires c κs = search needs
+
+cast-total-sound : tie.Need-cast-total-sound
+cast-total-sound c = search needs
+
+total-sound-requires : tie.Need-total-sound-requires
+total-sound-requires c κs = search needs
+
+returns-4 : tie.Need-returns-4
+unfolding flagSound
+returns-4 c =
+    let s = c .before .before .before .before .before .before .before .before .before in
+    let q = c .before .before .before .before .before .before .queues-sound in
+    let p = c .before .before .before .before .processes-sound in
+    let room = c .total-sound .ensures ∙ ap (λ (n : ℕ). totalSound n (s .args .table .flag)) (c .before .live .ensures) ∙ room-counted _ _ in
+    sym (opened s ∙ simp (sym (q .ensures) ∙ not-false (q .result) (c .before .before .before .before .before .if1 .left), sym (p .ensures) ∙ not-false (p .result) (c .before .before .before .if2 .left), le-leb _ _ (c .before .before .if3 .left), ← room))
+
+pub table-sound-spec : {M : Type 1} → statement M
+table-sound-spec =
+    tie.close
+    (tie.spec
+    queues-sound-requires
+    returns
+    processes-sound-requires
+    returns-2
+    returns-3
+    live-requires
+    cast-total-sound
+    total-sound-requires
+    returns-4)
