@@ -5,7 +5,7 @@
 #     bash tests/bench.sh [--write]    --write: the tables go to docs/BENCHMARKS.md, below its line "## Measured"
 set -euo pipefail
 cd "$(dirname "$0")/.."
-inlined="dispatch::perform runner::step_task"
+inlined="operation_decide::perform run_schedule::step_task"
 # A function that is inlined at every call has no symbol of its own in the archive.
 check_inlined() {
     local function symbols
@@ -16,7 +16,7 @@ check_inlined() {
         if grep -q " $function\(\.\|$\)" <<< "$symbols"; then echo "bench: $function is not inlined"; exit 1; fi
     done
 }
-for crate in hep_c image_calls; do
+for crate in hep_c benchmark; do
     rt staticlib "$crate" > target/staticlib.log 2>&1 || { cat target/staticlib.log; exit 1; }
 done
 check_inlined target/staticlib/libhep_c.a

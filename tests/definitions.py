@@ -11,10 +11,9 @@ import shutil
 import subprocess
 import sys
 
-import hep_tools
-
 ROOT = pathlib.Path(__file__).resolve().parent.parent
 COPY = ROOT / "target" / "definitions"
+TOOLS = ROOT / "hep-tools"
 
 HEADER = """-- Made by tests/definitions.py.
 use mathlib.Core.Path.{_≡_, refl}
@@ -38,6 +37,21 @@ scheduled (accepted schedule image) = written schedule (decode image)
 imageAfter : List ℕ → List ℕ
 imageAfter input = scheduled (scheduleCodec .dec input)
 """
+
+
+def lines_of(program, *arguments, lines=()):
+    """The lines that a program of hep-tools answers to these lines."""
+    text = "".join(line + "\n" for line in lines)
+    done = subprocess.run([TOOLS / "target" / "release" / program, *arguments], input=text, capture_output=True, text=True, check=True)
+    return done.stdout.splitlines()
+
+
+def answered(seed, count):
+    """Small random inputs, each with the emulator's output and the image after the run, or none where it is refused."""
+    inputs = lines_of("hep-generate", "--small", str(seed), str(count))
+    for data, line in zip(inputs, lines_of("hep-emulator", "--lines", lines=inputs), strict=True):
+        output, image = line.split()
+        yield bytes.fromhex(data), bytes.fromhex(output), None if image == "-" else bytes.fromhex(image)
 
 
 def byte_list(data):
@@ -87,9 +101,8 @@ def main():
     below = rt_check("report", ROOT)
     if below.returncode:
         sys.exit(below.stdout + below.stderr)
-    inputs = hep_tools.generated("--small", seed, count)
-    answered = zip(inputs, hep_tools.answers(inputs), strict=True)
-    body = "".join(statements(number, data, *answer) for number, (data, answer) in enumerate(answered))
+    subprocess.run(["cargo", "build", "--quiet", "--release", "--offline", "--manifest-path", TOOLS / "Cargo.toml"], check=True)
+    body = "".join(statements(number, *answer) for number, answer in enumerate(answered(seed, count)))
     make_repository(HEADER + body)
     done = rt_check("vectors", COPY)
     failed = sorted(set(re.findall(r"error: `((?:output|image)-\d+)`", done.stdout + done.stderr)))

@@ -1,6 +1,6 @@
 #!/usr/bin/env bash
 # A wrong library is noticed: hep-trials is linked to the archive spoilt by tests/c/wrong.c, and must differ under each of its faults.
-# `rt staticlib hep_c` comes first.
+# tools/archive.sh comes first.
 set -euo pipefail
 cd "$(dirname "$0")/.."
 folder=$PWD/target/wrong

@@ -20,21 +20,21 @@ use std::{error, fmt};
 #[repr(u32)]
 pub enum Refusal {
     /// The image ends before its last section is whole.
-    InputEnds = 1,
+    InputEnds = sys::INPUT_ENDS,
     /// A count is over its limit.
-    CountOverLimit = 2,
+    CountOverLimit = sys::COUNT_OVER_LIMIT,
     /// A field is out of its range.
-    FieldOutOfRange = 3,
+    FieldOutOfRange = sys::FIELD_OUT_OF_RANGE,
     /// Bytes stand after the last section.
-    BytesLeftOver = 4,
+    BytesLeftOver = sys::BYTES_LEFT_OVER,
     /// A window that isn't empty ends past its memory.
-    WindowPastMemory = 5,
+    WindowPastMemory = sys::WINDOW_PAST_MEMORY,
     /// A process number stands twice, or 64 processes with flag 0.
-    ProcessesClash = 6,
+    ProcessesClash = sys::PROCESSES_CLASH,
     /// A schedule of over 65,535 items.
-    ListTooLong = 9,
+    ListTooLong = sys::LIST_TOO_LONG,
     /// An item of the schedule is not 1 to 7.
-    ItemOutOfRange = 10,
+    ItemOutOfRange = sys::ITEM_OUT_OF_RANGE,
 }
 
 impl Refusal {
@@ -46,15 +46,15 @@ impl Refusal {
     // 7 cannot come: the buffers are as long as the calls ask.
     fn of(number: u32) -> Result<(), Refusal> {
         Err(match number {
-            0 => return Ok(()),
-            1 => Refusal::InputEnds,
-            2 => Refusal::CountOverLimit,
-            3 => Refusal::FieldOutOfRange,
-            4 => Refusal::BytesLeftOver,
-            5 => Refusal::WindowPastMemory,
-            6 => Refusal::ProcessesClash,
-            9 => Refusal::ListTooLong,
-            10 => Refusal::ItemOutOfRange,
+            sys::ACCEPTED => return Ok(()),
+            sys::INPUT_ENDS => Refusal::InputEnds,
+            sys::COUNT_OVER_LIMIT => Refusal::CountOverLimit,
+            sys::FIELD_OUT_OF_RANGE => Refusal::FieldOutOfRange,
+            sys::BYTES_LEFT_OVER => Refusal::BytesLeftOver,
+            sys::WINDOW_PAST_MEMORY => Refusal::WindowPastMemory,
+            sys::PROCESSES_CLASH => Refusal::ProcessesClash,
+            sys::LIST_TOO_LONG => Refusal::ListTooLong,
+            sys::ITEM_OUT_OF_RANGE => Refusal::ItemOutOfRange,
             n => unreachable!("refusal {n}"),
         })
     }
@@ -113,7 +113,7 @@ pub fn check(image: &[u8]) -> Result<(), Refusal> {
 /// assert_eq!(hep::sizes(&hep::example_image()).unwrap().rows, 1);
 /// ```
 pub fn sizes(image: &[u8]) -> Result<Sizes, Refusal> {
-    let mut n = [0; 5];
+    let mut n = [0; sys::SIZES];
     Refusal::of(sys::sizes(image, &mut n))?;
     let [rows, constants, registers, program, data_words] = n.map(|x| x as usize);
     Ok(Sizes { rows, constants, registers, program, data_words })
@@ -128,9 +128,9 @@ pub fn sizes(image: &[u8]) -> Result<Sizes, Refusal> {
 /// ```
 pub fn run(image: &[u8], schedule: &[u8]) -> Result<Outcome, Refusal> {
     let n = sizes(image)?;
-    let mut output = vec![0; image.len() + 640];
-    let mut counts = [0; 6];
-    let mut report = [0; 512];
+    let mut output = vec![0; sys::output_room(image.len())];
+    let mut counts = [0; sys::COUNTS];
+    let mut report = [0; sys::REPORT_ROOM];
     Refusal::of(sys::run(
         image,
         schedule,
@@ -159,7 +159,7 @@ pub fn run(image: &[u8], schedule: &[u8]) -> Result<Outcome, Refusal> {
 /// assert_eq!(hep::batch(&[]), "R1\n");
 /// ```
 pub fn batch(input: &[u8]) -> String {
-    let mut output = [0; 512];
+    let mut output = [0; sys::REPORT_ROOM];
     let n = sys::batch(input, &mut output);
     text(&output[..n])
 }

@@ -2,6 +2,30 @@
 
 #![allow(clippy::too_many_arguments)]
 
+/// The answers: 0, or the number of a refusal.
+pub const ACCEPTED: u32 = 0;
+pub const INPUT_ENDS: u32 = 1;
+pub const COUNT_OVER_LIMIT: u32 = 2;
+pub const FIELD_OUT_OF_RANGE: u32 = 3;
+pub const BYTES_LEFT_OVER: u32 = 4;
+pub const WINDOW_PAST_MEMORY: u32 = 5;
+pub const PROCESSES_CLASH: u32 = 6;
+pub const SHORT_BUFFER: u32 = 7;
+pub const LIST_TOO_LONG: u32 = 9;
+pub const ITEM_OUT_OF_RANGE: u32 = 10;
+
+/// How many numbers `hep_sizes` writes.
+pub const SIZES: usize = 5;
+/// How many numbers `hep_run` writes.
+pub const COUNTS: usize = 6;
+/// Bytes with room for any report, and for any output of `hep_batch`.
+pub const REPORT_ROOM: usize = 512;
+
+/// Bytes with room for the image after a run of an image of this length.
+pub const fn output_room(image_len: usize) -> usize {
+    image_len + 640
+}
+
 mod c {
     #[rustfmt::skip]
     extern "C" {

@@ -1,6 +1,11 @@
-//! The printed case of document 01, each refusal that a caller of this crate can meet, and lengths.
+//! The printed case of document 01, each refusal that a caller of this crate can meet, lengths, and the header's numbers.
 
-use hep::{Counts, Refusal};
+use hep::{sys, Counts, Refusal};
+use hep_tools::emulator::draft::{batch_input, Draft, Process, Task};
+use hep_tools::emulator::image;
+use hep_tools::emulator::machine::PROTECTION;
+use hep_tools::tool::text;
+use hep_tools::trials::edges;
 
 const PRINTED: &str = "1 1 14 00000\nE0 W0 T1 I0 CF0\n";
 
@@ -8,27 +13,19 @@ fn printed() -> Vec<u8> {
     hep::example_image()
 }
 
-fn with(at: usize, byte: u8) -> Vec<u8> {
-    let mut image = printed();
-    image[at] = byte;
-    image
-}
-
-// Task 1 with a window in each memory and a process at program word 0: CREATE always, with two constants as operands.
+/// Task 1 with a window in each memory and a process that creates another.
 fn creating() -> Vec<u8> {
-    let mut image = vec![1, 1];
-    image.extend([0; 18]);
-    image.push(0xFF);
-    image.extend([0; 8]);
-    image.extend([1, 0, 5, 1, 0, 0, 0, 0, 0, 0, 0, 0]);
-    image.extend([0, 0]);
-    image.extend([0, 2]);
-    image.extend([0; 2 * 9]);
-    image.extend([0, 0, 0, 16, 0x39, 0x70, 0, 0, 0x40, 0, 0x40, 0]);
-    image.extend([0; 15 * 8]);
-    image.extend([0, 0, 0, 32]);
-    image.extend([0; 32 * 9]);
-    image
+    let text = "hep image
+        task 1 cb=0 rb=0 rl=0 pb=0 pl=0 db=0 dl=0
+        process 5 task=1
+        registers
+        full 0 * 2
+        program
+        CREATE c0, c0
+        NOP * 15
+        data
+        empty 0 * 32";
+    text::assemble(text).unwrap().bytes()
 }
 
 #[test]
@@ -36,10 +33,20 @@ fn printed_case() {
     let outcome = hep::run(&printed(), &[1]).unwrap();
     assert_eq!(outcome.report, PRINTED);
     assert_eq!(outcome.counts, Counts { executed: 0, waved: 0, trapped: 1, idle: 0 });
-    assert_eq!(outcome.image, with(20, 0x14));
-    let mut input = vec![0, 1, 1];
-    input.extend(printed());
-    assert_eq!(hep::batch(&input), PRINTED);
+    let mut after = image::draft(&image::read(&printed()).unwrap());
+    after.tasks[0].kind = PROTECTION;
+    assert_eq!(outcome.image, after.bytes());
+    assert_eq!(hep::batch(&batch_input(&[1], &printed())), PRINTED);
+}
+
+#[test]
+fn the_example_is_the_printed_case() {
+    let draft = Draft {
+        tasks: vec![Task::empty(1)],
+        processes: vec![Process { pt: 0, task: 1, psw: 0 }],
+        ..Draft::default()
+    };
+    assert_eq!(printed(), draft.bytes());
 }
 
 #[test]
@@ -57,28 +64,24 @@ fn sizes() {
 
 #[test]
 fn images_refused() {
-    let image = printed();
-    let mut longer = image.clone();
-    longer.push(0);
-    let mut twice = with(29, 2);
-    twice.splice(41..41, image[31..41].to_vec());
-    let cases = [
-        (image[..image.len() - 1].to_vec(), Refusal::InputEnds),
-        (with(0, 8), Refusal::CountOverLimit),
-        (with(1, 8), Refusal::FieldOutOfRange),
-        (longer, Refusal::BytesLeftOver),
-        (with(5, 0), Refusal::WindowPastMemory),
-        (twice, Refusal::ProcessesClash),
+    let refusals = [
+        Refusal::InputEnds,
+        Refusal::CountOverLimit,
+        Refusal::FieldOutOfRange,
+        Refusal::BytesLeftOver,
+        Refusal::WindowPastMemory,
+        Refusal::ProcessesClash,
     ];
-    for (i, (image, refusal)) in cases.into_iter().enumerate() {
-        assert_eq!(refusal.number(), i as u32 + 1);
-        assert_eq!(hep::check(&image), Err(refusal));
-        assert_eq!(hep::sizes(&image), Err(refusal));
-        assert_eq!(hep::run(&image, &[9]), Err(refusal));
-        let mut input = vec![0, 0];
-        input.extend(image);
-        assert_eq!(hep::batch(&input), format!("R{}\n", refusal.number()));
+    for ((image, refusal), number) in edges::smallest().iter().zip(refusals).zip(1..) {
+        assert_eq!(refusal.number(), number);
+        assert_eq!(hep::check(image), Err(refusal));
+        assert_eq!(hep::sizes(image), Err(refusal));
+        assert_eq!(hep::run(image, &[9]), Err(refusal));
+        assert_eq!(hep::batch(&batch_input(&[], image)), format!("R{number}\n"));
     }
+    let image = printed();
+    assert_eq!(hep::check(&image[..image.len() - 1]), Err(Refusal::InputEnds));
+    assert_eq!(hep::check(&[&image[..], &[0]].concat()), Err(Refusal::BytesLeftOver));
 }
 
 #[test]
@@ -97,4 +100,35 @@ fn an_image_gets_longer_and_runs_on() {
     assert_eq!(once.image.len(), image.len() + 10);
     let on = hep::run(&once.image, &[1, 1]).unwrap();
     assert_eq!(on.image, hep::run(&image, &[1, 1, 1]).unwrap().image);
+}
+
+#[test]
+fn the_numbers_are_the_headers() {
+    let header = include_str!("../../include/hep.h");
+    let numbers = [
+        ("ACCEPTED", sys::ACCEPTED),
+        ("INPUT_ENDS", sys::INPUT_ENDS),
+        ("COUNT_OVER_LIMIT", sys::COUNT_OVER_LIMIT),
+        ("FIELD_OUT_OF_RANGE", sys::FIELD_OUT_OF_RANGE),
+        ("BYTES_LEFT_OVER", sys::BYTES_LEFT_OVER),
+        ("WINDOW_PAST_MEMORY", sys::WINDOW_PAST_MEMORY),
+        ("PROCESSES_CLASH", sys::PROCESSES_CLASH),
+        ("SHORT_BUFFER", sys::SHORT_BUFFER),
+        ("LIST_TOO_LONG", sys::LIST_TOO_LONG),
+        ("ITEM_OUT_OF_RANGE", sys::ITEM_OUT_OF_RANGE),
+    ];
+    let stated = |line: String| header.lines().any(|found| found == line);
+    for (name, number) in numbers {
+        let line = format!("    HEP_{name} = {number}");
+        assert!(header.lines().any(|found| {
+            found.strip_prefix(&line).is_some_and(|rest| !rest.starts_with(char::is_numeric))
+        }));
+    }
+    let refusals = header.lines().filter(|line| line.starts_with("    HEP_")).count();
+    assert_eq!(refusals, numbers.len());
+    assert!(stated(format!("#define HEP_SIZES {}", sys::SIZES)));
+    assert!(stated(format!("#define HEP_COUNTS {}", sys::COUNTS)));
+    assert!(stated(format!("#define HEP_REPORT_ROOM {}", sys::REPORT_ROOM)));
+    let room = sys::output_room(0);
+    assert!(stated(format!("#define HEP_OUTPUT_ROOM(image_len) ((image_len) + {room})")));
 }

@@ -1,5 +1,7 @@
 //! The programs: help, exit codes, files and standard input.
 
+use hep_tools::emulator::image;
+use hep_tools::{generate, tool};
 use std::io::Write;
 use std::process::{Command, Output, Stdio};
 use std::{env, fs, process};
@@ -38,6 +40,7 @@ fn help() {
         &["dump", "-h"],
         &["trace", "-h"],
         &["share", "-h"],
+        &["timeline", "-h"],
     ] {
         let output = image_tool(arguments, b"");
         assert!(output.status.success());
@@ -51,6 +54,7 @@ fn exit_codes() {
     assert_eq!(code(&["asm"], b"hep tape"), 1);
     assert_eq!(code(&["dump"], &[9, 9]), 1);
     assert_eq!(code(&["dump", "--after"], b"hep image\n"), 1);
+    assert_eq!(code(&["timeline"], b"hep image\n"), 1);
     assert_eq!(code(&["share", "1"], TEXT.as_bytes()), 1);
     for wrong in [&[][..], &["run"], &["asm", "--after"], &["asm", "-o"], &["asm", "a", "b"]] {
         assert_eq!(code(wrong, TEXT.as_bytes()), 2, "{wrong:?}");
@@ -90,9 +94,7 @@ fn the_emulator_answers_lines() {
     let image = String::from_utf8(image).unwrap();
     assert_eq!(String::from_utf8(lines).unwrap(), format!("{output} {image}"));
     assert_eq!(run(EMULATOR, &["--lines"], b"00\n").stdout, b"52310A -\n");
-    assert_eq!(run(EMULATOR, &["--images"], b"00\n").stdout, b"R1\n");
-    assert_eq!(run(EMULATOR, &["--images"], image.as_bytes()).stdout, image.as_bytes());
-    assert_eq!(run(EMULATOR, &["--images"], b"0g\n").status.code(), Some(1));
+    assert_eq!(run(EMULATOR, &["--lines"], b"0g\n").status.code(), Some(1));
     assert_eq!(run(EMULATOR, &["--line"], b"").status.code(), Some(2));
 }
 
@@ -108,5 +110,25 @@ fn comparison() {
     assert!(fs::read_to_string(folder.join("differs.hex")).is_ok());
     assert_eq!(code(&["--seed"]), Some(2));
     assert_eq!(code(&["--unknown"]), Some(2));
+    fs::remove_dir_all(folder).unwrap();
+}
+
+#[test]
+fn generated_files() {
+    let folder = env::temp_dir().join(format!("hep-generate-{}", process::id()));
+    let path = folder.to_str().unwrap();
+    let generate = |arguments: &[&str]| run(env!("CARGO_BIN_EXE_hep-generate"), arguments, b"");
+    assert!(generate(&["--refused", path]).status.success());
+    for number in 1..=6 {
+        let image = fs::read(folder.join(format!("R{number}.bin"))).unwrap();
+        assert_eq!(image::read(&image).err(), Some(number));
+    }
+    assert!(generate(&["--small", "3", "2", path]).status.success());
+    assert_eq!(fs::read(folder.join("3-000001.bin")).unwrap(), generate::small_input(3, 1));
+    let line = String::from_utf8(generate(&["3", "1"]).stdout).unwrap();
+    assert_eq!(tool::from_hex(&line).unwrap(), generate::input(3, 0));
+    for wrong in [&[][..], &["--refused"], &["--images", "1", "1"], &["1"]] {
+        assert_eq!(generate(wrong).status.code(), Some(2), "{wrong:?}");
+    }
     fs::remove_dir_all(folder).unwrap();
 }

@@ -292,3 +292,59 @@ fn states_after_runs_come_back() {
         both_ways(&image::write(&machine));
     }
 }
+
+/// What a picture says of its lanes: the texts that begin like this.
+fn said<'a>(svg: &'a str, start: &str) -> Vec<&'a str> {
+    let texts = svg
+        .lines()
+        .filter_map(|line| line.strip_prefix("<text").and_then(|line| line.split_once('>')));
+    texts
+        .map(|(_, text)| text.trim_end_matches("</text>"))
+        .filter(|text| text.starts_with(start))
+        .collect()
+}
+
+#[test]
+fn timelines() {
+    let frame = include_str!("../../examples/frame-b.hep");
+    let svg = tool::drawn(frame.as_bytes()).unwrap();
+    assert_eq!(said(&svg, "task "), ["task 1", "task 5"]);
+    assert_eq!(said(&svg, "E"), ["E130 W25 T0 I45", "E126 W1115 T1 I83"]);
+    assert_eq!(said(&svg, "trap "), ["trap 14 at item 1381, PC 00003"]);
+    for total in ["executed 256", "waved 1140", "trapped 1", "idle 128"] {
+        assert_eq!(said(&svg, total), [total]);
+    }
+    assert!(svg.starts_with("<svg ") && svg.ends_with("</svg>\n"));
+}
+
+#[test]
+fn timelines_stay_small() {
+    let task = "task 1 cb=0 rb=1 rl=0 pb=0 pl=0 db=1 dl=0\nprocess 0 task=1\nprogram\nNOP * 16\n";
+    let long = format!("hep input\n{task}schedule\n1 * 15\n{}", "2\n1 * 3\n".repeat(15_000));
+    let svg = tool::drawn(long.as_bytes()).unwrap();
+    assert_eq!(said(&svg, "60015 items of 2 tasks, a column for 251 items").len(), 1);
+    assert_eq!(said(&svg, "trap "), ["trap 14 at item 17, PC 00010"]);
+    assert_eq!(said(&svg, "not in the image").len(), 1);
+    assert!(svg.len() < 10_000, "{} bytes", svg.len());
+    let none = tool::drawn(format!("hep input\n{task}schedule\n").as_bytes()).unwrap();
+    assert_eq!(said(&none, "E"), ["E0 W0 T0 I0"]);
+}
+
+#[test]
+fn timelines_mark_the_flag() {
+    // Two processes live at first; each item creates one, so item 61 makes the 64th.
+    let text = "hep input
+        task 1 cb=0 rb=1 rl=0 pb=0 pl=0 db=1 dl=0
+        task 3 cb=0 rb=1 rl=0 pb=1 pl=0 db=1 dl=0 trap=0x14 pc=7
+        process 0 task=1
+        process 1 task=3
+        program
+        CREATE c0, c0 * 16
+        schedule
+        1 * 100";
+    let svg = tool::drawn(text.as_bytes()).unwrap();
+    let heading = "100 items of 2 tasks, a column for each item; create fault flag up at item 61";
+    assert_eq!(said(&svg, "100 items"), [heading]);
+    assert_eq!(said(&svg, "trap 00 at item 61, PC ").len(), 1);
+    assert_eq!(said(&svg, "trap 14"), ["trap 14 before the run, PC 00007"]);
+}

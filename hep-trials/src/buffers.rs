@@ -1,12 +1,6 @@
 //! What a run is lent.
 
-use hep::sys;
-
-/// Lengths that `hep_sizes` and `hep_run` ask for (include/hep.h).
-pub const SIZES: usize = 5;
-const COUNTS: usize = 6;
-const REPORT_ROOM: usize = 512;
-const OUTPUT_ROOM: usize = 640;
+use hep::sys::{self, COUNTS, REPORT_ROOM, SIZES};
 
 /// What every element holds before a call, and how many are there beyond the lent ones.
 const BYTE: u8 = 0xA5;
@@ -33,9 +27,9 @@ pub struct Buffers {
 pub fn asked(image: &[u8]) -> Result<Lengths, u32> {
     let mut sizes = [0; SIZES];
     match sys::sizes(image, &mut sizes) {
-        0 => {
+        sys::ACCEPTED => {
             let [_, constants, registers, program, data] = sizes.map(|n| n as usize);
-            let output = image.len() + OUTPUT_ROOM;
+            let output = sys::output_room(image.len());
             Ok([constants, registers, registers, program, data, data, output, COUNTS, REPORT_ROOM])
         }
         number => Err(number),

@@ -1,16 +1,13 @@
 //! What the calls refuse and what they leave alone: refusals 7, 9 and 10 at both sides of their boundaries, which batch inputs cannot show, and
 //! 2 at the largest memories. No call takes a state from outside, so 8 cannot come.
 
-use crate::buffers::{self, asked, Buffers, Lengths, SIZES};
-use hep::sys;
-use hep_tools::emulator::draft::Draft;
-use hep_tools::emulator::image::MOST_WORDS;
+use crate::buffers::{self, asked, Buffers, Lengths};
+use hep::sys::{self, COUNT_OVER_LIMIT, ITEM_OUT_OF_RANGE, LIST_TOO_LONG, SHORT_BUFFER, SIZES};
+use hep_tools::emulator::draft::{Draft, Task};
+use hep_tools::emulator::image::{MOST_CONSTANTS, MOST_WORDS};
+use hep_tools::emulator::machine::REGISTERS;
 use hep_tools::generate;
 
-const COUNT_OVER_LIMIT: u32 = 2;
-const SHORT_BUFFER: u32 = 7;
-const LIST_TOO_LONG: u32 = 9;
-const ITEM_OUT_OF_RANGE: u32 = 10;
 const MOST_ITEMS: usize = 65_535;
 
 /// Generated images whose calls are tried.
@@ -107,21 +104,36 @@ fn batches() -> Tried {
     Ok(2 * IMAGES)
 }
 
-/// The largest program and data memories come back; one word more is refused.
+/// Images that are longer than a batch input: each memory as large as it may be, and all of them at once, comes back; one cell more in a
+/// memory is refused.
 fn largest() -> Tried {
-    let image = |program: usize, data: usize| {
-        let word = |i: usize| (i as u64).wrapping_mul(0x9E37_79B9_7F4A_7C15);
-        let program = (0..program).map(word).collect();
-        let data = (0..data).map(|i| (i as u8 & 1, word(i))).collect();
-        Draft { program, data, ..Draft::default() }.bytes()
-    };
-    let most = image(MOST_WORDS, MOST_WORDS);
-    let same = hep::run(&most, &[1]).is_ok_and(|outcome| outcome.image == most);
-    require(same, || "the largest image doesn't come back".to_string())?;
-    for (program, data) in [(MOST_WORDS + 1, 0), (0, MOST_WORDS + 1)] {
-        let found = sys::check(&image(program, data));
-        let refused = found == COUNT_OVER_LIMIT;
-        require(refused, || format!("{program} and {data} words: hep_check answers {found}"))?;
+    let most = [MOST_CONSTANTS, REGISTERS, MOST_WORDS, MOST_WORDS];
+    let some = [MOST_CONSTANTS, REGISTERS, 8, 1_581];
+    for sizes in [most, some, [1, 2, 8_180, 3]] {
+        let image = memories(sizes);
+        let same = hep::run(&image, &[]).is_ok_and(|outcome| outcome.image == image);
+        require(same, || format!("the image of {sizes:?} cells doesn't come back"))?;
     }
-    Ok(3)
+    for memory in 0..most.len() {
+        let mut sizes = most;
+        sizes[memory] += 1;
+        let found = sys::check(&memories(sizes));
+        let refused = found == COUNT_OVER_LIMIT;
+        require(refused, || format!("{sizes:?} cells: hep_check answers {found}"))?;
+    }
+    Ok(3 + most.len() as u64)
+}
+
+/// An image of a row with empty windows, and so many constants, registers, program words and data words.
+fn memories([constants, registers, program, data]: [usize; 4]) -> Vec<u8> {
+    let word = |i: usize| (i as u64).wrapping_mul(0x9E37_79B9_7F4A_7C15);
+    Draft {
+        tasks: vec![Task::empty(1)],
+        constants: (0..constants).map(word).collect(),
+        registers: (0..registers).map(|i| (i as u8 % 7, word(i))).collect(),
+        program: (0..program).map(word).collect(),
+        data: (0..data).map(|i| (i as u8 & 1, word(i))).collect(),
+        ..Draft::default()
+    }
+    .bytes()
 }

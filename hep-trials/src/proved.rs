@@ -1,13 +1,10 @@
 //! The proved library as an implementation of the batch program.
 
 use crate::buffers::{self, Buffers, Lengths};
-use hep::sys;
+use hep::sys::{self, COUNTS, REPORT_ROOM};
 use hep_tools::compare::Implementation;
 use hep_tools::emulator::batch::{split, Answer, MOST_BYTES};
 use hep_tools::emulator::image;
-
-/// Room for any report.
-const REPORT_ROOM: usize = 512;
 
 /// The library, all of its calls at once: `hep_batch` answers, and the others must say the same.
 pub struct Proved;
@@ -51,10 +48,10 @@ fn run(image: &[u8], schedule: &[u8]) -> Result<Result<Buffers, u32>, String> {
             return refused(image, schedule, number);
         }
     };
-    require(checked == 0, "hep_check and hep_sizes disagree")?;
+    require(checked == sys::ACCEPTED, "hep_check and hep_sizes disagree")?;
     let mut left = Buffers::new(&lengths);
     match left.run(image, schedule, &lengths) {
-        0 => consistent(&left, &lengths).map(|()| Ok(left)),
+        sys::ACCEPTED => consistent(&left, &lengths).map(|()| Ok(left)),
         number => {
             require(left.stays_from(&[0; 9]), "a refused hep_run wrote")?;
             Ok(Err(number))
@@ -75,7 +72,10 @@ fn consistent(left: &Buffers, lengths: &Lengths) -> Result<(), String> {
     let [c, rt, rw, p, dt, dw, ..] = *lengths;
     let (image, report) = (left.counts[4] as usize, left.counts[5] as usize);
     require(image <= lengths[6] && report <= lengths[8], "hep_run answers no length")?;
-    require(left.stays_from(&[c, rt, rw, p, dt, dw, image, 6, report]), "hep_run wrote beyond")?;
+    require(
+        left.stays_from(&[c, rt, rw, p, dt, dw, image, COUNTS, report]),
+        "hep_run wrote beyond",
+    )?;
     let [executed, waved, trapped, idle] = left.endings();
     let counted = format!("E{executed} W{waved} T{trapped} I{idle} CF");
     let last = String::from_utf8_lossy(left.report()).lines().last().map(str::to_string);

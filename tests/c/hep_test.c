@@ -18,43 +18,31 @@ static void expect(int holds, const char *what, int line)
 
 #define EXPECT(x) expect((x), #x, __LINE__)
 
-/* ---- images */
+/* ---- images, from the folder that is the program's argument; run.sh makes them */
 
-static const uint8_t printed_image[] = {
-    1, 1, 0, 0, 0, 1, 0, 0, 0, 1, 0, 0, 0, 0, 0, 1, 0, 0, 0, 0, 0xFF, 0, 0, 0, 0, 0, 0, 0, 0,
-    1, 0, 0, 1, 0, 0, 0, 0, 0, 0, 0, 0,
-    0, 0, 0, 0, 0, 0, 0, 0, 0, 0, 0, 0,
+struct bytes {
+    uint8_t at[1024];
+    size_t len;
 };
 
-static const char printed_report[] = "1 1 14 00000\nE0 W0 T1 I0 CF0\n";
+static const char *folder;
 
-enum { CONSTANTS = 2, REGISTERS = 2, PROGRAM = 16, DATA_WORDS = 32, FULL_LEN = 1 + 28 + 2 + 10 + 2 + 16 + 2 + 18 + 4 + 128 + 4 + 288 };
-
-/* Task 1 with a window in each memory, and a process at program word 0: CREATE always, with two constants as operands. */
-static size_t full_image(uint8_t *to)
+static struct bytes file(const char *name)
 {
-    uint8_t *p = to;
-    static const uint8_t rows[] = {1, 1, 0, 0, 0, 0, 0, 0, 0, 0, 0, 0, 0, 0, 0, 0, 0, 0, 0, 0, 0xFF, 0, 0, 0, 0, 0, 0, 0, 0};
-    static const uint8_t processes[] = {1, 0, 5, 1, 0, 0, 0, 0, 0, 0, 0, 0};
-    static const uint8_t create[] = {0x39, 0x70, 0, 0, 0x40, 0, 0x40, 0};
-    memset(to, 0, FULL_LEN);
-    memcpy(p, rows, sizeof rows);
-    p += sizeof rows;
-    memcpy(p, processes, sizeof processes);
-    p += sizeof processes;
-    p[1] = CONSTANTS;
-    p += 2 + 8 * CONSTANTS;
-    p[1] = REGISTERS;
-    p += 2 + 9 * REGISTERS;
-    p[3] = PROGRAM;
-    memcpy(p + 4, create, sizeof create);
-    p += 4 + 8 * PROGRAM;
-    p[3] = DATA_WORDS;
-    p[4] = 1;
-    p[12] = 77;
-    p += 4 + 9 * DATA_WORDS;
-    return (size_t)(p - to);
+    char path[4096];
+    struct bytes b;
+    snprintf(path, sizeof path, "%s/%s.bin", folder, name);
+    FILE *f = fopen(path, "rb");
+    if (!f) {
+        perror(path);
+        exit(2);
+    }
+    b.len = fread(b.at, 1, sizeof b.at, f);
+    fclose(f);
+    return b;
 }
+
+static const char printed_report[] = "1 1 14 00000\nE0 W0 T1 I0 CF0\n";
 
 /* ---- buffers, each in its own block so that a sanitizer sees its ends; one element more than is lent holds a mark */
 
@@ -123,38 +111,38 @@ static uint32_t run(const uint8_t *image, size_t image_len, const uint8_t *sched
 
 /* ---- the printed case */
 
-static void test_printed(void)
+static void test_batch(void)
 {
-    uint8_t input[3 + sizeof printed_image] = {0, 1, 1};
-    uint8_t output[512];
-    uint64_t sizes[HEP_SIZES];
-    memcpy(input + 3, printed_image, sizeof printed_image);
+    struct bytes input = file("printed");
+    uint8_t output[HEP_REPORT_ROOM];
     memset(output, MARK, sizeof output);
-    EXPECT(hep_batch(input, sizeof input, output, sizeof output) == strlen(printed_report));
+    EXPECT(hep_batch(input.at, input.len, output, sizeof output) == strlen(printed_report));
     EXPECT(memcmp(output, printed_report, strlen(printed_report)) == 0);
     EXPECT(marked(output + strlen(printed_report), sizeof output - strlen(printed_report)));
     memset(output, MARK, sizeof output);
-    EXPECT(hep_batch(input, sizeof input, output, strlen(printed_report) - 1) == 0);
+    EXPECT(hep_batch(input.at, input.len, output, strlen(printed_report) - 1) == 0);
     EXPECT(marked(output, sizeof output));
-    EXPECT(hep_batch(input, 0, output, sizeof output) == 3 && memcmp(output, "R1\n", 3) == 0);
+    EXPECT(hep_batch(input.at, 0, output, sizeof output) == 3 && memcmp(output, "R1\n", 3) == 0);
+}
 
-    EXPECT(hep_check(printed_image, sizeof printed_image) == HEP_ACCEPTED);
-    EXPECT(hep_sizes(printed_image, sizeof printed_image, sizes, HEP_SIZES) == HEP_ACCEPTED);
+static void test_printed(void)
+{
+    struct bytes image = file("one"), after = file("after");
+    uint64_t sizes[HEP_SIZES];
+    EXPECT(hep_check(image.at, image.len) == HEP_ACCEPTED);
+    EXPECT(hep_sizes(image.at, image.len, sizes, HEP_SIZES) == HEP_ACCEPTED);
     EXPECT(sizes[HEP_ROWS] == 1 && sizes[HEP_CONSTANTS] == 0 && sizes[HEP_REGISTERS] == 0);
     EXPECT(sizes[HEP_PROGRAM] == 0 && sizes[HEP_DATA_WORDS] == 0);
 
-    struct buffers b = make(sizes, sizeof printed_image);
+    struct buffers b = make(sizes, image.len);
     const uint8_t schedule[] = {1};
-    EXPECT(run(printed_image, sizeof printed_image, schedule, 1, &b) == HEP_ACCEPTED);
+    EXPECT(run(image.at, image.len, schedule, 1, &b) == HEP_ACCEPTED);
     const uint64_t *counts = b.at[COUNTS];
     EXPECT(counts[HEP_EXECUTED] == 0 && counts[HEP_WAVED] == 0 && counts[HEP_TRAPPED] == 1 && counts[HEP_IDLE] == 0);
-    EXPECT(counts[HEP_IMAGE_LEN] == sizeof printed_image);
+    EXPECT(counts[HEP_IMAGE_LEN] == image.len && image.len == after.len);
     EXPECT(counts[HEP_REPORT_LEN] == strlen(printed_report));
     EXPECT(memcmp(b.at[REPORT], printed_report, strlen(printed_report)) == 0);
-    uint8_t after[sizeof printed_image];
-    memcpy(after, printed_image, sizeof after);
-    after[20] = 0x14;
-    EXPECT(memcmp(b.at[OUT], after, sizeof after) == 0);
+    EXPECT(memcmp(b.at[OUT], after.at, after.len) == 0 && memcmp(image.at, after.at, after.len) != 0);
     EXPECT(ends_stay(&b));
     discard(&b);
 }
@@ -163,27 +151,26 @@ static void test_printed(void)
 
 static void test_longer(void)
 {
-    uint8_t image[FULL_LEN];
+    struct bytes image = file("full");
     uint64_t sizes[HEP_SIZES];
     const uint8_t schedule[] = {1, 1};
-    EXPECT(full_image(image) == FULL_LEN);
-    EXPECT(hep_sizes(image, FULL_LEN, sizes, HEP_SIZES) == HEP_ACCEPTED);
-    EXPECT(sizes[HEP_ROWS] == 1 && sizes[HEP_CONSTANTS] == CONSTANTS && sizes[HEP_REGISTERS] == REGISTERS);
-    EXPECT(sizes[HEP_PROGRAM] == PROGRAM && sizes[HEP_DATA_WORDS] == DATA_WORDS);
+    EXPECT(hep_sizes(image.at, image.len, sizes, HEP_SIZES) == HEP_ACCEPTED);
+    EXPECT(sizes[HEP_ROWS] == 1 && sizes[HEP_CONSTANTS] == 2 && sizes[HEP_REGISTERS] == 2);
+    EXPECT(sizes[HEP_PROGRAM] == 16 && sizes[HEP_DATA_WORDS] == 32);
 
-    struct buffers once = make(sizes, FULL_LEN), twice = make(sizes, FULL_LEN);
-    EXPECT(run(image, FULL_LEN, schedule, 1, &once) == HEP_ACCEPTED);
+    struct buffers once = make(sizes, image.len), twice = make(sizes, image.len);
+    EXPECT(run(image.at, image.len, schedule, 1, &once) == HEP_ACCEPTED);
     const uint64_t *counts = once.at[COUNTS];
     size_t longer = counts[HEP_IMAGE_LEN];
     EXPECT(counts[HEP_EXECUTED] == 1 && counts[HEP_TRAPPED] == 0);
-    EXPECT(longer == FULL_LEN + 10);
+    EXPECT(longer == image.len + 10);
     EXPECT(hep_check(once.at[OUT], longer) == HEP_ACCEPTED);
     EXPECT(((uint8_t *)once.at[DT])[0] == 1 && ((uint64_t *)once.at[DW])[0] == 77);
     EXPECT(((uint64_t *)once.at[P])[0] == UINT64_C(0x3970000040004000));
     EXPECT(marked((uint8_t *)once.at[OUT] + longer, once.len[OUT] + 1 - longer));
     EXPECT(ends_stay(&once));
 
-    EXPECT(run(image, FULL_LEN, schedule, 2, &twice) == HEP_ACCEPTED);
+    EXPECT(run(image.at, image.len, schedule, 2, &twice) == HEP_ACCEPTED);
     struct buffers on = make(sizes, longer);
     EXPECT(run(once.at[OUT], longer, schedule, 1, &on) == HEP_ACCEPTED);
     EXPECT(((uint64_t *)on.at[COUNTS])[HEP_IMAGE_LEN] == ((uint64_t *)twice.at[COUNTS])[HEP_IMAGE_LEN]);
@@ -216,47 +203,33 @@ static void refused(const uint8_t *image, size_t len, uint32_t number)
 
 static void test_images_refused(void)
 {
-    enum { LEN = sizeof printed_image };
-    uint8_t image[LEN + 1];
-    memcpy(image, printed_image, LEN);
-    image[LEN] = 0;
-    refused(image, 0, HEP_INPUT_ENDS);
-    refused(image, LEN - 1, HEP_INPUT_ENDS);
-    refused(image, LEN + 1, HEP_BYTES_LEFT_OVER);
-    image[0] = 8;
-    refused(image, LEN, HEP_COUNT_OVER_LIMIT);
-    image[0] = 1;
-    image[1] = 8;
-    refused(image, LEN, HEP_FIELD_OUT_OF_RANGE);
-    image[1] = 1;
-    image[5] = 0; /* RB 0, RL 0: two registers */
-    refused(image, LEN, HEP_WINDOW_PAST_MEMORY);
-
-    uint8_t twice[LEN + 10];
-    memcpy(twice, printed_image, 41);
-    memcpy(twice + 41, printed_image + 31, 10);
-    memset(twice + 51, 0, LEN - 41);
-    twice[29] = 2;
-    refused(twice, sizeof twice, HEP_PROCESSES_CLASH);
-    twice[41] = 1;
-    EXPECT(hep_check(twice, sizeof twice) == HEP_ACCEPTED);
+    for (uint32_t number = HEP_INPUT_ENDS; number <= HEP_PROCESSES_CLASH; number++) {
+        char name[] = "R0";
+        name[1] += (char)number;
+        struct bytes image = file(name);
+        refused(image.at, image.len, number);
+    }
+    struct bytes image = file("one"), two = file("two");
+    refused(image.at, image.len - 1, HEP_INPUT_ENDS);
+    image.at[image.len] = 0;
+    refused(image.at, image.len + 1, HEP_BYTES_LEFT_OVER);
+    EXPECT(hep_check(two.at, two.len) == HEP_ACCEPTED);
 }
 
 static void test_buffers_refused(void)
 {
-    uint8_t image[FULL_LEN];
+    struct bytes image = file("full");
     uint64_t sizes[HEP_SIZES];
-    full_image(image);
     memset(sizes, MARK, sizeof sizes);
-    EXPECT(hep_sizes(image, FULL_LEN, sizes, HEP_SIZES - 1) == HEP_SHORT_BUFFER);
+    EXPECT(hep_sizes(image.at, image.len, sizes, HEP_SIZES - 1) == HEP_SHORT_BUFFER);
     EXPECT(marked((const uint8_t *)sizes, sizeof sizes));
-    EXPECT(hep_sizes(image, FULL_LEN, sizes, HEP_SIZES) == HEP_ACCEPTED);
+    EXPECT(hep_sizes(image.at, image.len, sizes, HEP_SIZES) == HEP_ACCEPTED);
 
-    struct buffers b = make(sizes, FULL_LEN);
+    struct buffers b = make(sizes, image.len);
     const uint8_t out_of_range[] = {1, 8};
     for (int i = 0; i < BUFFERS; i++) {
         b.len[i]--;
-        EXPECT(run(image, FULL_LEN, out_of_range, 2, &b) == HEP_SHORT_BUFFER);
+        EXPECT(run(image.at, image.len, out_of_range, 2, &b) == HEP_SHORT_BUFFER);
         b.len[i]++;
     }
     EXPECT(all_stay(&b));
@@ -265,28 +238,35 @@ static void test_buffers_refused(void)
 
 static void test_schedules_refused(void)
 {
+    struct bytes image = file("one");
     uint64_t sizes[HEP_SIZES];
-    EXPECT(hep_sizes(printed_image, sizeof printed_image, sizes, HEP_SIZES) == HEP_ACCEPTED);
-    struct buffers b = make(sizes, sizeof printed_image);
+    EXPECT(hep_sizes(image.at, image.len, sizes, HEP_SIZES) == HEP_ACCEPTED);
+    struct buffers b = make(sizes, image.len);
     uint8_t *schedule = malloc(65536);
     memset(schedule, 7, 65536);
     schedule[65535] = 8;
-    EXPECT(run(printed_image, sizeof printed_image, schedule, 65536, &b) == HEP_LIST_TOO_LONG);
+    EXPECT(run(image.at, image.len, schedule, 65536, &b) == HEP_LIST_TOO_LONG);
     schedule[65534] = 0;
-    EXPECT(run(printed_image, sizeof printed_image, schedule, 65535, &b) == HEP_ITEM_OUT_OF_RANGE);
+    EXPECT(run(image.at, image.len, schedule, 65535, &b) == HEP_ITEM_OUT_OF_RANGE);
     schedule[65534] = 8;
-    EXPECT(run(printed_image, sizeof printed_image, schedule, 65535, &b) == HEP_ITEM_OUT_OF_RANGE);
+    EXPECT(run(image.at, image.len, schedule, 65535, &b) == HEP_ITEM_OUT_OF_RANGE);
     EXPECT(all_stay(&b));
     schedule[65534] = 7;
-    EXPECT(run(printed_image, sizeof printed_image, schedule, 65535, &b) == HEP_ACCEPTED);
+    EXPECT(run(image.at, image.len, schedule, 65535, &b) == HEP_ACCEPTED);
     EXPECT(((uint64_t *)b.at[COUNTS])[HEP_IDLE] == 65535);
-    EXPECT(memcmp(b.at[OUT], printed_image, sizeof printed_image) == 0);
+    EXPECT(memcmp(b.at[OUT], image.at, image.len) == 0);
     free(schedule);
     discard(&b);
 }
 
-int main(void)
+int main(int argc, char **argv)
 {
+    if (argc != 2) {
+        fprintf(stderr, "usage: hep_test FOLDER\n");
+        return 2;
+    }
+    folder = argv[1];
+    test_batch();
     test_printed();
     test_longer();
     test_images_refused();

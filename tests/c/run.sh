@@ -1,11 +1,17 @@
 #!/usr/bin/env bash
-# The library from C: the test program against the archive of the proved crates, as it is and with sanitizers on the C side.
+# The library from C: the test program against the archive of the proved crates, as it is and with sanitizers on the C side. Its images are
+# made by hep-tools.
 set -euo pipefail
 cd "$(dirname "$0")/../.."
-mkdir -p target/c
-rt staticlib hep_c > target/c/staticlib.log 2>&1 || { cat target/c/staticlib.log; exit 1; }
+mkdir -p target/c/images
+bash tools/archive.sh > target/c/archive.log 2>&1 || { cat target/c/archive.log; exit 1; }
+cargo build --quiet --release --offline --manifest-path hep-tools/Cargo.toml
+tools=hep-tools/target/release
+for name in printed one two full; do "$tools/hep-image" asm -o "target/c/images/$name.bin" "tests/c/$name.hep"; done
+"$tools/hep-image" dump --after tests/c/printed.hep | "$tools/hep-image" asm -o target/c/images/after.bin
+"$tools/hep-generate" --refused target/c/images
 build() { cc -std=c11 -Wall -Wextra -Werror -O1 -g "${@:2}" -I include -o "target/c/$1" tests/c/hep_test.c target/staticlib/libhep_c.a; }
 build hep_test
-target/c/hep_test
+target/c/hep_test target/c/images
 build hep_test_sanitized -fsanitize=address,undefined -fno-sanitize-recover=all
-target/c/hep_test_sanitized
+target/c/hep_test_sanitized target/c/images

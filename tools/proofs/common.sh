@@ -8,8 +8,8 @@ S1="(source-operated _ _ _ _ _ _ _ _ _ pa)"
 S2="(source-operated _ _ _ _ _ _ _ _ _ pb)"
 UNUSED="(unused-operated _ _ _ _ _)"
 FREE="(free-operated _ _ _ _ _)"
-FOUND="use Rattle.checks.specs.Laws.Found"
-OPERANDS="use Rattle.checks.specs.Laws.Operands"
+FOUND="use Rattle.operation_checks.specs.Laws.Found"
+OPERANDS="use Rattle.operation_checks.specs.Laws.Operands"
 LISTED="use mathlib.Core.Path.{refl}
 use Rattle.operand.specs.Field.{illegalField, lookupOf}
 use Rattle.operand.specs.Laws.Spans.{source-told, destination-told}
@@ -17,7 +17,7 @@ use Rattle.operation.specs.Roles.{illegalAccess, illegalFields, illegalInstruct
 use Rattle.operation.specs.Environment.{environmentOf}
 use Rattle.operation.specs.Laws.Found.{told}
 $OPERANDS.{destined, sourced}
-use Rattle.checks.specs.Laws.Listed.{listed-illegal, first-violated, second-violated, third-violated, listed-found}"
+use Rattle.operation_checks.specs.Laws.Listed.{listed-illegal, first-violated, second-violated, third-violated, listed-found}"
 # fill CRATE FUNCTION < ANSWERS; the first call of a script makes the facts, the others reuse them
 fill() {
     python3 tools/fill.py "$1" "$2"

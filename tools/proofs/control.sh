@@ -1,10 +1,10 @@
 #!/usr/bin/env bash
-# The proofs of control_operations: NOP, B, CALL, CREATE, QT, SVC and their `_found`.
+# The proofs of operation_control: NOP, B, CALL, CREATE, QT, SVC and their `_found`.
 set -euo pipefail
 source tools/proofs/common.sh
-C=control_operations
-LAWS="use Rattle.control_operations.specs.Laws.Performed"
-COURSE="use Rattle.step.specs.Performs.{fateCourse}"
+C=operation_control
+LAWS="use Rattle.operation_control.specs.Laws.Performed"
+COURSE="use Rattle.step.specs.Code.Performs.{fateCourse}"
 IL="illegalInstruction illegalAccess illegalFields illegalField"
 # past the checks of waits and masks: passed OPERANDS WAITS MASKED
 passed() { echo "$U7 $1 $U4 $U4 $2 (@if1 .left) _ e _ $3 (@if2 .left) _"; }
@@ -55,7 +55,7 @@ $LAWS.{quits, stays}
 $FOUND.{found-waits, found-masked, found-executes, continued}
 $OPERANDS.{wait-told, unused-operated, source-operated}
 $COURSE
-use Rattle.step.specs.Parts.{fatePsws}
+use Rattle.step.specs.Code.Parts.{fatePsws}
 returns := $B found-waits $U7 $O $U4 $U4 $W (@if1 .taken)
 returns-2 := $B found-masked $U7 $O $U4 $U4 $W (@if1 .left) _ e _ $M (@if2 .taken) own
 returns-3 [fateCourse fatePsws] := $B found-executes $(passed "$O" "$W" "$M") (quits v i _ _ e _ _ (@holds .ensures) (@if3 .taken)) _ _ _ refl refl (@release .ensures)

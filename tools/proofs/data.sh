@@ -1,23 +1,23 @@
 #!/usr/bin/env bash
-# The proofs of data_operations: LODI, LODX, STOI, STOX and their `_found`.
+# The proofs of operation_data: LODI, LODX, STOI, STOX and their `_found`.
 set -euo pipefail
 source tools/proofs/common.sh
-C=data_operations
-LAWS="use Rattle.data_operations.specs.Laws.Reached"
+C=operation_data
+LAWS="use Rattle.operation_data.specs.Laws.Reached"
 HEAD="use mathlib.Core.Path.{refl, _∙_}
 use Rattle.operation.specs.declared.Trap.the-variants.{ProtectionViolation, SimulatedInstruction}
 use Rattle.operation.specs.declared.Wait.the-variants.{Data}
 use Rattle.operation.specs.Environment.{environmentOf}
 use Rattle.operation.specs.Perform.{loadFrom, storeTo}
-use Rattle.step.specs.Performs.{trapCourse, fateCourse}
+use Rattle.step.specs.Code.Performs.{trapCourse, fateCourse}
 use Rattle.step.specs.Laws.Performs.{performs-waits, performs-traps}
-use Rattle.data_operations.specs.declared.Reached.the-variants.{Violation, Simulated}
-use Rattle.data_operations.specs.Reached.{reachOf}
+use Rattle.operation_data.specs.declared.Reached.the-variants.{Violation, Simulated}
+use Rattle.operation_data.specs.Code.Reached.{reachOf}
 $OPERANDS.{or-none, or-one, unused-operated, destination-operated, source-operated}
 $FOUND.{found-waits, found-masked, found-performs, executes-result, executes-sources}"
 fill $C load_leaves <<E
 use borrow.Author.Tests.{eq-eqb, ne-eqb}
-use Rattle.data_operations.specs.Reached.{tagsLeft}
+use Rattle.operation_data.specs.Code.Reached.{tagsLeft}
 returns [tagsLeft] := simp (eq-eqb _ _ (@if1 .taken), @set-tag .ensures)
 returns-2 [tagsLeft] := simp (ne-eqb _ _ (@if1 .left))
 E

@@ -9,8 +9,8 @@ use std::{env, process};
 const HELP: &str = "\
 usage: hep-compare [OPTION..] [PROGRAM [ARGUMENT..]]
 
-Holds a batch program to the trials of document 01, then to the emulator of this package on random
-inputs. PROGRAM reads an input and writes its output; without one the emulator is tried. Where
+Holds a batch program to the trials of document 01, then to the emulator of this package on an image
+with each of its bits changed and on random inputs. PROGRAM reads an input and writes its output; without one the emulator is tried. Where
 images are given, isolation is tried too.
 
   --seed N     of the random inputs, 1 if not given
@@ -39,6 +39,7 @@ fn main() {
     };
     let mut tried = implementation(&arguments).unwrap_or_else(|reason| fail(2, &reason));
     run_trials(&mut *tried, &arguments);
+    run_flips(&mut *tried, &arguments);
     run_random(&mut *tried, &arguments);
     if arguments.lines || arguments.command.is_empty() {
         run_isolation(&mut *tried, &arguments);
@@ -90,6 +91,13 @@ fn run_trials(tried: &mut dyn Implementation, arguments: &Arguments) {
     match compare::trials(tried, &all) {
         Some(difference) => told(&difference, arguments),
         None => println!("trials: {} met", all.len()),
+    }
+}
+
+fn run_flips(tried: &mut dyn Implementation, arguments: &Arguments) {
+    match compare::flipped(tried, &mut Emulator) {
+        Some(difference) => told(&difference, arguments),
+        None => println!("flips: {} changed bits of an image, 0 differed", compare::flips()),
     }
 }
 

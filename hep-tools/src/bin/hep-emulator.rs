@@ -1,28 +1,24 @@
 //! The batch program: standard input to standard output.
 
 use hep_tools::emulator::batch;
-use hep_tools::emulator::image;
 use hep_tools::tool::{from_hex, hex_line};
 use std::io::{self, BufRead, Read, Write};
 use std::{env, process};
 
 const HELP: &str = "\
-usage: hep-emulator [--lines | --images]
+usage: hep-emulator [--lines]
 
 Reads a batch input from standard input and writes the batch program's output.
 
-  --lines    each line is an input in hex; answers with its output and the image after the run,
-             both in hex, `-` for no image
-  --images   each line is an image in hex; answers with the image that is written after reading
-             it, in hex, or its refusal such as R3
+  --lines   each line is an input in hex; answers with its output and the image after the run,
+            both in hex, `-` for no image
 ";
 
 fn main() -> io::Result<()> {
     let arguments: Vec<String> = env::args().skip(1).collect();
     match arguments.iter().map(String::as_str).collect::<Vec<_>>()[..] {
         [] => whole(),
-        ["--lines"] => lines(run),
-        ["--images"] => lines(read),
+        ["--lines"] => lines(),
         ["-h" | "--help"] => io::stdout().write_all(HELP.as_bytes()),
         _ => {
             eprint!("{HELP}");
@@ -38,11 +34,11 @@ fn whole() -> io::Result<()> {
 }
 
 /// Answers each line at once.
-fn lines(answer: fn(&[u8]) -> String) -> io::Result<()> {
+fn lines() -> io::Result<()> {
     let mut out = io::stdout().lock();
     for line in io::stdin().lock().lines() {
         match from_hex(&line?) {
-            Some(bytes) => writeln!(out, "{}", answer(&bytes))?,
+            Some(bytes) => writeln!(out, "{}", run(&bytes))?,
             None => {
                 eprintln!("hep-emulator: a line isn't hex");
                 process::exit(1);
@@ -57,11 +53,4 @@ fn run(input: &[u8]) -> String {
     let answer = batch::answer(input);
     let image = answer.image.map_or("-".to_string(), |image| hex_line(&image));
     format!("{} {image}", hex_line(&answer.output))
-}
-
-fn read(bytes: &[u8]) -> String {
-    match image::read(bytes) {
-        Ok(machine) => hex_line(&image::write(&machine)),
-        Err(number) => format!("R{number}"),
-    }
 }

@@ -1,30 +1,32 @@
-//! Writes generated inputs as files or as lines of hex.
+//! Writes generated inputs as files or as lines of hex, and the smallest refused images.
 
-use hep_tools::generate::{any_image, input, small_input};
+use hep_tools::generate::{input, small_input};
 use hep_tools::tool::hex_line;
+use hep_tools::trials::edges;
 use std::io::{self, Write};
 use std::path::Path;
 use std::{env, fs, process};
 
 const HELP: &str = "\
-usage: hep-generate [--small | --images] SEED COUNT [DIR]
+usage: hep-generate [--small] SEED COUNT [DIR]
+       hep-generate --refused DIR
 
 Makes batch inputs: valid, damaged and wild ones, the same for the same seed. They are files
 SEED-NUMBER.bin in DIR, or without DIR lines of hex on standard output.
 
-  --small    inputs of some 1,000 bytes with at most 40 items
-  --images   images instead, half of them spoilt or damaged
+  --small     inputs of some 1,000 bytes with at most 40 items
+  --refused   instead the smallest image for each of the refusals 1 to 6, as files R1.bin to R6.bin
 ";
 
 fn main() -> io::Result<()> {
     let mut arguments: Vec<String> = env::args().skip(1).collect();
     let make = match arguments.first().map(String::as_str) {
         Some("-h" | "--help") => return io::stdout().write_all(HELP.as_bytes()),
+        Some("--refused") if arguments.len() == 2 => return refused(Path::new(&arguments[1])),
         Some("--small") => small_input,
-        Some("--images") => any_image,
         _ => input,
     };
-    if arguments.first().is_some_and(|argument| argument.starts_with("--")) {
+    if arguments.first().is_some_and(|argument| argument == "--small") {
         arguments.remove(0);
     }
     let Some((seed, count, directory)) = parse(&arguments) else {
@@ -52,6 +54,12 @@ fn files(directory: &Path, seed: u64, count: u64, make: fn(u64, u64) -> Vec<u8>)
         fs::write(directory.join(format!("{seed}-{n:06}.bin")), make(seed, n))?;
     }
     Ok(())
+}
+
+fn refused(directory: &Path) -> io::Result<()> {
+    fs::create_dir_all(directory)?;
+    let images = edges::smallest().into_iter().zip(1..);
+    images.map(|(image, n)| fs::write(directory.join(format!("R{n}.bin")), image)).collect()
 }
 
 fn lines(seed: u64, count: u64, make: fn(u64, u64) -> Vec<u8>) -> io::Result<()> {

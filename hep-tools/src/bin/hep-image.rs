@@ -10,10 +10,11 @@ Images and batch inputs of the HEP emulator as text. The text is described in FO
 
 usage: hep-image COMMAND [OPTION..] [FILE]
 
-  asm     the bytes of an image, or of a batch input if there is a schedule
-  dump    the text of an image or batch input
-  trace   a line for each step of a batch input's schedule
-  share   what a task has after the schedule
+  asm        the bytes of an image, or of a batch input if there is a schedule
+  dump       the text of an image or batch input
+  trace      a line for each step of a batch input's schedule
+  share      what a task has after the schedule
+  timeline   a picture of the schedule, as SVG
 
 FILE is text, hex digits or bytes; `-` or none means standard input.
 
@@ -57,6 +58,13 @@ tail, registers and data words, each at its place in the window. Process numbers
   --data A..B   only the data words A to B, in decimal: place, value, state
 ";
 
+const TIMELINE_HELP: &str = "\
+usage: hep-image timeline [-o FILE] [FILE]
+
+Runs a batch input and draws its schedule as SVG: a lane for each task, each item coloured by its
+ending, with the counts; a trap is marked at its item. Of more than 240 items a column shows several.
+";
+
 /// The command line, taken apart.
 #[derive(Default)]
 struct Arguments {
@@ -77,6 +85,7 @@ fn main() {
         "dump" => (DUMP_HELP, &["--after"]),
         "trace" => (TRACE_HELP, &[]),
         "share" => (SHARE_HELP, &["--data"]),
+        "timeline" => (TIMELINE_HELP, &[]),
         "-h" | "--help" | "help" => return print!("{HELP}"),
         _ => usage(HELP, "a command is missing or unknown"),
     };
@@ -149,6 +158,7 @@ fn run(command: &str, arguments: &Arguments, help: &str) -> Result<Vec<u8>, Stri
         }
         "dump" => tool::dumped(&bytes, arguments.after).map(String::into_bytes),
         "trace" => tool::traced(&bytes).map(String::into_bytes),
+        "timeline" => tool::drawn(&bytes).map(String::into_bytes),
         _ => tool::shared(&bytes, task, arguments.data.clone()).map(String::into_bytes),
     }
 }

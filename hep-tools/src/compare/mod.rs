@@ -1,5 +1,5 @@
 //! Comparison: an implementation of the batch program held to the trials and, on
-//! random inputs, to the emulator; a case that differs is shrunk.
+//! random and changed inputs, to the emulator; a case that differs is shrunk.
 
 mod implementation;
 pub mod isolation;
@@ -10,8 +10,9 @@ pub use implementation::{Emulator, Implementation, Lines, Program};
 pub use shrink::shrink;
 
 use crate::emulator::batch::Answer;
+use crate::emulator::draft::batch_input;
 use crate::generate;
-use crate::trials::Trial;
+use crate::trials::{edges, Trial};
 
 /// Inputs for which a shrinking case may be tried.
 const TRIES: usize = 3_000;
@@ -51,15 +52,42 @@ pub fn random(
     count: u64,
 ) -> Option<Difference> {
     (0..count).find_map(|n| {
-        let input = generate::input(seed, n);
-        let mut differs = |input: &[u8]| difference(tried, model, input).is_some();
-        if !differs(&input) {
-            return None;
-        }
-        let input = shrink(input, TRIES, &mut differs);
-        let (expected, found) = difference(tried, model, &input)?;
-        Some(Difference { name: format!("input {n} of seed {seed}"), input, expected, found })
+        let name = format!("input {n} of seed {seed}");
+        held(tried, model, name, generate::input(seed, n))
     })
+}
+
+/// How many bits the image has of which each is changed.
+pub fn flips() -> usize {
+    8 * edges::full().bytes().len()
+}
+
+/// The first changed bit of an image with something in every section on which the two differ.
+pub fn flipped(
+    tried: &mut dyn Implementation,
+    model: &mut dyn Implementation,
+) -> Option<Difference> {
+    (0..flips()).find_map(|bit| {
+        let mut image = edges::full().bytes();
+        image[bit / 8] ^= 0x80 >> (bit % 8);
+        held(tried, model, format!("bit {bit} changed"), batch_input(&[], &image))
+    })
+}
+
+/// The input, shrunk, if the two differ on it.
+fn held(
+    tried: &mut dyn Implementation,
+    model: &mut dyn Implementation,
+    name: String,
+    input: Vec<u8>,
+) -> Option<Difference> {
+    let mut differs = |input: &[u8]| difference(tried, model, input).is_some();
+    if !differs(&input) {
+        return None;
+    }
+    let input = shrink(input, TRIES, &mut differs);
+    let (expected, found) = difference(tried, model, &input)?;
+    Some(Difference { name, input, expected, found })
 }
 
 /// Both answers, if they differ.

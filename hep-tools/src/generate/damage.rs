@@ -129,16 +129,20 @@ fn place(input: &[u8], random: &mut Random) -> usize {
 
 /// Bytes of little or no order.
 pub fn wild(random: &mut Random) -> Vec<u8> {
-    let mut some = |length: u64| -> Vec<u8> { (0..length).map(|_| random.draw() as u8).collect() };
-    let noise = some(200);
-    match random.below(6) {
-        0 => noise[..random.below(200) as usize].to_vec(),
-        1 => batch_input(&[1; 5], &noise[..random.below(200) as usize]),
+    match random.below(7) {
+        0 => noise(200, random),
+        1 => batch_input(&[1; 5], &noise(200, random)),
         2 => vec![0; random.below(60) as usize],
         3 => vec![0; random.between(65_535, 65_537) as usize],
         4 => long(random),
-        _ => sparse(random),
+        5 => sparse(random),
+        _ => noise(70_001, random),
     }
+}
+
+/// Fewer than so many bytes of no order.
+fn noise(most: u64, random: &mut Random) -> Vec<u8> {
+    (0..random.below(most)).map(|_| random.draw() as u8).collect()
 }
 
 /// An input of an empty image, made 65,535 to 65,537 bytes long by its schedule.

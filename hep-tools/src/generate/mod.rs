@@ -39,18 +39,6 @@ pub fn image(seed: u64, n: u64) -> Vec<u8> {
     layout::draft(Size::Any, &mut random(seed, n)).bytes()
 }
 
-/// The nth image of a seed, half of them spoilt or damaged.
-pub fn any_image(seed: u64, n: u64) -> Vec<u8> {
-    let random = &mut random(seed, n);
-    let mut draft = layout::draft(Size::Any, random);
-    match random.below(4) {
-        0 => damage::field(&mut draft, Size::Any, random),
-        1 => return damage::bytes(draft.bytes(), random),
-        _ => {}
-    }
-    draft.bytes()
-}
-
 /// The nth pair of a seed, for isolation.
 pub fn pair(seed: u64, n: u64) -> Pair {
     neighbours::pair(&mut random(seed, n))

@@ -2,6 +2,7 @@
 
 pub mod share;
 pub mod text;
+pub mod timeline;
 pub mod trace;
 
 use crate::emulator::batch;
@@ -95,6 +96,13 @@ pub fn traced(bytes: &[u8]) -> Result<String, Failure> {
     let source = load(bytes)?;
     let (mut machine, schedule) = scheduled(&source)?;
     Ok(trace::lines(&mut machine, schedule).map(|line| line + "\n").collect())
+}
+
+/// The run as a picture.
+pub fn drawn(bytes: &[u8]) -> Result<String, Failure> {
+    let source = load(bytes)?;
+    let (mut machine, schedule) = scheduled(&source)?;
+    Ok(timeline::svg(&mut machine, schedule))
 }
 
 /// A task's share after the run, or only these of its data words, in decimal.

@@ -1,8 +1,8 @@
 //! Trials: inputs with the answers that document 01 gives them, worked out by hand.
 
 mod bench;
+pub mod edges;
 mod families;
-mod refusals;
 
 use crate::emulator::batch::Answer;
 use crate::tool::from_hex;
@@ -37,7 +37,7 @@ pub fn all() -> Result<Vec<Trial>, String> {
     for line in families::lines() {
         trials.push(bench::trial(&line).map_err(|reason| format!("{line}: {reason}"))?);
     }
-    trials.extend(refusals::all());
+    trials.extend(edges::all());
     trials.push(printed());
     Ok(trials)
 }

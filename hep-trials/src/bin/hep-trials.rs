@@ -1,6 +1,6 @@
 //! Holds the proved library to the trials, to the emulator of hep-tools on random inputs, and to isolation.
 
-use hep_tools::compare::{self, isolation, shown, Difference};
+use hep_tools::compare::{self, isolation, shown, Difference, Emulator};
 use hep_tools::trials;
 use hep_trials::proved::Proved;
 use hep_trials::{calls, random};
@@ -11,8 +11,8 @@ const HELP: &str = "\
 usage: hep-trials [OPTION..]
 
 Holds the proved library (libhep_c.a) to the trials of document 01, its calls to their refusals, then the
-library to the emulator of hep-tools on random inputs: output, counts, memories and image. Pairs of inputs
-try isolation.
+library to the emulator of hep-tools on an image with each of its bits changed and on random inputs: output,
+counts, memories and image. Pairs of inputs try isolation.
 
   --seed N     the first of the random inputs, 1 if not given; each seed has 1,000 inputs
   --count N    random inputs, 50000 if not given; a line on standard error tells how many are done
@@ -37,12 +37,14 @@ fn main() {
     };
     let trials = trials::all().unwrap_or_else(|reason| fail(2, &reason));
     told(compare::trials(&mut Proved, &trials), &arguments);
+    told(compare::flipped(&mut Proved, &mut Emulator), &arguments);
     let calls = calls::all().unwrap_or_else(|reason| fail(1, &reason));
     let inputs = run_random(&arguments);
     let met = run_isolation(&arguments);
     println!(
-        "trials: {} trials, {calls} calls, {inputs} random cases, {} pairs ({met} met the premises), 0 differed",
+        "trials: {} trials, {} changed bits, {calls} calls, {inputs} random cases, {} pairs ({met} met the premises), 0 differed",
         trials.len(),
+        compare::flips(),
         arguments.pairs
     );
 }

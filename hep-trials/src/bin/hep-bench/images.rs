@@ -1,6 +1,6 @@
 //! Reading and writing of the largest image beside a memcpy of its bytes.
 //!
-//! `image_calls` (the proved reading and writing of images without rows and processes) tells them apart, which `hep_run` does not.
+//! `benchmark` (the proved reading and writing of images without rows and processes) tells them apart, which `hep_run` does not.
 
 use crate::clock::best;
 use hep_tools::emulator::draft::Draft;
@@ -13,25 +13,25 @@ const REGISTERS: usize = 2_048;
 
 // A slice is lent as its address and its length.
 #[rustfmt::skip]
-#[link(name = "image_calls", kind = "static")]
+#[link(name = "benchmark", kind = "static")]
 extern "C" {
-    fn image_calls_read(
-        image: *const u8, image_len: usize,
+    fn benchmark_read(
         constants: *mut u64, constants_len: usize,
         register_tags: *mut u8, register_tags_len: usize,
         register_words: *mut u64, register_words_len: usize,
         program: *mut u64, program_len: usize,
         data_tags: *mut u8, data_tags_len: usize,
         data_words: *mut u64, data_words_len: usize,
+        image: *const u8, image_len: usize,
     ) -> bool;
-    fn image_calls_write(
-        output: *mut u8, output_len: usize,
+    fn benchmark_write(
         constants: *const u64, constants_len: usize,
         register_tags: *const u8, register_tags_len: usize,
         register_words: *const u64, register_words_len: usize,
         program: *const u64, program_len: usize,
         data_tags: *const u8, data_tags_len: usize,
         data_words: *const u64, data_words_len: usize,
+        output: *mut u8, output_len: usize,
     ) -> usize;
 }
 
@@ -39,14 +39,14 @@ extern "C" {
 fn read(image: &[u8], to: &mut Buffers) {
     // SAFETY: the borrows of the buffers.
     let accepted = unsafe {
-        image_calls_read(
-            image.as_ptr(), image.len(),
+        benchmark_read(
             to.constants.as_mut_ptr(), MOST_CONSTANTS,
             to.register_tags.as_mut_ptr(), REGISTERS,
             to.register_words.as_mut_ptr(), REGISTERS,
             to.program.as_mut_ptr(), MOST_WORDS,
             to.data_tags.as_mut_ptr(), MOST_WORDS,
             to.data_words.as_mut_ptr(), MOST_WORDS,
+            image.as_ptr(), image.len(),
         )
     };
     assert!(accepted, "the largest image is refused");
@@ -56,14 +56,14 @@ fn read(image: &[u8], to: &mut Buffers) {
 fn write(from: &mut Buffers, length: usize) {
     // SAFETY: the borrows of the buffers.
     let written = unsafe {
-        image_calls_write(
-            from.output.as_mut_ptr(), from.output.len(),
+        benchmark_write(
             from.constants.as_ptr(), MOST_CONSTANTS,
             from.register_tags.as_ptr(), REGISTERS,
             from.register_words.as_ptr(), REGISTERS,
             from.program.as_ptr(), MOST_WORDS,
             from.data_tags.as_ptr(), MOST_WORDS,
             from.data_words.as_ptr(), MOST_WORDS,
+            from.output.as_mut_ptr(), from.output.len(),
         )
     };
     assert_eq!(written, length);

@@ -1,10 +1,10 @@
 #!/usr/bin/env bash
-# The proofs of register_operations: results by number, `one`, `two`, `three` and their `_found`.
+# The proofs of operation_registers: results by number, `one`, `two`, `three` and their `_found`.
 set -euo pipefail
 source tools/proofs/common.sh
-C=register_operations
-LAWS="use Rattle.register_operations.specs.Laws.Numbers"
-NUMBERS="use Rattle.register_operations.specs.Numbers.{outcomeOf, operationAt, numbered}
+C=operation_registers
+LAWS="use Rattle.operation_registers.specs.Laws.Numbers"
+NUMBERS="use Rattle.operation_registers.specs.Code.Numbers.{outcomeOf, operationAt, numbered}
 use mathlib.Core.Path.{ap, _∙_}
 use Rattle.operation.specs.Perform.{quality0}"
 OPEN="outcomeOf operationAt numbered"

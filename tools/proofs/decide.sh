@@ -1,10 +1,10 @@
 #!/usr/bin/env bash
-# The proofs of dispatch: `perform` and what it hands the instruction to.
+# The proofs of operation_decide: `perform` and what it hands the instruction to.
 set -euo pipefail
 source tools/proofs/common.sh
-C=dispatch
-LAWS="use Rattle.dispatch.specs.Laws.Codes"
-NUMBERS="use Rattle.register_operations.specs.Laws.Numbers"
+C=operation_decide
+LAWS="use Rattle.operation_decide.specs.Laws.Codes"
+NUMBERS="use Rattle.operation_registers.specs.Laws.Numbers"
 TOLD="row _ _ _ _ _ _ _ _ _ _ _"
 # listed FACT FUNCTION ARGUMENTS: an operation under its roles
 listed() { echo "listed-told $TOLD _ _ _ (@$1 .given .1) refl (@$2 .ensures row $3)"; }
@@ -46,7 +46,7 @@ use mathlib.Core.Path.{refl}
 use Rattle.operation.specs.declared.Trap.the-variants as trap
 use Rattle.operation.specs.Environment.{environmentOf}
 use Rattle.operation.specs.Decide.{decideCode}
-use Rattle.step.specs.Performs.{trapCourse}
+use Rattle.step.specs.Code.Performs.{trapCourse}
 $LAWS.{code-told, code-traps}
 returns [decideCode environmentOf trapCourse] := $B $(traps PrivilegedInstruction enum-told)
 returns-2 [decideCode environmentOf trapCourse] := $B $(traps SimulatedInstruction enum-told2)

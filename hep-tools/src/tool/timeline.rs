@@ -1,0 +1,285 @@
+//! A schedule as a picture (SVG): a lane for each task, each item at its place from left to right, coloured by its ending.
+//!
+//! A column takes as many items as make at most `COLUMNS` of them, so a picture stays small however long the schedule is. In a lane's
+//! column the colours stand in the shares of that task's items; an ending that came at all is to be seen. A trap and the create fault
+//! flag are marked at their item.
+
+use crate::emulator::machine::{Counts, Ending, Machine};
+use crate::emulator::psw;
+
+/// The most columns, and the width of all together.
+const COLUMNS: usize = 240;
+const PLOT: usize = 960;
+
+/// Places of the lanes.
+const LEFT: usize = 80;
+const TOP: usize = 96;
+const LANE: usize = 32;
+const PITCH: usize = 64;
+const WIDTH: usize = LEFT + PLOT + 190;
+
+/// The least height of an ending that came in a column.
+const LEAST: usize = 3;
+
+/// The endings from a lane's foot up: name and colour.
+const ENDINGS: [(&str, &str); 4] =
+    [("executed", "#2f6fb5"), ("idle", "#cfd4da"), ("waved", "#f5a300"), ("trapped", "#d0202a")];
+const NO_ITEM: &str = "#f6f7f9";
+
+/// What a task's lane shows.
+struct Lane {
+    task: u8,
+    /// For each column how many items ended each way, in the order of `ENDINGS`.
+    columns: Vec<[usize; 4]>,
+    /// The item at which it trapped; none if it was trapped before.
+    trapped_at: Option<usize>,
+}
+
+impl Lane {
+    fn total(&self, ending: usize) -> usize {
+        self.columns.iter().map(|column| column[ending]).sum()
+    }
+}
+
+/// The whole picture of a run.
+struct Picture {
+    items: usize,
+    /// Items of a column.
+    each: usize,
+    lanes: Vec<Lane>,
+    /// The item that raised the create fault flag.
+    fault_at: Option<usize>,
+}
+
+/// Runs the schedule and draws it.
+pub fn svg(machine: &mut Machine, schedule: &[u8]) -> String {
+    let picture = run(machine, schedule);
+    let height = TOP + PITCH * picture.lanes.len() + 40;
+    let mut out = format!(
+        "<svg xmlns=\"http://www.w3.org/2000/svg\" width=\"{WIDTH}\" height=\"{height}\" \
+         viewBox=\"0 0 {WIDTH} {height}\" font-family=\"sans-serif\" font-size=\"13\">\n\
+         <rect width=\"{WIDTH}\" height=\"{height}\" fill=\"#fff\"/>\n"
+    );
+    heading(&mut out, &picture);
+    for (place, lane) in picture.lanes.iter().enumerate() {
+        let top = TOP + PITCH * place;
+        columns(&mut out, &picture, lane, top);
+        labels(&mut out, machine, lane, top);
+        trap(&mut out, machine, &picture, lane, top);
+    }
+    axis(&mut out, &picture);
+    out + "</svg>\n"
+}
+
+/// The lanes of the listed tasks and of the others that have items.
+fn run(machine: &mut Machine, schedule: &[u8]) -> Picture {
+    let items = schedule.len();
+    let each = items.div_ceil(COLUMNS).max(1);
+    let listed: Vec<u8> = machine.tasks().collect();
+    let shown = (1..=7).filter(|task| listed.contains(task) || schedule.contains(task));
+    let columns = vec![[0; 4]; items.div_ceil(each)];
+    let lane = |task| Lane { task, columns: columns.clone(), trapped_at: None };
+    let mut picture = Picture { items, each, lanes: shown.map(lane).collect(), fault_at: None };
+    for (item, &task) in schedule.iter().enumerate() {
+        let flag = machine.create_fault();
+        let ending = machine.step(task);
+        if machine.create_fault() && !flag {
+            picture.fault_at = Some(item);
+        }
+        for lane in picture.lanes.iter_mut().filter(|lane| lane.task == task) {
+            lane.columns[item / each][place_of(ending)] += 1;
+            if let Ending::Trapped { .. } = ending {
+                lane.trapped_at = Some(item);
+            }
+        }
+    }
+    picture
+}
+
+/// The ending's place in `ENDINGS`.
+fn place_of(ending: Ending) -> usize {
+    match ending {
+        Ending::Executed => 0,
+        Ending::Idle => 1,
+        Ending::Waved => 2,
+        Ending::Trapped { .. } => 3,
+    }
+}
+
+/// Where an item begins, in tenths.
+fn x_of(picture: &Picture, item: usize) -> usize {
+    10 * LEFT + 10 * PLOT * item / picture.items.max(1)
+}
+
+/// Tenths as SVG has them.
+fn tenths(value: usize) -> String {
+    match value % 10 {
+        0 => format!("{}", value / 10),
+        rest => format!("{}.{rest}", value / 10),
+    }
+}
+
+fn text(out: &mut String, x: &str, y: usize, more: &str, text: &str) {
+    *out += &format!("<text x=\"{x}\" y=\"{y}\"{more}>{text}</text>\n");
+}
+
+/// Items, columns and the flag; below it the legend with the counts of all tasks.
+fn heading(out: &mut String, picture: &Picture) {
+    let Picture { items, each, .. } = *picture;
+    let scale = match each {
+        1 => "a column for each item".to_string(),
+        _ => format!("a column for {each} items, coloured in the shares of its items"),
+    };
+    let fault = match picture.fault_at {
+        Some(item) => format!("; create fault flag up at item {item}"),
+        None => String::new(),
+    };
+    let title = format!("{items} items of {} tasks, {scale}{fault}", picture.lanes.len());
+    text(out, "16", 26, " font-size=\"16\" font-weight=\"bold\"", &title);
+    for (place, (name, colour)) in ENDINGS.iter().enumerate() {
+        let count: usize = picture.lanes.iter().map(|lane| lane.total(place)).sum();
+        legend(out, place, colour, &format!("{name} {count}"));
+    }
+    legend(out, ENDINGS.len(), NO_ITEM, "no item of the task");
+}
+
+/// A colour and what it means.
+fn legend(out: &mut String, place: usize, colour: &str, meaning: &str) {
+    let x = LEFT + 190 * place;
+    *out += &format!(
+        "<rect x=\"{x}\" y=\"42\" width=\"16\" height=\"16\" fill=\"{colour}\" stroke=\"#bbb\"/>\n"
+    );
+    text(out, &(x + 22).to_string(), 55, "", meaning);
+}
+
+/// Heights of the endings of a column: their shares of the lane, each that came at least `LEAST`.
+fn heights(column: &[usize; 4]) -> [usize; 4] {
+    let all: usize = column.iter().sum();
+    if all == 0 {
+        return [0; 4];
+    }
+    let mut heights = column.map(|n| if n == 0 { 0 } else { LEAST.max(LANE * n / all) });
+    // What rounding leaves over or asks too much is the largest's.
+    let largest = (0..4).max_by_key(|&i| column[i]).unwrap_or(0);
+    let others: usize = (0..4).filter(|&i| i != largest).map(|i| heights[i]).sum();
+    heights[largest] = LANE - others;
+    heights
+}
+
+/// The columns of a lane, a path for each ending; neighbours of one height are one piece.
+fn columns(out: &mut String, picture: &Picture, lane: &Lane, top: usize) {
+    *out += &format!(
+        "<rect x=\"{LEFT}\" y=\"{top}\" width=\"{PLOT}\" height=\"{LANE}\" fill=\"{NO_ITEM}\"/>\n"
+    );
+    let heights: Vec<[usize; 4]> = lane.columns.iter().map(heights).collect();
+    for (ending, (_, colour)) in ENDINGS.iter().enumerate() {
+        let mut path = String::new();
+        let mut first = 0;
+        while first < heights.len() {
+            let piece = |column: &[usize; 4]| (column[..ending].iter().sum(), column[ending]);
+            let (foot, height): (usize, usize) = piece(&heights[first]);
+            let same = heights[first..].iter().take_while(|other| piece(other) == (foot, height));
+            let end = first + same.count();
+            if height > 0 {
+                let left = x_of(picture, first * picture.each);
+                let right = x_of(picture, (end * picture.each).min(picture.items));
+                let (x, width, y) = (tenths(left), tenths(right - left), top + LANE - foot);
+                path += &format!("M{x} {y}h{width}v-{height}h-{width}z");
+            }
+            first = end;
+        }
+        if !path.is_empty() {
+            *out += &format!("<path fill=\"{colour}\" d=\"{path}\"/>\n");
+        }
+    }
+}
+
+/// The task's name, and its counts and processes behind the lane.
+fn labels(out: &mut String, machine: &Machine, lane: &Lane, top: usize) {
+    text(out, "16", top + 21, " font-weight=\"bold\"", &format!("task {}", lane.task));
+    let counts = Counts {
+        executed: lane.total(0) as u64,
+        idle: lane.total(1) as u64,
+        waved: lane.total(2) as u64,
+        trapped: lane.total(3) as u64,
+    };
+    let Counts { executed, waved, trapped, idle } = counts;
+    let x = (LEFT + PLOT + 10).to_string();
+    text(out, &x, top + 13, "", &format!("E{executed} W{waved} T{trapped} I{idle}"));
+    let live = match machine.processes(lane.task).len() {
+        _ if machine.tasks().all(|task| task != lane.task) => "not in the image".to_string(),
+        1 => "1 process at the end".to_string(),
+        live => format!("{live} processes at the end"),
+    };
+    text(out, &x, top + 29, " fill=\"#555\"", &live);
+}
+
+/// A mark at the item that trapped, with its record.
+fn trap(out: &mut String, machine: &Machine, picture: &Picture, lane: &Lane, top: usize) {
+    let Some((kind, psw)) = machine.trap_record(lane.task) else { return };
+    let colour = ENDINGS[3].1;
+    let pc = psw::pc(psw);
+    let (item, when) = match lane.trapped_at {
+        Some(item) => (item, format!("at item {item}")),
+        None => (0, "before the run".to_string()),
+    };
+    let x = x_of(picture, item);
+    let (shift, anchor) = if x > 10 * (LEFT + PLOT / 2) { (-8, "end") } else { (8, "start") };
+    let (left, tip, foot) = (tenths(x), top - 2, top + LANE + 4);
+    *out += &format!(
+        "<path fill=\"{colour}\" stroke=\"{colour}\" stroke-width=\"2\" d=\"M{left} {foot}V{tip}l-5 -9h10l-5 9\"/>\n"
+    );
+    let more =
+        format!(" dx=\"{shift}\" text-anchor=\"{anchor}\" fill=\"{colour}\" font-weight=\"bold\"");
+    text(out, &left, top - 4, &more, &format!("trap {kind:02X} {when}, PC {pc:05X}"));
+}
+
+/// The items below the lanes, and the flag's line through them.
+fn axis(out: &mut String, picture: &Picture) {
+    let foot = TOP + PITCH * picture.lanes.len() - (PITCH - LANE) + 10;
+    if let Some(item) = picture.fault_at {
+        let x = tenths(x_of(picture, item));
+        let line = format!(
+            "<path stroke=\"#7b2cbf\" stroke-dasharray=\"4 3\" d=\"M{x} {}V{foot}\"/>",
+            TOP - 16
+        );
+        *out += &format!("{line}\n");
+    }
+    let step = step(picture.items);
+    for item in (0..=picture.items).step_by(step) {
+        let x = tenths(x_of(picture, item));
+        *out += &format!("<path stroke=\"#888\" d=\"M{x} {foot}v5\"/>\n");
+        text(out, &x, foot + 20, " text-anchor=\"middle\" fill=\"#555\"", &item.to_string());
+    }
+    text(out, "16", foot + 20, " fill=\"#555\"", "item");
+}
+
+/// A round number of items from one tick to the next: at most ten ticks.
+fn step(items: usize) -> usize {
+    let mut steps = (0..).map(|power| 10_usize.pow(power)).flat_map(|ten| [ten, 2 * ten, 5 * ten]);
+    steps.find(|step| items / step <= 10).unwrap_or(1)
+}
+
+#[cfg(test)]
+mod tests {
+    use super::*;
+
+    #[test]
+    fn columns_are_filled_and_every_ending_shows() {
+        for column in [[1, 0, 0, 0], [0, 0, 0, 1], [249, 0, 1, 0], [1, 247, 1, 1], [1, 1, 1, 1]] {
+            let heights = heights(&column);
+            assert_eq!(heights.iter().sum::<usize>(), LANE);
+            for (n, height) in column.iter().zip(heights) {
+                assert!(if *n == 0 { height == 0 } else { height >= LEAST }, "{column:?}");
+            }
+        }
+        assert_eq!(heights(&[0; 4]), [0; 4]);
+    }
+
+    #[test]
+    fn ticks_are_few_and_round() {
+        for (items, expected) in [(0, 1), (7, 1), (11, 2), (400, 50), (60_000, 10_000)] {
+            assert_eq!(step(items), expected);
+        }
+    }
+}

@@ -1,0 +1,107 @@
+//! Processes: their fields, their order, their number, and the flag.
+
+use super::*;
+
+pub fn all(edges: &mut Edges) {
+    numbers(edges);
+    tasks(edges);
+    status_words(edges);
+    flags(edges);
+    crowds(edges);
+    numbers_twice(edges);
+}
+
+/// The refusal of a status word with this bit alone, counted from the right.
+pub fn status_bit(bit: u32) -> u8 {
+    if bit >= 56 || (20..24).contains(&bit) {
+        3
+    } else {
+        0
+    }
+}
+
+fn process(pt: u8, task: u8) -> Process {
+    Process { pt, task, psw: 0 }
+}
+
+/// Rows of tasks 2 and 5, and these processes.
+fn two_and_five(processes: &[Process]) -> Draft {
+    Draft { tasks: rows_of([2, 5]), processes: processes.to_vec(), ..Draft::default() }
+}
+
+fn numbers(edges: &mut Edges) {
+    for (pt, number) in [(0, 0), (63, 0), (64, 3), (255, 3)] {
+        edges.image(format!("PT {pt}"), &bench(|draft| draft.processes[0].pt = pt), number);
+        edges.image(format!("PT {pt} of task 2"), &two_and_five(&[process(pt, 2)]), number);
+    }
+}
+
+/// A process's task is listed, and tasks do not descend.
+fn tasks(edges: &mut Edges) {
+    for task in [0, 2, 8, 255] {
+        let draft = bench(|draft| draft.processes[0].task = task);
+        edges.image(format!("a process of task {task} where 1 is listed"), &draft, 3);
+    }
+    for task in (0..=9).chain([255]) {
+        let number = if [2, 5].contains(&task) { 0 } else { 3 };
+        let name = format!("a process of task {task} where 2 and 5 are listed");
+        edges.image(name, &two_and_five(&[process(0, task)]), number);
+    }
+    for (first, second) in [(2, 2), (2, 5), (5, 5), (5, 2)] {
+        let number = if first <= second { 0 } else { 3 };
+        let draft = two_and_five(&[process(0, first), process(1, second)]);
+        edges.image(format!("processes of tasks {first} and {second}"), &draft, number);
+    }
+    for (first, second, number) in [(1, 1, 0), (1, 2, 0), (2, 2, 0), (2, 1, 3)] {
+        let two = |draft: &mut Draft| {
+            draft.tasks.push(Task::empty(2));
+            draft.processes = vec![process(5, first), process(4, second)];
+        };
+        let name = format!("processes of tasks {first} and {second} on the bench");
+        edges.image(name, &bench(two), number);
+    }
+}
+
+fn status_words(edges: &mut Edges) {
+    for bit in 0..64 {
+        edges.both(&format!("bit {bit} of a PSW"), status_bit(bit), |draft| {
+            draft.processes = vec![Process { psw: 1 << bit, ..process(0, 1) }]
+        });
+    }
+}
+
+fn flags(edges: &mut Edges) {
+    for flag in 0..=255 {
+        let number = if flag < 2 { 0 } else { 3 };
+        edges.image(format!("flag {flag}"), &Draft { flag, ..Draft::default() }, number);
+        edges.image(format!("flag {flag} on the bench"), &bench(|draft| draft.flag = flag), number);
+    }
+}
+
+/// 64 processes need the flag, 65 are too many.
+fn crowds(edges: &mut Edges) {
+    for (count, flag, number) in [(63, 0, 0), (63, 1, 0), (64, 0, 6), (64, 1, 0), (65, 1, 2)] {
+        let name = format!("{count} processes, flag {flag}");
+        edges.both(&name, number, |draft| (draft.processes, draft.flag) = (crowd(count), flag));
+    }
+    for (flag, number) in [(0, 6), (1, 0)] {
+        let spread = (0..64).map(|i| process(63 - i, i / 10 + 1)).collect();
+        let draft = Draft { tasks: rows_of(1..=7), processes: spread, flag, ..Draft::default() };
+        edges.image(format!("64 processes of seven tasks, flag {flag}"), &draft, number);
+    }
+}
+
+fn numbers_twice(edges: &mut Edges) {
+    for (first, second, number) in [(0, 1, 0), (0, 0, 6), (63, 63, 6)] {
+        let two = |draft: &mut Draft| draft.processes = vec![process(first, 1), process(second, 1)];
+        edges.both(&format!("PTs {first} and {second}"), number, two);
+    }
+    for again in [0, 62] {
+        edges.both(&format!("PTs 0 to 62, and {again} again"), 6, |draft| {
+            (draft.processes, draft.flag) = ([crowd(63), vec![process(again, 1)]].concat(), 1)
+        });
+    }
+    let processes = vec![process(9, 1), process(9, 2)];
+    let draft = Draft { tasks: rows_of([1, 2]), processes, ..Draft::default() };
+    edges.image("a PT in two tasks", &draft, 6);
+}
