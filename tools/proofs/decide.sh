@@ -28,7 +28,7 @@ returns-11 [rolesOf] := $B $(listed op7 store-indirect "$U4 s d own")
 returns-12 [rolesOf] := $B $(listed op8 store-indexed "$U4 s d own")
 E
 B="λ row code program s d own."
-N="(@number-of .ensures)"
+N="(@operation-number .ensures)"
 fill $C perform_listed <<E
 use mathlib.Core.Path.{refl, sym}
 use native.Mathlib.Omega.{arith}
@@ -37,7 +37,7 @@ $LAWS.{listed-told}
 returns := $B listed-told $TOLD _ _ _ refl (three-roles _ _ $N (@if1 .taken)) (@three .ensures _ row $U5 (@if1 .taken) (sym $N) s own)
 returns-2 := $B listed-told $TOLD _ _ _ refl (two-roles _ _ $N (@if1 .left) (@if2 .taken)) (@two .ensures _ row $U5 (@if1 .left) (@if2 .taken) (sym $N) s own)
 returns-3 := $B listed-told $TOLD _ _ _ refl (one-roles _ _ $N (@if2 .left) (@if3 .taken)) (@one .ensures _ row $U7 (@if2 .left) (@if3 .taken) (sym $N) s own)
-returns-4 := $B @perform-other .ensures row _ _ (omega (arith, @number-of .ensures, @if3 .left)) s d own
+returns-4 := $B @perform-other .ensures row _ _ (omega (arith, @operation-number .ensures, @if3 .left)) s d own
 E
 B="λ row k program s d own."
 traps() { echo "code-traps row $U5 $U4 trap.$1 _ (@$2 .given .1) refl refl own"; }

@@ -4,10 +4,10 @@ set -euo pipefail
 source tools/proofs/common.sh
 C=operation_registers
 LAWS="use Rattle.operation_registers.specs.Laws.Numbers"
-NUMBERS="use Rattle.operation_registers.specs.Code.Numbers.{outcomeOf, operationAt, numbered}
+NUMBERS="use Rattle.operation_registers.specs.Code.Numbers.{outcomeOf, operationAt, operationsListed}
 use mathlib.Core.Path.{ap, _∙_}
 use Rattle.operation.specs.Perform.{quality0}"
-OPEN="outcomeOf operationAt numbered"
+OPEN="outcomeOf operationAt operationsListed"
 vector() { echo "(@plain-result$1 .ensures ∙ ap quality0 (@vector-of$2 .ensures))"; }
 bit() { echo "(@plain-result$1 .ensures ∙ ap quality0 (@bit-of$2 .ensures))"; }
 fill $C result_one <<E

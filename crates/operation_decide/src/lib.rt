@@ -13,7 +13,7 @@ ghost use Rattle.operation.specs.Environment.{environmentOf};
 ghost use Rattle.operation.specs.Decide.{decideCode, decide};
 ghost use Rattle.operation.specs.Code.FoundOperands.{instruction};
 ghost use Rattle.step.specs.Code.Performs.{Performs};
-ghost use Rattle.operation_registers.specs.Code.Numbers.{numberOf};
+ghost use Rattle.operation_registers.specs.Code.Numbers.{operationNumber};
 use operation::Code;
 use operation::Course;
 use operation::Operation;
@@ -41,7 +41,7 @@ fn perform_other(
     data_tags: &mut [u8],
     data_words: &mut [u64],
 ) -> Course
-    ensures { λ r. ⌜ ((row : Row) (code : ℕ) (program : List ℕ) → 18 ≤ numberOf op → Spans row cb base end → Span (dataWindow row) data_base data_end → psw ≡ getD (now (psws .entry)) pt 0 → Performs row (decideCode (Listed op) (environmentOf row psw flag program (now (constants .entry)) (memory (now («register_tags» .entry)) (now («register_words» .entry))) (memory (now (data_tags .entry)) (now (data_words .entry)))) (instruction code first second third)) pt fresh r (now (psws .entry)) (now (psws .exit)) (memory (now («register_tags» .entry)) (now («register_words» .entry))) (memory (now («register_tags» .exit)) (now («register_words» .exit))) (memory (now (data_tags .entry)) (now (data_words .entry))) (memory (now (data_tags .exit)) (now (data_words .exit)))) ⌝ }
+    ensures { λ r. ⌜ ((row : Row) (code : ℕ) (program : List ℕ) → 18 ≤ operationNumber op → Spans row cb base end → Span (dataWindow row) data_base data_end → psw ≡ getD (now (psws .entry)) pt 0 → Performs row (decideCode (Listed op) (environmentOf row psw flag program (now (constants .entry)) (memory (now («register_tags» .entry)) (now («register_words» .entry))) (memory (now (data_tags .entry)) (now (data_words .entry)))) (instruction code first second third)) pt fresh r (now (psws .entry)) (now (psws .exit)) (memory (now («register_tags» .entry)) (now («register_words» .entry))) (memory (now («register_tags» .exit)) (now («register_words» .exit))) (memory (now (data_tags .entry)) (now (data_words .entry))) (memory (now (data_tags .exit)) (now (data_words .exit)))) ⌝ }
 {
     match op {
         Operation::Nop => operation_control::nop(psws, pt, psw, first, second, third),
@@ -215,7 +215,7 @@ fn perform_listed(
 ) -> Course
     ensures { λ r. ⌜ ((row : Row) (code : ℕ) (program : List ℕ) → Spans row cb base end → Span (dataWindow row) data_base data_end → psw ≡ getD (now (psws .entry)) pt 0 → Performs row (decideCode (Listed op) (environmentOf row psw flag program (now (constants .entry)) (memory (now («register_tags» .entry)) (now («register_words» .entry))) (memory (now (data_tags .entry)) (now (data_words .entry)))) (instruction code first second third)) pt fresh r (now (psws .entry)) (now (psws .exit)) (memory (now («register_tags» .entry)) (now («register_words» .entry))) (memory (now («register_tags» .exit)) (now («register_words» .exit))) (memory (now (data_tags .entry)) (now (data_words .entry))) (memory (now (data_tags .exit)) (now (data_words .exit)))) ⌝ }
 {
-    let k = operation_registers::number_of(op);
+    let k = operation_registers::operation_number(op);
     if k < 10 {
         return operation_registers::three(
             k,

@@ -19,7 +19,7 @@ ghost use Rattle.operation.specs.Perform.{quality0};
 ghost use Rattle.operation.specs.Decide.{decideFound, decideListed};
 ghost use Rattle.step.specs.Code.Performs.{Performs};
 ghost use Rattle.operation_checks.specs.Code.Operands.{Destined, Sourced};
-ghost use Rattle.operation_registers.specs.Code.Numbers.{vectorNumber, bitNumber, integerNumber, numberOf, outcomeOf, operationAt};
+ghost use Rattle.operation_registers.specs.Code.Numbers.{vectorNumber, bitNumber, integerNumber, operationNumber, outcomeOf, operationAt};
 use operand::Lookup;
 use operand::Role;
 use operation::Course;
@@ -69,8 +69,8 @@ fn integer_number(op: Integer) -> u8
 }
 
 // Register operations by number: 0 to 9 have two sources, 10 to 15 one, 16 and 17 none; any other operation is 18.
-pub fn number_of(op: Operation) -> u8
-    ensures { λ r. ⌜ r ≡ numberOf op ⌝ }
+pub fn operation_number(op: Operation) -> u8
+    ensures { λ r. ⌜ r ≡ operationNumber op ⌝ }
 {
     match op {
         Operation::Nop => 18,
@@ -146,7 +146,7 @@ fn one_found(
     register_tags: &mut [u8],
     register_words: &mut [u64],
 ) -> Course
-    ensures { λ r. ⌜ ((op : Operation) (row : Row) (v : Environment) (i : Instruction) (constants : List ℕ) (n : Memory) (fresh second third : ℕ) (od : Operand) → 16 ≤ k → k < 18 → numberOf op ≡ k → v .psw ≡ psw → psw ≡ getD (now (psws .entry)) pt 0 → Destined row od d → Performs row (decideFound op v i (allFoundAt (memory (now («register_tags» .entry)) (now («register_words» .entry))) constants (roles Destination Unused Unused) first second third od Absent Absent)) pt fresh r (now (psws .entry)) (now (psws .exit)) (memory (now («register_tags» .entry)) (now («register_words» .entry))) (memory (now («register_tags» .exit)) (now («register_words» .exit))) n n) ⌝ }
+    ensures { λ r. ⌜ ((op : Operation) (row : Row) (v : Environment) (i : Instruction) (constants : List ℕ) (n : Memory) (fresh second third : ℕ) (od : Operand) → 16 ≤ k → k < 18 → operationNumber op ≡ k → v .psw ≡ psw → psw ≡ getD (now (psws .entry)) pt 0 → Destined row od d → Performs row (decideFound op v i (allFoundAt (memory (now («register_tags» .entry)) (now («register_words» .entry))) constants (roles Destination Unused Unused) first second third od Absent Absent)) pt fresh r (now (psws .entry)) (now (psws .exit)) (memory (now («register_tags» .entry)) (now («register_words» .entry))) (memory (now («register_tags» .exit)) (now («register_words» .exit))) n n) ⌝ }
 {
     if operation_checks::waits_d(first, d, register_tags) {
         return Course::Waits;
@@ -177,7 +177,7 @@ pub fn one(
     register_tags: &mut [u8],
     register_words: &mut [u64],
 ) -> Course
-    ensures { λ r. ⌜ ((op : Operation) (row : Row) (code flag fresh cb : ℕ) (program constants : List ℕ) (n : Memory) → 16 ≤ k → k < 18 → numberOf op ≡ k → Spans row cb base end → psw ≡ getD (now (psws .entry)) pt 0 → Performs row (decideListed (roles Destination Unused Unused) op (environmentOf row psw flag program constants (memory (now («register_tags» .entry)) (now («register_words» .entry))) n) (instruction code first second third)) pt fresh r (now (psws .entry)) (now (psws .exit)) (memory (now («register_tags» .entry)) (now («register_words» .entry))) (memory (now («register_tags» .exit)) (now («register_words» .exit))) n n) ⌝ }
+    ensures { λ r. ⌜ ((op : Operation) (row : Row) (code flag fresh cb : ℕ) (program constants : List ℕ) (n : Memory) → 16 ≤ k → k < 18 → operationNumber op ≡ k → Spans row cb base end → psw ≡ getD (now (psws .entry)) pt 0 → Performs row (decideListed (roles Destination Unused Unused) op (environmentOf row psw flag program constants (memory (now («register_tags» .entry)) (now («register_words» .entry))) n) (instruction code first second third)) pt fresh r (now (psws .entry)) (now (psws .exit)) (memory (now («register_tags» .entry)) (now («register_words» .entry))) (memory (now («register_tags» .exit)) (now («register_words» .exit))) n n) ⌝ }
 {
     if operation_checks::illegal_d(first, second, third) {
         return Course::IllegalInstruction;
@@ -211,7 +211,7 @@ fn two_found(
     register_tags: &mut [u8],
     register_words: &mut [u64],
 ) -> Course
-    ensures { λ r. ⌜ ((op : Operation) (row : Row) (v : Environment) (i : Instruction) (constants : List ℕ) (n : Memory) (fresh third : ℕ) (od oa : Operand) → 10 ≤ k → k < 16 → numberOf op ≡ k → v .psw ≡ psw → psw ≡ getD (now (psws .entry)) pt 0 → Destined row od d → Sourced row (now («register_tags» .entry)) (now («register_words» .entry)) constants second oa a x s1 → Performs row (decideFound op v i (allFoundAt (memory (now («register_tags» .entry)) (now («register_words» .entry))) constants (roles Destination Source Unused) first second third od oa Absent)) pt fresh r (now (psws .entry)) (now (psws .exit)) (memory (now («register_tags» .entry)) (now («register_words» .entry))) (memory (now («register_tags» .exit)) (now («register_words» .exit))) n n) ⌝ }
+    ensures { λ r. ⌜ ((op : Operation) (row : Row) (v : Environment) (i : Instruction) (constants : List ℕ) (n : Memory) (fresh third : ℕ) (od oa : Operand) → 10 ≤ k → k < 16 → operationNumber op ≡ k → v .psw ≡ psw → psw ≡ getD (now (psws .entry)) pt 0 → Destined row od d → Sourced row (now («register_tags» .entry)) (now («register_words» .entry)) constants second oa a x s1 → Performs row (decideFound op v i (allFoundAt (memory (now («register_tags» .entry)) (now («register_words» .entry))) constants (roles Destination Source Unused) first second third od oa Absent)) pt fresh r (now (psws .entry)) (now (psws .exit)) (memory (now («register_tags» .entry)) (now («register_words» .entry))) (memory (now («register_tags» .exit)) (now («register_words» .exit))) n n) ⌝ }
 {
     if operation_checks::waits_d_s1(first, d, second, x, register_tags) {
         return Course::Waits;
@@ -250,7 +250,7 @@ pub fn two(
     register_tags: &mut [u8],
     register_words: &mut [u64],
 ) -> Course
-    ensures { λ r. ⌜ ((op : Operation) (row : Row) (code flag fresh : ℕ) (program : List ℕ) (n : Memory) → 10 ≤ k → k < 16 → numberOf op ≡ k → Spans row cb base end → psw ≡ getD (now (psws .entry)) pt 0 → Performs row (decideListed (roles Destination Source Unused) op (environmentOf row psw flag program (now (constants .entry)) (memory (now («register_tags» .entry)) (now («register_words» .entry))) n) (instruction code first second third)) pt fresh r (now (psws .entry)) (now (psws .exit)) (memory (now («register_tags» .entry)) (now («register_words» .entry))) (memory (now («register_tags» .exit)) (now («register_words» .exit))) n n) ⌝ }
+    ensures { λ r. ⌜ ((op : Operation) (row : Row) (code flag fresh : ℕ) (program : List ℕ) (n : Memory) → 10 ≤ k → k < 16 → operationNumber op ≡ k → Spans row cb base end → psw ≡ getD (now (psws .entry)) pt 0 → Performs row (decideListed (roles Destination Source Unused) op (environmentOf row psw flag program (now (constants .entry)) (memory (now («register_tags» .entry)) (now («register_words» .entry))) n) (instruction code first second third)) pt fresh r (now (psws .entry)) (now (psws .exit)) (memory (now («register_tags» .entry)) (now («register_words» .entry))) (memory (now («register_tags» .exit)) (now («register_words» .exit))) n n) ⌝ }
 {
     if operation_checks::illegal_d_s1(first, second, third) {
         return Course::IllegalInstruction;
@@ -296,7 +296,7 @@ fn three_found(
     register_tags: &mut [u8],
     register_words: &mut [u64],
 ) -> Course
-    ensures { λ r. ⌜ ((op : Operation) (row : Row) (v : Environment) (i : Instruction) (constants : List ℕ) (n : Memory) (fresh : ℕ) (od oa ob : Operand) → k < 10 → numberOf op ≡ k → v .psw ≡ psw → psw ≡ getD (now (psws .entry)) pt 0 → Destined row od d → Sourced row (now («register_tags» .entry)) (now («register_words» .entry)) constants second oa a x s1 → Sourced row (now («register_tags» .entry)) (now («register_words» .entry)) constants third ob b y s2 → Performs row (decideFound op v i (allFoundAt (memory (now («register_tags» .entry)) (now («register_words» .entry))) constants (roles Destination Source Source) first second third od oa ob)) pt fresh r (now (psws .entry)) (now (psws .exit)) (memory (now («register_tags» .entry)) (now («register_words» .entry))) (memory (now («register_tags» .exit)) (now («register_words» .exit))) n n) ⌝ }
+    ensures { λ r. ⌜ ((op : Operation) (row : Row) (v : Environment) (i : Instruction) (constants : List ℕ) (n : Memory) (fresh : ℕ) (od oa ob : Operand) → k < 10 → operationNumber op ≡ k → v .psw ≡ psw → psw ≡ getD (now (psws .entry)) pt 0 → Destined row od d → Sourced row (now («register_tags» .entry)) (now («register_words» .entry)) constants second oa a x s1 → Sourced row (now («register_tags» .entry)) (now («register_words» .entry)) constants third ob b y s2 → Performs row (decideFound op v i (allFoundAt (memory (now («register_tags» .entry)) (now («register_words» .entry))) constants (roles Destination Source Source) first second third od oa ob)) pt fresh r (now (psws .entry)) (now (psws .exit)) (memory (now («register_tags» .entry)) (now («register_words» .entry))) (memory (now («register_tags» .exit)) (now («register_words» .exit))) n n) ⌝ }
 {
     if operation_checks::waits_d_s1_s2(first, d, second, x, third, y, register_tags) {
         return Course::Waits;
@@ -338,7 +338,7 @@ pub fn three(
     register_tags: &mut [u8],
     register_words: &mut [u64],
 ) -> Course
-    ensures { λ r. ⌜ ((op : Operation) (row : Row) (code flag fresh : ℕ) (program : List ℕ) (n : Memory) → k < 10 → numberOf op ≡ k → Spans row cb base end → psw ≡ getD (now (psws .entry)) pt 0 → Performs row (decideListed (roles Destination Source Source) op (environmentOf row psw flag program (now (constants .entry)) (memory (now («register_tags» .entry)) (now («register_words» .entry))) n) (instruction code first second third)) pt fresh r (now (psws .entry)) (now (psws .exit)) (memory (now («register_tags» .entry)) (now («register_words» .entry))) (memory (now («register_tags» .exit)) (now («register_words» .exit))) n n) ⌝ }
+    ensures { λ r. ⌜ ((op : Operation) (row : Row) (code flag fresh : ℕ) (program : List ℕ) (n : Memory) → k < 10 → operationNumber op ≡ k → Spans row cb base end → psw ≡ getD (now (psws .entry)) pt 0 → Performs row (decideListed (roles Destination Source Source) op (environmentOf row psw flag program (now (constants .entry)) (memory (now («register_tags» .entry)) (now («register_words» .entry))) n) (instruction code first second third)) pt fresh r (now (psws .entry)) (now (psws .exit)) (memory (now («register_tags» .entry)) (now («register_words» .entry))) (memory (now («register_tags» .exit)) (now («register_words» .exit))) n n) ⌝ }
 {
     if operation_checks::illegal_d_s1_s2(first, second, third) {
         return Course::IllegalInstruction;

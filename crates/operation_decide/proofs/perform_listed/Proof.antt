@@ -7,8 +7,8 @@ use borrow.Author.Needs.{needs}
 use Rattle.operation_decide.proofs.perform_listed.Statement.{statement}
 use Rattle.operation_decide.proofs.perform_listed.Tie as tie
 
-number-of-requires : tie.Need-number-of-requires
-number-of-requires c κs = search needs
+operation-number-requires : tie.Need-operation-number-requires
+operation-number-requires c κs = search needs
 
 three-requires : tie.Need-three-requires
 three-requires c κs = search needs
@@ -23,7 +23,7 @@ same-length-3 : tie.Need-same-length-3
 same-length-3 c = search needs
 
 returns : tie.Need-returns
-returns c = λ row code program s d own. listed-told row _ _ _ _ _ _ _ _ _ _ _ _ _ _ refl (three-roles _ _ (c .before .before .before .before .before .before .before .before .before .before .before .number-of .ensures) (c .before .before .before .before .before .before .before .before .before .before .if1 .taken)) (c .before .before .before .before .before .before .three .ensures _ row _ _ _ _ _ (c .before .before .before .before .before .before .before .before .before .before .if1 .taken) (sym (c .before .before .before .before .before .before .before .before .before .before .before .number-of .ensures)) s own)
+returns c = λ row code program s d own. listed-told row _ _ _ _ _ _ _ _ _ _ _ _ _ _ refl (three-roles _ _ (c .before .before .before .before .before .before .before .before .before .before .before .operation-number .ensures) (c .before .before .before .before .before .before .before .before .before .before .if1 .taken)) (c .before .before .before .before .before .before .three .ensures _ row _ _ _ _ _ (c .before .before .before .before .before .before .before .before .before .before .if1 .taken) (sym (c .before .before .before .before .before .before .before .before .before .before .before .operation-number .ensures)) s own)
 
 two-requires : tie.Need-two-requires
 two-requires c κs = search needs
@@ -38,7 +38,7 @@ same-length-6 : tie.Need-same-length-6
 same-length-6 c = search needs
 
 returns-2 : tie.Need-returns-2
-returns-2 c = λ row code program s d own. listed-told row _ _ _ _ _ _ _ _ _ _ _ _ _ _ refl (two-roles _ _ (c .before .before .before .before .before .before .before .before .before .before .before .before .number-of .ensures) (c .before .before .before .before .before .before .before .before .before .before .before .if1 .left) (c .before .before .before .before .before .before .before .before .before .before .if2 .taken)) (c .before .before .before .before .before .before .two .ensures _ row _ _ _ _ _ (c .before .before .before .before .before .before .before .before .before .before .before .if1 .left) (c .before .before .before .before .before .before .before .before .before .before .if2 .taken) (sym (c .before .before .before .before .before .before .before .before .before .before .before .before .number-of .ensures)) s own)
+returns-2 c = λ row code program s d own. listed-told row _ _ _ _ _ _ _ _ _ _ _ _ _ _ refl (two-roles _ _ (c .before .before .before .before .before .before .before .before .before .before .before .before .operation-number .ensures) (c .before .before .before .before .before .before .before .before .before .before .before .if1 .left) (c .before .before .before .before .before .before .before .before .before .before .if2 .taken)) (c .before .before .before .before .before .before .two .ensures _ row _ _ _ _ _ (c .before .before .before .before .before .before .before .before .before .before .before .if1 .left) (c .before .before .before .before .before .before .before .before .before .before .if2 .taken) (sym (c .before .before .before .before .before .before .before .before .before .before .before .before .operation-number .ensures)) s own)
 
 one-requires : tie.Need-one-requires
 one-requires c κs = search needs
@@ -53,7 +53,7 @@ same-length-9 : tie.Need-same-length-9
 same-length-9 c = search needs
 
 returns-3 : tie.Need-returns-3
-returns-3 c = λ row code program s d own. listed-told row _ _ _ _ _ _ _ _ _ _ _ _ _ _ refl (one-roles _ _ (c .before .before .before .before .before .before .before .before .before .before .before .before .before .number-of .ensures) (c .before .before .before .before .before .before .before .before .before .before .before .if2 .left) (c .before .before .before .before .before .before .before .before .before .before .if3 .taken)) (c .before .before .before .before .before .before .one .ensures _ row _ _ _ _ _ _ _ (c .before .before .before .before .before .before .before .before .before .before .before .if2 .left) (c .before .before .before .before .before .before .before .before .before .before .if3 .taken) (sym (c .before .before .before .before .before .before .before .before .before .before .before .before .before .number-of .ensures)) s own)
+returns-3 c = λ row code program s d own. listed-told row _ _ _ _ _ _ _ _ _ _ _ _ _ _ refl (one-roles _ _ (c .before .before .before .before .before .before .before .before .before .before .before .before .before .operation-number .ensures) (c .before .before .before .before .before .before .before .before .before .before .before .if2 .left) (c .before .before .before .before .before .before .before .before .before .before .if3 .taken)) (c .before .before .before .before .before .before .one .ensures _ row _ _ _ _ _ _ _ (c .before .before .before .before .before .before .before .before .before .before .before .if2 .left) (c .before .before .before .before .before .before .before .before .before .before .if3 .taken) (sym (c .before .before .before .before .before .before .before .before .before .before .before .before .before .operation-number .ensures)) s own)
 
 perform-other-requires : tie.Need-perform-other-requires
 perform-other-requires c κs = search needs
@@ -74,13 +74,13 @@ same-length-14 : tie.Need-same-length-14
 same-length-14 c = search needs
 
 returns-4 : tie.Need-returns-4
-returns-4 c = λ row code program s d own. c .before .before .before .before .before .before .before .before .before .before .perform-other .ensures row _ _ (omega (arith, c .before .before .before .before .before .before .before .before .before .before .before .before .before .before .before .before .before .before .before .number-of .ensures, c .before .before .before .before .before .before .before .before .before .before .before .before .before .before .before .before .if3 .left)) s d own
+returns-4 c = λ row code program s d own. c .before .before .before .before .before .before .before .before .before .before .perform-other .ensures row _ _ (omega (arith, c .before .before .before .before .before .before .before .before .before .before .before .before .before .before .before .before .before .before .before .operation-number .ensures, c .before .before .before .before .before .before .before .before .before .before .before .before .before .before .before .before .if3 .left)) s d own
 
 pub perform-listed-spec : {M : Type 1} → statement M
 perform-listed-spec =
     tie.close
     (tie.spec
-    number-of-requires
+    operation-number-requires
     three-requires
     same-length
     same-length-2

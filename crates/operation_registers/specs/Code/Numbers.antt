@@ -41,19 +41,19 @@ integerNumber Mul = 9
 integerNumber Inc = 14
 integerNumber Dec = 15
 
-unfoldable pub numberOf : Operation → ℕ
-numberOf operation.Nop = 18
-numberOf (operation.Vector op) = vectorNumber op
-numberOf (operation.Bit op) = bitNumber op
-numberOf (operation.Integer op) = integerNumber op
-numberOf (operation.Branch c p) = 18
-numberOf (operation.Call c) = 18
-numberOf (operation.Create c act) = 18
-numberOf (operation.Quit c) = 18
-numberOf (operation.LoadIndirect low) = 18
-numberOf (operation.LoadIndexed low) = 18
-numberOf (operation.StoreIndirect low) = 18
-numberOf (operation.StoreIndexed low) = 18
+unfoldable pub operationNumber : Operation → ℕ
+operationNumber operation.Nop = 18
+operationNumber (operation.Vector op) = vectorNumber op
+operationNumber (operation.Bit op) = bitNumber op
+operationNumber (operation.Integer op) = integerNumber op
+operationNumber (operation.Branch c p) = 18
+operationNumber (operation.Call c) = 18
+operationNumber (operation.Create c act) = 18
+operationNumber (operation.Quit c) = 18
+operationNumber (operation.LoadIndirect low) = 18
+operationNumber (operation.LoadIndexed low) = 18
+operationNumber (operation.StoreIndirect low) = 18
+operationNumber (operation.StoreIndexed low) = 18
 
 -- the outcome of a register operation at the words of its sources
 unfoldable pub outcomeOf : Operation → (a b : ℕ) → Outcome
@@ -71,12 +71,12 @@ outcomeOf (operation.StoreIndirect low) a b = quality0 0
 outcomeOf (operation.StoreIndexed low) a b = quality0 0
 
 -- the operations by number
-unfoldable pub numbered : List Operation
-numbered =
+unfoldable pub operationsListed : List Operation
+operationsListed =
     operation.Vector Eor ∷ operation.Vector Eqv ∷ operation.Vector Nand ∷ operation.Vector Nor ∷ operation.Vector Or
     ∷ operation.Bit Bitclr ∷ operation.Bit Bitset ∷ operation.Integer Add ∷ operation.Integer Sub ∷ operation.Integer Mul
     ∷ operation.Vector Mov ∷ operation.Vector Not ∷ operation.Bit Encode0 ∷ operation.Bit Encode1 ∷ operation.Integer Inc ∷ operation.Integer Dec
     ∷ operation.Vector Clr ∷ operation.Vector One ∷ []
 
 unfoldable pub operationAt : ℕ → Operation
-operationAt k = getD numbered k operation.Nop
+operationAt k = getD operationsListed k operation.Nop

@@ -22,7 +22,7 @@ use Rattle.operation.specs.Environment.{Environment}
 use Rattle.operand.specs.declared.Role.the-variants.{Unused, Destination, Source}
 use Rattle.operation.specs.Roles.{roles, vectorRoles, bitRoles, integerRoles, rolesOf, illegalAccess, illegalFields, illegalInstruction}
 use Rattle.operation.specs.Perform.{perform, performResult}
-use Rattle.operation_registers.specs.Code.Numbers.{vectorNumber, bitNumber, integerNumber, numberOf, outcomeOf, numbered, operationAt}
+use Rattle.operation_registers.specs.Code.Numbers.{vectorNumber, bitNumber, integerNumber, operationNumber, outcomeOf, operationsListed, operationAt}
 
 -- the three families of register operations
 pub data Family : Operation → Type 0 where
@@ -30,8 +30,8 @@ pub data Family : Operation → Type 0 where
   bit : (op : Bit) → Family (operation.Bit op)
   integer : (op : Integer) → Family (operation.Integer op)
 
-pub family : (op : Operation) → numberOf op < 18 → Family op
-unfolding numberOf
+pub family : (op : Operation) → operationNumber op < 18 → Family op
+unfolding operationNumber
 family operation.Nop h = absurd (omega arith)
 family (operation.Vector op) h = vector op
 family (operation.Bit op) h = bit op
@@ -45,8 +45,8 @@ family (operation.LoadIndexed low) h = absurd (omega arith)
 family (operation.StoreIndirect low) h = absurd (omega arith)
 family (operation.StoreIndexed low) h = absurd (omega arith)
 
-at-number : (op : Operation) → Family op → operationAt (numberOf op) ≡ op
-unfolding operationAt numbered numberOf vectorNumber bitNumber integerNumber
+at-number : (op : Operation) → Family op → operationAt (operationNumber op) ≡ op
+unfolding operationAt operationsListed operationNumber vectorNumber bitNumber integerNumber
 at-number _ (vector Eor) = refl
 at-number _ (vector Eqv) = refl
 at-number _ (vector Nand) = refl
@@ -79,7 +79,7 @@ its-outcome _ v i s (vector op) = refl
 its-outcome _ v i s (bit op) = refl
 its-outcome _ v i s (integer op) = refl
 
-module _ (op : Operation) (k : ℕ) (e : numberOf op ≡ k) (h : k < 18) where
+module _ (op : Operation) (k : ℕ) (e : operationNumber op ≡ k) (h : k < 18) where
   of-family : Family op
   of-family = family op (omega arith)
 
@@ -117,8 +117,8 @@ is-seventeen k h l a = omega arith
 unfoldable rolesAt : ℕ → Roles
 rolesAt k = roles Destination (cond (ltb k 16) Source Unused) (cond (ltb k 10) Source Unused)
 
-roles-at : (op : Operation) → Family op → rolesOf op ≡ rolesAt (numberOf op)
-unfolding rolesOf vectorRoles bitRoles integerRoles numberOf vectorNumber bitNumber integerNumber rolesAt
+roles-at : (op : Operation) → Family op → rolesOf op ≡ rolesAt (operationNumber op)
+unfolding rolesOf vectorRoles bitRoles integerRoles operationNumber vectorNumber bitNumber integerNumber rolesAt
 roles-at _ (vector Eor) = refl
 roles-at _ (vector Eqv) = refl
 roles-at _ (vector Nand) = refl
@@ -138,7 +138,7 @@ roles-at _ (integer Mul) = refl
 roles-at _ (integer Inc) = refl
 roles-at _ (integer Dec) = refl
 
-module _ (op : Operation) (k : ℕ) (e : k ≡ numberOf op) where
+module _ (op : Operation) (k : ℕ) (e : k ≡ operationNumber op) where
   three-at : k < 18 → rolesOf op ≡ rolesAt k
   three-at h = rw e (roles-at op (family op (omega arith)))
 
@@ -155,8 +155,8 @@ module _ (op : Operation) (k : ℕ) (e : k ≡ numberOf op) where
   one-roles g h = rw (le-ltb k 16 g, le-ltb k 10 (omega arith)) at (three-at h)
 
 -- the number of any other operation
-family-below : (op : Operation) → Family op → numberOf op < 18
-unfolding numberOf vectorNumber bitNumber integerNumber
+family-below : (op : Operation) → Family op → operationNumber op < 18
+unfolding operationNumber vectorNumber bitNumber integerNumber
 family-below _ (vector Eor) = omega arith
 family-below _ (vector Eqv) = omega arith
 family-below _ (vector Nand) = omega arith
@@ -176,5 +176,5 @@ family-below _ (integer Mul) = omega arith
 family-below _ (integer Inc) = omega arith
 family-below _ (integer Dec) = omega arith
 
-pub other-number : (op p : Operation) → op ≡ p → Family p → 18 ≤ numberOf op → ⊥
-other-number op p e f h = let z : numberOf op ≡ numberOf p = ap numberOf e in omega (arith, family-below p f)
+pub other-number : (op p : Operation) → op ≡ p → Family p → 18 ≤ operationNumber op → ⊥
+other-number op p e f h = let z : operationNumber op ≡ operationNumber p = ap operationNumber e in omega (arith, family-below p f)

@@ -10,7 +10,7 @@ use Rattle.step.specs.Queues.{places}
 use Rattle.step.specs.State.{findRow}
 use Rattle.run_rings.specs.declared.Rings.{Rings}
 use Rattle.run_rings.specs.declared.Tasks.{Tasks}
-use Rattle.run_rings.specs.Code.Spans.{laid}
+use Rattle.run_rings.specs.Code.Spans.{windowsLaid}
 use Rattle.run_rings.specs.Code.Rings.{ringPlaces}
 
 abbrev pub rings : (pts heads lens : List ℕ) → Rings
@@ -37,7 +37,7 @@ noTasks = taskNumbers (replicate 8 0) (replicate 8 0) (replicate 64 0)
 -- the trap record and the windows of the row of task t; they stay where it is unlisted
 unfoldable pub rowLaid : (t : ℕ) → Option Row → Tasks → Tasks
 rowLaid t none x = x
-rowLaid t (some r) x = taskNumbers (set (x .kinds) t (r .kind)) (set (x .stored) t (r .psw)) (laid (x .spans) t r)
+rowLaid t (some r) x = taskNumbers (set (x .kinds) t (r .kind)) (set (x .stored) t (r .psw)) (windowsLaid (x .spans) t r)
 
 -- those of n taskNumbers, task t first
 unfoldable pub tasksLaid : (n t : ℕ) → List Row → Tasks → Tasks

@@ -40,8 +40,8 @@ windowNumbers r =
     low (endOf (dataWindow r)) ∷ 0 ∷ []
 
 -- the numbers with those of a row at task t
-abbrev pub laid : List ℕ → (t : ℕ) → Row → List ℕ
-laid l t r = paste l (8 * t) (windowNumbers r) 8
+abbrev pub windowsLaid : List ℕ → (t : ℕ) → Row → List ℕ
+windowsLaid l t r = paste l (8 * t) (windowNumbers r) 8
 
 -- what the numbers say of the row of task t
 pub record Tells (kinds stored spans : List ℕ) (t : ℕ) (r : Row) : Type 0 where

@@ -17,7 +17,7 @@ use Rattle.window.specs.Windows.{registerWindow, programWindow, dataWindow}
 use Rattle.step.specs.State.{findRow}
 use Rattle.step.specs.Laws.Rows.{some-inj, none-some}
 use Rattle.run_rings.specs.Code.Records.{withRecord}
-use Rattle.run_rings.specs.Code.Spans.{Narrow, Windows, windowNumbers, laid, Tells, Told}
+use Rattle.run_rings.specs.Code.Spans.{Narrow, Windows, windowNumbers, windowsLaid, Tells, Told}
 
 -- a trap record is no part of the windows
 pub windows-in : (sp : List ℕ) (t : ℕ) (r : Row) (k p : ℕ) → Windows sp t r → Windows sp t (withRecord r k p)
@@ -48,7 +48,7 @@ sets-in l m (v ∷ vs) (suc j) h k =
 
 -- the numbers of another task, and those of this one
 module _ (l : List ℕ) (t : ℕ) (r : Row) (h : 8 * t + 8 ≤ length l) where
-  laid-sets : laid l t r ≡ sets l (8 * t) (windowNumbers r)
+  laid-sets : windowsLaid l t r ≡ sets l (8 * t) (windowNumbers r)
   unfolding windowNumbers
   laid-sets = sym (sets-eq (windowNumbers r) l (8 * t) (omega (arith, h)))
 
@@ -56,22 +56,22 @@ module _ (l : List ℕ) (t : ℕ) (r : Row) (h : 8 * t + 8 ≤ length l) where
   unfolding windowNumbers
   eight = refl
 
-  laid-other : (j w : ℕ) → j ≢ t → w < 8 → getD (laid l t r) (8 * j + w) 0 ≡ getD l (8 * j + w) 0
+  laid-other : (j w : ℕ) → j ≢ t → w < 8 → getD (windowsLaid l t r) (8 * j + w) 0 ≡ getD l (8 * j + w) 0
   laid-other j w n k = ap (λ (x : List ℕ). getD x (8 * j + w) 0) laid-sets ∙ go (ltb j t) refl
     where
       go : (b : Bool) → ltb j t ≡ b → getD (sets l (8 * t) (windowNumbers r)) (8 * j + w) 0 ≡ getD l (8 * j + w) 0
       go true e = sets-before l (8 * t) (8 * j + w) (windowNumbers r) (omega (arith, ltb-true j t e, k))
       go false e = sets-behind l (8 * t) (8 * j + w) (windowNumbers r) (omega (arith, ltb-false j t e, n, eight))
 
-  at : (w : ℕ) → w < 8 → getD (laid l t r) (8 * t + w) 0 ≡ getD (windowNumbers r) w 0
+  at : (w : ℕ) → w < 8 → getD (windowsLaid l t r) (8 * t + w) 0 ≡ getD (windowNumbers r) w 0
   unfolding windowNumbers
   at w k = ap (λ (x : List ℕ). getD x (8 * t + w) 0) laid-sets ∙ sets-in l (8 * t) (windowNumbers r) w (omega (arith, h)) (omega (arith, k))
 
-  laid-mine : Narrow r → Windows (laid l t r) t r
+  laid-mine : Narrow r → Windows (windowsLaid l t r) t r
   unfolding windowNumbers
   laid-mine n = record {
     registers = record {
-      constants = ap (λ (i : ℕ). getD (laid l t r) i 0) (sym (add-zero (8 * t))) ∙ at 0 (omega arith);
+      constants = ap (λ (i : ℕ). getD (windowsLaid l t r) i 0) (sym (add-zero (8 * t))) ∙ at 0 (omega arith);
       registers = record { first = at 1 (omega arith) ∙ mod-eq-of-lt (n .registers .first); past = at 2 (omega arith) ∙ mod-eq-of-lt (n .registers .past) };
     };
     program = record { first = at 3 (omega arith) ∙ mod-eq-of-lt (n .program .first); past = at 4 (omega arith) ∙ mod-eq-of-lt (n .program .past) };
@@ -108,19 +108,19 @@ module _ (rs : List Row) (ks ss sp : List ℕ) where
 
   -- its row is carried over
   pub told-next : (m : ℕ) (x : Row) → m < length ks → m < length ss → 8 * m + 8 ≤ length sp → Narrow x → findRow m rs ≡ some x → Told rs ks ss sp m
-      → Told rs (set ks m (x .kind)) (set ss m (x .psw)) (laid sp m x) (m + 1)
+      → Told rs (set ks m (x .kind)) (set ss m (x .psw)) (windowsLaid sp m x) (m + 1)
   told-next m x i j k n e h = record { tells = λ t r l u f. go t r l u f (eqb t m) (eq? t m) }
     where
-      mine : (r : Row) → x ≡ r → Tells (set ks m (x .kind)) (set ss m (x .psw)) (laid sp m x) m r
+      mine : (r : Row) → x ≡ r → Tells (set ks m (x .kind)) (set ss m (x .psw)) (windowsLaid sp m x) m r
       mine r q = rw (← q) (record { kind = getD-set-same ks m (x .kind) 0 i; psw = getD-set-same ss m (x .psw) 0 j; windows = laid-mine sp m x k n })
 
       go : (t : ℕ) (r : Row) → 1 ≤ t → t < m + 1 → findRow t rs ≡ some r → (b : Bool) → Eq? t m b
-          → Tells (set ks m (x .kind)) (set ss m (x .psw)) (laid sp m x) t r
+          → Tells (set ks m (x .kind)) (set ss m (x .psw)) (windowsLaid sp m x) t r
       go t r l u f true (same q) = rw q (mine r (some-inj x r (sym e ∙ ap (λ (x : ℕ). findRow x rs) (sym q) ∙ f)))
       go t r l u f false (differ q) =
           let y : Tells ks ss sp t r = h .tells t r l (omega (arith, u, q)) f in
           record {
             kind = getD-set-other ks m t (x .kind) 0 q ∙ y .kind;
             psw = getD-set-other ss m t (x .psw) 0 q ∙ y .psw;
-            windows = windows-same sp (laid sp m x) t r (λ w v. laid-other sp m x k t w q v) (y .windows);
+            windows = windows-same sp (windowsLaid sp m x) t r (λ w v. laid-other sp m x k t w q v) (y .windows);
           }

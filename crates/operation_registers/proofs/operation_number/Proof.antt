@@ -1,8 +1,8 @@
 -- Skeleton and paths (.before ..) are generated: docs/PROOFS.md.
-use Rattle.operation_registers.specs.Code.Numbers.{numberOf}
+use Rattle.operation_registers.specs.Code.Numbers.{operationNumber}
 use borrow.Author.Needs.{needs}
-use Rattle.operation_registers.proofs.number_of.Statement.{statement}
-use Rattle.operation_registers.proofs.number_of.Tie as tie
+use Rattle.operation_registers.proofs.operation_number.Statement.{statement}
+use Rattle.operation_registers.proofs.operation_number.Tie as tie
 
 enum-told : tie.Need-enum-told
 enum-told c = search needs
@@ -50,55 +50,55 @@ enum-told-9 : tie.Need-enum-told-9
 enum-told-9 c = search needs
 
 returns : tie.Need-returns
-unfolding numberOf
+unfolding operationNumber
 returns c = simp (c .enum-told .given .1)
 
 returns-2 : tie.Need-returns-2
-unfolding numberOf
+unfolding operationNumber
 returns-2 c = simp (← c .vector-number .ensures, c .before .before .op .given .1)
 
 returns-3 : tie.Need-returns-3
-unfolding numberOf
+unfolding operationNumber
 returns-3 c = simp (← c .bit-number .ensures, c .before .before .op2 .given .1)
 
 returns-4 : tie.Need-returns-4
-unfolding numberOf
+unfolding operationNumber
 returns-4 c = simp (← c .integer-number .ensures, c .before .before .op3 .given .1)
 
 returns-5 : tie.Need-returns-5
-unfolding numberOf
+unfolding operationNumber
 returns-5 c = simp (c .enum-told2 .given .1)
 
 returns-6 : tie.Need-returns-6
-unfolding numberOf
+unfolding operationNumber
 returns-6 c = simp (c .enum-told3 .given .1)
 
 returns-7 : tie.Need-returns-7
-unfolding numberOf
+unfolding operationNumber
 returns-7 c = simp (c .enum-told4 .given .1)
 
 returns-8 : tie.Need-returns-8
-unfolding numberOf
+unfolding operationNumber
 returns-8 c = simp (c .enum-told5 .given .1)
 
 returns-9 : tie.Need-returns-9
-unfolding numberOf
+unfolding operationNumber
 returns-9 c = simp (c .enum-told6 .given .1)
 
 returns-10 : tie.Need-returns-10
-unfolding numberOf
+unfolding operationNumber
 returns-10 c = simp (c .enum-told7 .given .1)
 
 returns-11 : tie.Need-returns-11
-unfolding numberOf
+unfolding operationNumber
 returns-11 c = simp (c .enum-told8 .given .1)
 
 returns-12 : tie.Need-returns-12
-unfolding numberOf
+unfolding operationNumber
 returns-12 c = simp (c .enum-told9 .given .1)
 
-pub number-of-spec : {M : Type 1} → statement M
-number-of-spec =
+pub operation-number-spec : {M : Type 1} → statement M
+operation-number-spec =
     tie.close
     (tie.spec
     enum-told
