@@ -2,8 +2,10 @@
 use mathlib.Core.List.{List}
 use lib.ListN.{replicate}
 use Rattle.window.specs.declared.Row.{Row}
+use Rattle.window.specs.Limits.{tasks}
 use Rattle.step.specs.declared.Queue.{Queue}
 use Rattle.step.specs.declared.ProcessTable.{ProcessTable}
+use Rattle.step.specs.Queues.{places, ptCount}
 use Rattle.step.specs.Step.{noTrap}
 
 -- a row of no task
@@ -12,12 +14,12 @@ emptyRow = record { task = 0; cb = 0; rb = 0; rl = 0; pb = 0; pl = 0; db = 0; dl
 
 -- seven rows of no task
 unfoldable pub noRows : List Row
-noRows = replicate 7 emptyRow
+noRows = replicate tasks emptyRow
 
 -- a queue without a process
 unfoldable pub emptyQueue : Queue
-emptyQueue = record { pts = replicate 64 0; head = 0; len = 0 }
+emptyQueue = record { pts = replicate places 0; head = 0; len = 0 }
 
 -- the process table of seven such queues; the create fault flag is down
 unfoldable pub noProcesses : ProcessTable
-noProcesses = record { psw = replicate 64 0; queues = replicate 7 emptyQueue; flag = 0 }
+noProcesses = record { psw = replicate ptCount 0; queues = replicate tasks emptyQueue; flag = 0 }

@@ -4,6 +4,7 @@ ghost use Prim.Native.Nat.{_+_, _*_, _%_, _≤_, _<_};
 ghost use lib.ListN.{length, take};
 ghost use lib.Seq.{paste};
 ghost use Rattle.window.specs.Code.Spans.{endOf};
+ghost use Rattle.window.specs.Limits.{tasks};
 ghost use Rattle.step.specs.Queues.{livePts};
 ghost use Rattle.step.specs.State.{findRow};
 ghost use Rattle.step_queue.specs.Code.Mask.{freeAfter};
@@ -228,7 +229,7 @@ fn number_task(
 
 // The trap records and the windows of tasks 1 to 7, of the first n rows.
 pub fn number_tasks(rows: [Row; TASKS], n: usize) -> Tasks
-    ensures { λ r. ⌜ r ≡ tasksLaid 7 1 (take n rows) noTasks ⌝ }
+    ensures { λ r. ⌜ r ≡ tasksLaid tasks 1 (take n rows) noTasks ⌝ }
 {
     let mut kinds: [u8; RINGS] = [0; RINGS];
     let mut stored: [u64; RINGS] = [0; RINGS];
