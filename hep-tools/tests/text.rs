@@ -311,7 +311,7 @@ fn timelines() {
     assert_eq!(said(&svg, "task "), ["task 1", "task 5"]);
     assert_eq!(said(&svg, "E"), ["E130 W25 T0 I45", "E126 W1115 T1 I83"]);
     assert_eq!(said(&svg, "trap "), ["trap 14 at item 1381, PC 00003"]);
-    for total in ["executed 256", "waved 1140", "trapped 1", "idle 128"] {
+    for total in ["executed 256", "waved (waits) 1140", "trapped 1", "idle 128"] {
         assert_eq!(said(&svg, total), [total]);
     }
     assert!(svg.starts_with("<svg ") && svg.ends_with("</svg>\n"));
@@ -322,7 +322,7 @@ fn timelines_stay_small() {
     let task = "task 1 cb=0 rb=1 rl=0 pb=0 pl=0 db=1 dl=0\nprocess 0 task=1\nprogram\nNOP * 16\n";
     let long = format!("hep input\n{task}schedule\n1 * 15\n{}", "2\n1 * 3\n".repeat(15_000));
     let svg = tool::drawn(long.as_bytes()).unwrap();
-    assert_eq!(said(&svg, "60015 items of 2 tasks, a column for 251 items").len(), 1);
+    assert_eq!(said(&svg, "60015 items of 2 tasks, each column is 251 items").len(), 1);
     assert_eq!(said(&svg, "trap "), ["trap 14 at item 17, PC 00010"]);
     assert_eq!(said(&svg, "not in the image").len(), 1);
     assert!(svg.len() < 10_000, "{} bytes", svg.len());

@@ -22,8 +22,12 @@ const WIDTH: usize = LEFT + PLOT + 190;
 const LEAST: usize = 3;
 
 /// The endings from a lane's foot up: name and colour.
-const ENDINGS: [(&str, &str); 4] =
-    [("executed", "#2f6fb5"), ("idle", "#cfd4da"), ("waved", "#f5a300"), ("trapped", "#d0202a")];
+const ENDINGS: [(&str, &str); 4] = [
+    ("executed", "#2f6fb5"),
+    ("idle", "#cfd4da"),
+    ("waved (waits)", "#f5a300"),
+    ("trapped", "#d0202a"),
+];
 const NO_ITEM: &str = "#f6f7f9";
 
 /// What a task's lane shows.
@@ -128,7 +132,7 @@ fn heading(out: &mut String, picture: &Picture) {
     let Picture { items, each, .. } = *picture;
     let scale = match each {
         1 => "a column for each item".to_string(),
-        _ => format!("a column for {each} items, coloured in the shares of its items"),
+        _ => format!("each column is {each} items, heights are their shares"),
     };
     let fault = match picture.fault_at {
         Some(item) => format!("; create fault flag up at item {item}"),
