@@ -66,7 +66,7 @@ def proof_of(crate, function):
 
 def answered(proof, need, unfolding, term):
     """The proof with this answer to a need; none if it has no such need."""
-    head = rf"^{re.escape(need)} : tie\.(\S+)\n(?:unfolding .*\n)?{re.escape(need)} ((?:c |κs )*)= (?:.*\n(?:    .*\n)*)"
+    head = rf"^{re.escape(need)} : tie\.(.+)\n(?:unfolding .*\n)?{re.escape(need)} ((?:c |κs )*)= (?:.*\n(?:    .*\n)*)"
     opened = f"unfolding {unfolding}\n" if unfolding else ""
     text, times = re.subn(head, lambda m: f"{need} : tie.{m.group(1)}\n{opened}{need} {m.group(2)}= {term}\n", proof, flags=re.M)
     return text if times else None

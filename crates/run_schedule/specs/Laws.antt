@@ -3,3 +3,4 @@ pub mod Items
 pub mod Numbers
 pub mod Answers
 pub mod Cut
+pub mod Tally

@@ -20,6 +20,7 @@ ghost use Rattle.run_rings.specs.Code.Numbers.{Numbers, Carried, Steps};
 ghost use Rattle.run.specs.Run.{counted, run};
 ghost use Rattle.run.specs.Schedule.{itemSound};
 ghost use Rattle.step_soundness.specs.Code.Held.{stateIn, soundIn};
+ghost use Rattle.run_schedule.specs.Code.Tally.{endings, endingPlace, countsIn};
 ghost use Rattle.library.specs.declared.RunAnswer.the-variants.{Refused};
 ghost use Rattle.library.specs.Calls.{stateRefused};
 ghost use Rattle.library.specs.Held.{lentBuffers, heldRows, SamePlaces};
@@ -43,6 +44,9 @@ use step::Queue;
 use window::Row;
 use window::TASKS;
 
+// The endings that are counted.
+const ENDINGS: usize = 4;
+
 // What the items of a schedule leave besides the lent PSWs and memories.
 pub struct Left {
     pub rows: [Row; TASKS],
@@ -51,27 +55,39 @@ pub struct Left {
     pub counts: Counts,
 }
 
-// One ending more.
-fn counted(e: Ending, c: Counts) -> Counts
-    requires { ⌜ c .executed + c .waved + c .trapped + c .idle < 18446744073709551615 ⌝ }
-    ensures { λ r. ⌜ r ≡ counted e c ⌝ }
+// ---- the counts side by side: executed, waved, trapped, idle
+
+// The place of an ending's count.
+fn ending_place(e: Ending) -> usize
+    ensures { λ r. ⌜ r ≡ endingPlace e ⌝ }
 {
-    let mut next = c;
     match e {
-        Ending::Executed => {
-            next.executed = c.executed + 1;
-        }
-        Ending::Waved => {
-            next.waved = c.waved + 1;
-        }
-        Ending::Trapped(_, _) => {
-            next.trapped = c.trapped + 1;
-        }
-        Ending::Idle => {
-            next.idle = c.idle + 1;
-        }
+        Ending::Executed => 0,
+        Ending::Waved => 1,
+        Ending::Trapped(_, _) => 2,
+        Ending::Idle => 3,
     }
-    next
+}
+
+// One ending more.
+fn count(tally: &mut [u64], e: Ending)
+    requires { ⌜ (length (now tally) ≡ endings) × (getD (now tally) (endingPlace e) 0 < 18446744073709551615) ⌝ }
+    ensures { λ _. ⌜ countsIn (now (tally .exit)) ≡ counted e (countsIn (now (tally .entry))) ⌝ }
+{
+    let k = ending_place(e);
+    tally[k] = tally[k] + 1;
+}
+
+// The four counts.
+fn counts_of(tally: [u64; ENDINGS]) -> Counts
+    ensures { λ r. ⌜ r ≡ countsIn tally ⌝ }
+{
+    Counts {
+        executed: tally[0],
+        waved: tally[1],
+        trapped: tally[2],
+        idle: tally[3],
+    }
 }
 
 // ---- queues side by side: of ring k the 64 places from 64 k on, its head and its length at k
@@ -355,12 +371,7 @@ fn run_items(
     let spans = tasks.spans;
     let mut free = run_rings::free_mask(queues);
     let mut flag = flag;
-    let mut counts = Counts {
-        executed: 0,
-        waved: 0,
-        trapped: 0,
-        idle: 0,
-    };
+    let mut tally: [u64; ENDINGS] = [0; ENDINGS];
     let mut i = 0;
     while i < schedule.len() {
         let t = schedule[i] as usize;
@@ -382,11 +393,12 @@ fn run_items(
             data_tags,
             data_words,
         );
-        counts = counted(e, counts);
+        count(&mut tally, e);
         i += 1;
     }
     let rows = run_rings::rows_with(rows, n, kinds, stored);
     let queues = run_rings::queues_of(pts, heads, lens);
+    let counts = counts_of(tally);
     Left {
         rows,
         queues,
