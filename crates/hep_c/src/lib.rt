@@ -20,6 +20,7 @@ use image::PROCESS_BYTES;
 use library::ReadAnswer;
 use library::RunAnswer;
 use library::Sizes;
+use refusal::Refusal;
 use report_text::REPORT_ROOM;
 use run::Counts;
 use run::MOST_ITEMS;
@@ -63,7 +64,7 @@ fn put_sizes(n: Sizes, sizes: &mut [u64]) -> u32
     ensures left { λ _. ⌜ now (sizes .exit) ≡ sizesLeft (listedAnswer (length (now (sizes .entry))) n) (now (sizes .entry)) ⌝ }
 {
     if sizes.len() < 5 {
-        return 7;
+        return refusal::number(Refusal::ShortBuffer) as u32;
     }
     let numbers = [
         n.rows as u64,
@@ -126,10 +127,10 @@ fn schedule_number(schedule: &[u8]) -> u32
     ensures { λ r. ⌜ r ≡ numbered (scheduleRefusal (now (schedule .entry))) ⌝ }
 {
     if MOST_ITEMS < schedule.len() {
-        return 9;
+        return refusal::number(Refusal::ListTooLong) as u32;
     }
     if !run_schedule::items_sound(schedule) {
-        return 10;
+        return refusal::number(Refusal::ItemOutOfRange) as u32;
     }
     0
 }
@@ -161,10 +162,10 @@ fn lengths_number(
         data_tags,
         data_words,
     ) {
-        return 7;
+        return refusal::number(Refusal::ShortBuffer) as u32;
     }
     if !results_fit(image, output, counts, report) {
-        return 7;
+        return refusal::number(Refusal::ShortBuffer) as u32;
     }
     schedule_number(schedule)
 }

@@ -10,14 +10,26 @@ use Rattle.hep_c.proofs.lengths_number.Tie as tie
 fits-requires : tie.Need-fits-requires
 fits-requires c κs = search needs
 
+number-requires : tie.Need-number-requires
+number-requires c κs = search needs
+
+cast-result : tie.Need-cast-result
+cast-result c = search needs
+
 returns : tie.Need-returns
-returns c = short-memory _ _ _ _ _ _ _ (sym (c .before .fits2 .ensures) ∙ not-true _ (c .if1 .taken))
+returns c = c .number .ensures ∙ short-memory _ _ _ _ _ _ _ (sym (c .before .before .fits2 .ensures) ∙ not-true _ (c .before .if1 .taken))
 
 results-fit-requires : tie.Need-results-fit-requires
 results-fit-requires c κs = search needs
 
+number-requires-2 : tie.Need-number-requires-2
+number-requires-2 c κs = search needs
+
+cast-result-2 : tie.Need-cast-result-2
+cast-result-2 c = search needs
+
 returns-2 : tie.Need-returns-2
-returns-2 c = short-result _ _ _ _ _ _ _ (sym (c .before .before .before .fits2 .ensures) ∙ not-false _ (c .before .before .if1 .left)) (sym (c .before .results-fit .ensures) ∙ not-true _ (c .if2 .taken))
+returns-2 c = c .number2 .ensures ∙ short-result _ _ _ _ _ _ _ (sym (c .before .before .before .before .fits2 .ensures) ∙ not-false _ (c .before .before .before .if1 .left)) (sym (c .before .before .results-fit .ensures) ∙ not-true _ (c .before .if2 .taken))
 
 schedule-number-requires : tie.Need-schedule-number-requires
 schedule-number-requires c κs = search needs
@@ -30,8 +42,12 @@ lengths-number-spec =
     tie.close
     (tie.spec
     fits-requires
+    number-requires
+    cast-result
     returns
     results-fit-requires
+    number-requires-2
+    cast-result-2
     returns-2
     schedule-number-requires
     returns-3)

@@ -1,16 +1,19 @@
 -- Skeleton and paths (.before ..) are generated: docs/PROOFS.md.
 -- `hep_c::put_sizes` meets its contract.
-use mathlib.Core.Path.{refl}
-use Rattle.refusal.specs.Numbers.{numberOf}
 use Rattle.hep_c.specs.Answers.{sizesListed}
 use Rattle.hep_c.specs.Laws.Numbers.{put-short, put-all}
 use borrow.Author.Needs.{needs}
 use Rattle.hep_c.proofs.put_sizes.Statement.{statement}
 use Rattle.hep_c.proofs.put_sizes.Tie as tie
 
+number-requires : tie.Need-number-requires
+number-requires c κs = search needs
+
+cast-result : tie.Need-cast-result
+cast-result c = search needs
+
 returns : tie.Need-returns
-unfolding numberOf
-returns c = put-short _ _ _ (c .if1 .taken) refl
+returns c = put-short _ _ _ (c .before .if1 .taken) (c .number .ensures)
 
 slice-aggregate-put-numbers : tie.Need-slice-aggregate-put-numbers
 slice-aggregate-put-numbers c = search needs
@@ -29,6 +32,8 @@ pub put-sizes-spec : {M : Type 1} → statement M
 put-sizes-spec =
     tie.close
     (tie.spec
+    number-requires
+    cast-result
     returns
     slice-aggregate-put-numbers
     put-numbers-requires

@@ -7,7 +7,7 @@ use mathlib.Core.List.{List}
 use lib.ListN.{length}
 use borrow.Author.Tests.{lt-ltb, le-ltb, leb-true}
 use Rattle.word.specs.Laws.Conjunctions.{both}
-use Rattle.refusal.specs.declared.Refusal.the-variants.{ShortBuffer}
+use Rattle.refusal.specs.declared.Refusal.the-variants.{ShortBuffer, ListTooLong, ItemOutOfRange}
 use Rattle.refusal.specs.Numbers.{numberOf}
 use Rattle.step.specs.Soundness.{every}
 use Rattle.step.specs.Laws.Rows.{none-some}
@@ -22,12 +22,12 @@ use Rattle.report_text.specs.Texts.{reportRoom}
 -- ---- a schedule
 
 module _ (schedule : List ℕ) where
-  pub too-long : 65535 < length schedule → 9 ≡ numbered (scheduleRefusal schedule)
-  unfolding scheduleRefusal numbered numberOf
+  pub too-long : 65535 < length schedule → numberOf ListTooLong ≡ numbered (scheduleRefusal schedule)
+  unfolding scheduleRefusal numbered
   too-long h = rw (lt-ltb 65535 (length schedule) h)
 
-  pub out-of-range : length schedule ≤ 65535 → every itemSound schedule ≡ false → 10 ≡ numbered (scheduleRefusal schedule)
-  unfolding scheduleRefusal numbered numberOf
+  pub out-of-range : length schedule ≤ 65535 → every itemSound schedule ≡ false → numberOf ItemOutOfRange ≡ numbered (scheduleRefusal schedule)
+  unfolding scheduleRefusal numbered
   out-of-range h e = rw (le-ltb 65535 (length schedule) h, e)
 
   pub schedule-fine : length schedule ≤ 65535 → every itemSound schedule ≡ true → 0 ≡ numbered (scheduleRefusal schedule)
@@ -37,12 +37,12 @@ module _ (schedule : List ℕ) where
 -- ---- lengths
 
 module _ (schedule : List ℕ) (n : Sizes) (memories : Room) (image output counts report : ℕ) where
-  pub short-memory : fits n memories ≡ false → 7 ≡ numbered (lengthsRefusal schedule n memories image output counts report)
-  unfolding lengthsRefusal orElse numbered numberOf
+  pub short-memory : fits n memories ≡ false → numberOf ShortBuffer ≡ numbered (lengthsRefusal schedule n memories image output counts report)
+  unfolding lengthsRefusal orElse numbered
   short-memory e = rw e
 
-  pub short-result : fits n memories ≡ true → resultsFit image output counts report ≡ false → 7 ≡ numbered (lengthsRefusal schedule n memories image output counts report)
-  unfolding lengthsRefusal orElse numbered numberOf
+  pub short-result : fits n memories ≡ true → resultsFit image output counts report ≡ false → numberOf ShortBuffer ≡ numbered (lengthsRefusal schedule n memories image output counts report)
+  unfolding lengthsRefusal orElse numbered
   short-result e f = rw (e, f)
 
   pub roomy : fits n memories ≡ true → resultsFit image output counts report ≡ true
