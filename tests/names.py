@@ -44,7 +44,7 @@ class Tree:
             for key in {file, file.removeprefix("Laws/"), file.removeprefix("Code/")}:
                 self.specs.setdefault((crate, key), set()).update(names)
         for path in ROOT.glob("crates/*/src/*.rt"):
-            self.functions.setdefault(path.parts[-3], set()).update(re.findall(r"\b(?:fn|struct|enum) (\w+)", read(path)))
+            self.functions.setdefault(path.parts[-3], set()).update(re.findall(r"\b(?:fn|struct|enum|const) (\w+)", read(path)))
         for path in ROOT.glob("crates/*/must-fail/*.edit"):
             self.edits.add((path.parts[-3], path.stem))
         self.files = [p for p in ROOT.rglob("*") if "target" not in p.parts and ".git" not in p.parts]
