@@ -4,5 +4,6 @@ pub mod Environment
 pub mod Perform
 pub mod Decide
 pub mod Exclusions
+pub mod Instances
 pub mod Code
 pub mod Laws
