@@ -11,10 +11,12 @@ numberOf InputTooLong = 11
 numberOf InputEnds = 1
 -- count over its limit
 numberOf CountOverLimit = 2
--- field out of range: of a task, of a process, a tag or state
+-- field out of range, by its section: of a task
 numberOf TaskField = 3
-numberOf ProcessField = 3
-numberOf CellField = 3
+-- of a process, the flag with them
+numberOf ProcessField = 12
+-- a tag or state
+numberOf CellField = 13
 -- bytes left over
 numberOf BytesLeftOver = 4
 -- a window that isn't empty ends past its memory
