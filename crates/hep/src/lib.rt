@@ -144,7 +144,7 @@ fn put_row(rows: &mut [Row], i: usize, r: Row)
 
 // ---- the calls
 
-// Reads an image into the buffers: 1 to 6, then 7. Its answer is the sizes of the state that was read. A refusal changes nothing;
+// Reads an image into the buffers: the image's refusals, then 7. Its answer is the sizes of the state that was read. A refusal changes nothing;
 // beyond the sizes nothing is changed.
 pub fn read(
     rows: &mut [Row],

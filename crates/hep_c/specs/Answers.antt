@@ -26,9 +26,9 @@ use Rattle.report_text.specs.Texts.{reportRoom}
 use Rattle.step.specs.Queues.{ptCount}
 use Rattle.window.specs.Limits.{tasks}
 
--- hep_check answers the number of checkAnswer (library Calls): 1 to 6
+-- hep_check answers the number of checkAnswer (library Calls)
 
--- ---- hep_sizes: 1 to 6, then 7 where the slice of sizes is too short
+-- ---- hep_sizes: the image's refusals, then 7 where the slice of sizes is too short
 
 -- five numbers: rows, constants, registers, program, data words
 unfoldable pub sizesListed : Sizes → List ℕ
@@ -45,7 +45,7 @@ unfoldable pub sizesLeft : Answer Sizes → (sizes : List ℕ) → List ℕ
 sizesLeft (refuses e) sizes = sizes
 sizesLeft (answers n) sizes = over (sizesListed n) sizes
 
--- ---- hep_run: 1 to 6, then 7, then 9 and 10
+-- ---- hep_run: the image's refusals, then 7, then 9 and 10
 
 -- the slices that are lent: the memories of the state, and what the results go to
 pub record Slices : Type 0 where

@@ -46,7 +46,7 @@ fn put_numbers(numbers: &[u64], out: &mut [u64])
 
 // ---- images
 
-// 0 where the image is accepted, else the refusal's number: 1 to 6.
+// 0 where the image is accepted, else the number of its refusal.
 #[no_mangle]
 pub extern "C" fn hep_check(image: &[u8]) -> u32
     ensures { λ r. ⌜ r ≡ numberAnswered (checkAnswer (decode (now (image .entry)))) ⌝ }
@@ -77,7 +77,7 @@ fn put_sizes(n: Sizes, sizes: &mut [u64]) -> u32
     0
 }
 
-// The sizes of rows, constants, registers, program and data words go to `sizes`: 1 to 6, then 7.
+// The sizes of rows, constants, registers, program and data words go to `sizes`: the image's refusals, then 7.
 #[no_mangle]
 pub extern "C" fn hep_sizes(image: &[u8], sizes: &mut [u64]) -> u32
     ensures answer { λ r. ⌜ r ≡ numberAnswered (sizesAnswer (length (now (sizes .entry))) (decode (now (image .entry)))) ⌝ }
@@ -303,7 +303,7 @@ fn run_sound(
     0
 }
 
-// Reads the image into the memories, runs the schedule, and writes the image after the run, the counts and the report: 1 to 6, then 7,
+// Reads the image into the memories, runs the schedule, and writes the image after the run, the counts and the report: the image's refusals, then 7,
 // then 9 and 10.
 #[no_mangle]
 pub extern "C" fn hep_run(

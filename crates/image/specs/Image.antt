@@ -236,7 +236,7 @@ afterSections (accepted i []) =
     (cond (not (distinct (map ptOf (i .processes)) && totalSound (length (i .processes)) (i .flag))) (bad ProcessesClash)
     (good i))
 
--- reading an image: refusals 1 to 3 in byte order, then 4, 5 and 6
+-- reading an image: refusals 1, 2, 3, 12 and 13 in byte order, then 4, 5 and 6
 unfoldable pub decode : List ℕ → Decoded
 decode b = afterSections (imageCodec .dec b)
 

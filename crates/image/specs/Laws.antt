@@ -11,3 +11,5 @@ pub mod Fields
 pub mod DecodeSound
 pub mod Trips
 pub mod Opened
+pub mod Refusals
+pub mod Sections

@@ -1,6 +1,9 @@
 pub mod Codec
 pub mod Image
+pub mod Sections
 pub mod Fields
 pub mod Demand3
 pub mod RoundTrips
+pub mod SectionNumbers
+pub mod Trials
 pub mod Laws

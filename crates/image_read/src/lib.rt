@@ -257,7 +257,7 @@ fn read_sound(
     )
 }
 
-// Refusals 1 to 6, then 7. A refusal changes no buffer; beyond the sizes nothing is touched.
+// The image's refusals, then 7. A refusal changes no buffer; beyond the sizes nothing is touched.
 pub fn read(
     rows: Rows,
     table: ProcessTable,

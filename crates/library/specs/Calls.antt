@@ -34,13 +34,13 @@ unfoldable pub leaving : {A B : Type 0} → Answer A → (before after : B) → 
 leaving (refuses e) before after = before
 leaving (answers a) before after = after
 
--- ---- checking an image: 1 to 6. Its answer is the sizes of the state
+-- ---- checking an image: the image's refusals. Its answer is the sizes of the state
 
 unfoldable pub checkAnswer : Decoded → Answer Sizes
 checkAnswer (bad e) = refuses e
 checkAnswer (good i) = answers (sizesOf (stateOf i))
 
--- ---- reading: 1 to 6, then 7. Its answer is the sizes of the state
+-- ---- reading: the image's refusals, then 7. Its answer is the sizes of the state
 
 unfoldable pub decodedRefusal : Room → Decoded → Option Refusal
 decodedRefusal room (bad e) = some e

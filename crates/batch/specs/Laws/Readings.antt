@@ -1,4 +1,4 @@
--- An image of at most 65,536 bytes has room in buffers of 8,192 places, so reading it there is refused by 1 to 6 only, or gives a sound state.
+-- An image of at most 65,536 bytes has room in buffers of 8,192 places, so reading it there is refused by the image's refusals only, or gives a sound state.
 use Prim.Native.Nat.{ℕ, _≤_}
 use mathlib.Core.Path.{_≡_, refl, ap, _∙_, subst}
 use mathlib.Core.Bool.{true}
@@ -75,7 +75,7 @@ module _ (s : List ℕ) (short : length s ≤ 65536) where
     unfolding readAnswered readAnswer decodedAnswer
     read-bad e d = reads .answer ∙ rw d
 
-    -- a refusal is one of 1 to 6
+    -- a refusal is the image's
     pub read-refused : (l : List ℕ) (e : Refusal) → x ≡ Refused e → refusalLine e ≡ outputRead l (decode s)
     unfolding outputRead
     read-refused l e a = go (decode s) refl

@@ -19,7 +19,7 @@ use Rattle.hep_c.specs.Laws.Fitting.{accepted}
 use Rattle.hep_c.specs.Laws.Numbers.{found-bad, found-good, numbered-unless, refused-stays}
 
 module _ (image schedule : List ℕ) (l : Slices) where
-  -- 1 to 6
+  -- the image's refusals
   pub check-stays : (e : Refusal) (r : ℕ) → readAnswered (checkAnswer (decode image)) ≡ Refused e → r ≡ numberOf e → ImageRunPromise image schedule l r l
   unfolding imageRunAnswer imageRunLeft numberAnswered
   check-stays e r h k = let q = found-bad (decode image) e h in record { answer = rw q k; leaves = rw q }

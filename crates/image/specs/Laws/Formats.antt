@@ -7,7 +7,6 @@ use Rattle.word.specs.Fields.{pswSound}
 use Rattle.window.specs.declared.Row.{Row}
 use Rattle.window.specs.Sound.{bits, tagSound, stateSound}
 use Rattle.step.specs.Soundness.{taskSound, kindSound, recordSound, ptSound, flagSound}
-use Rattle.refusal.specs.declared.Refusal.the-variants.{TaskField, ProcessField, CellField}
 use Rattle.image.specs.Laws.Codec.{Lawful, num-lawful, seq-lawful, via-lawful, section-lawful, listSection-lawful, uniform-lawful}
 use Rattle.image.specs.Image.{rowCodec, toRow, fromRow, rowTask, tasksCodec, processCodec, toProcess, fromProcess, processTask, processesCodec}
 use Rattle.image.specs.Image.{wordCodec, wordsCodec, cellCodec, toCell, fromCell, cellsCodec, imageCodec, toImage, fromImage}
@@ -16,32 +15,32 @@ pub row-lawful : (before : ℕ) → Lawful (rowCodec before)
 unfolding rowCodec
 row-lawful before =
     via-lawful toRow fromRow (λ x. refl) (λ x. refl)
-    (seq-lawful (num-lawful 1 TaskField (taskSound before))
-    (λ _. seq-lawful (num-lawful 2 TaskField (bits 12))
-    (λ _. seq-lawful (num-lawful 2 TaskField (bits 10))
-    (λ _. seq-lawful (num-lawful 2 TaskField (bits 10))
-    (λ _. seq-lawful (num-lawful 2 TaskField (bits 16))
-    (λ _. seq-lawful (num-lawful 2 TaskField (bits 16))
-    (λ _. seq-lawful (num-lawful 4 TaskField (bits 24))
-    (λ _. seq-lawful (num-lawful 4 TaskField (bits 24))
-    (λ _. seq-lawful (num-lawful 1 TaskField kindSound)
-    (λ kind. num-lawful 8 TaskField (recordSound kind)))))))))))
+    (seq-lawful (num-lawful 1 _ (taskSound before))
+    (λ _. seq-lawful (num-lawful 2 _ (bits 12))
+    (λ _. seq-lawful (num-lawful 2 _ (bits 10))
+    (λ _. seq-lawful (num-lawful 2 _ (bits 10))
+    (λ _. seq-lawful (num-lawful 2 _ (bits 16))
+    (λ _. seq-lawful (num-lawful 2 _ (bits 16))
+    (λ _. seq-lawful (num-lawful 4 _ (bits 24))
+    (λ _. seq-lawful (num-lawful 4 _ (bits 24))
+    (λ _. seq-lawful (num-lawful 1 _ kindSound)
+    (λ kind. num-lawful 8 _ (recordSound kind)))))))))))
 
 pub process-lawful : (rows : List Row) (before : ℕ) → Lawful (processCodec rows before)
 unfolding processCodec
 process-lawful rows before =
     via-lawful toProcess fromProcess (λ x. refl) (λ x. refl)
-    (seq-lawful (num-lawful 1 ProcessField ptSound)
-    (λ _. seq-lawful (num-lawful 1 ProcessField _)
-    (λ _. num-lawful 8 ProcessField pswSound)))
+    (seq-lawful (num-lawful 1 _ ptSound)
+    (λ _. seq-lawful (num-lawful 1 _ _)
+    (λ _. num-lawful 8 _ pswSound)))
 
 word-lawful : Lawful wordCodec
 unfolding wordCodec
-word-lawful = num-lawful 8 CellField (λ _. true)
+word-lawful = num-lawful 8 _ (λ _. true)
 
 cell-lawful : (good : ℕ → Bool) → Lawful (cellCodec good)
 unfolding cellCodec
-cell-lawful good = via-lawful toCell fromCell (λ x. refl) (λ x. refl) (seq-lawful (num-lawful 1 CellField good) (λ _. word-lawful))
+cell-lawful good = via-lawful toCell fromCell (λ x. refl) (λ x. refl) (seq-lawful (num-lawful 1 _ good) (λ _. word-lawful))
 
 words-lawful : (w most : ℕ) → Lawful (wordsCodec w most)
 unfolding wordsCodec
@@ -57,7 +56,7 @@ tasks-lawful = listSection-lawful rowTask row-lawful 1 7 0
 
 processes-lawful : (rows : List Row) → Lawful (processesCodec rows)
 unfolding processesCodec
-processes-lawful rows = section-lawful processTask (process-lawful rows) (num-lawful 1 ProcessField flagSound) 1 64 0
+processes-lawful rows = section-lawful processTask (process-lawful rows) (num-lawful 1 _ flagSound) 1 64 0
 
 pub image-lawful : Lawful imageCodec
 unfolding imageCodec

@@ -21,7 +21,7 @@ use Rattle.step.specs.Soundness.{memorySound}
 use Rattle.step.specs.Laws.Sound.{hasRow-range}
 use Rattle.step.specs.Laws.Every.{every-parts}
 use Rattle.refusal.specs.declared.Refusal.{Refusal}
-use Rattle.refusal.specs.declared.Refusal.the-variants.{CountOverLimit, TaskField, ProcessField, CellField}
+use Rattle.refusal.specs.declared.Refusal.the-variants.{CountOverLimit}
 use Rattle.image.specs.declared.Process.{Process}
 use Rattle.image.specs.Codec.{Codec, num, count, seq, via, okMany, section, noHeader, listSection, noState, uniformSection}
 use Rattle.image.specs.Image.{Image, rowCodec, rowTask, tasksCodec, processCodec, processTask, processesCodec, wordCodec}
@@ -86,15 +86,15 @@ row-ok : (before : ℕ) (r : Row) → rowCodec before .ok r ≡ rowSound before 
 unfolding rowCodec via seq rowSound basesSound
 row-ok before r =
     simp and-assoc
-    (ap₂ _&&_ (num-ok 1 TaskField (taskSound before) (task-fits before) (r .task))
-    (ap₂ _&&_ (bits-ok 12 2 TaskField (omega arith) (r .cb))
-    (ap₂ _&&_ (bits-ok 10 2 TaskField (omega arith) (r .rb))
-    (ap₂ _&&_ (bits-ok 10 2 TaskField (omega arith) (r .rl))
-    (ap₂ _&&_ (bits-ok 16 2 TaskField (omega arith) (r .pb))
-    (ap₂ _&&_ (bits-ok 16 2 TaskField (omega arith) (r .pl))
-    (ap₂ _&&_ (bits-ok 24 4 TaskField (omega arith) (r .db))
-    (ap₂ _&&_ (bits-ok 24 4 TaskField (omega arith) (r .dl))
-    (ap₂ _&&_ (num-ok 1 TaskField kindSound kind-fits (r .kind)) (num-ok 8 TaskField (recordSound (r .kind)) (record-fits (r .kind)) (r .psw)))))))))))
+    (ap₂ _&&_ (num-ok 1 _ (taskSound before) (task-fits before) (r .task))
+    (ap₂ _&&_ (bits-ok 12 2 _ (omega arith) (r .cb))
+    (ap₂ _&&_ (bits-ok 10 2 _ (omega arith) (r .rb))
+    (ap₂ _&&_ (bits-ok 10 2 _ (omega arith) (r .rl))
+    (ap₂ _&&_ (bits-ok 16 2 _ (omega arith) (r .pb))
+    (ap₂ _&&_ (bits-ok 16 2 _ (omega arith) (r .pl))
+    (ap₂ _&&_ (bits-ok 24 4 _ (omega arith) (r .db))
+    (ap₂ _&&_ (bits-ok 24 4 _ (omega arith) (r .dl))
+    (ap₂ _&&_ (num-ok 1 _ kindSound kind-fits (r .kind)) (num-ok 8 _ (recordSound (r .kind)) (record-fits (r .kind)) (r .psw)))))))))))
 
 word-ok : (v : ℕ) → wordCodec .ok v ≡ wordSound v
 unfolding wordCodec num wordSound bits
@@ -103,7 +103,7 @@ word-ok v = and-true (ltb v (2 ^ 64))
 module _ (tag : ℕ → Bool) (fits : (t : ℕ) → tag t ≡ true → t < 256 ^ 1) where
   cell-ok : (c : Cell) → cellCodec tag .ok c ≡ tag (c .tag) && wordSound (c .word)
   unfolding cellCodec via seq
-  cell-ok c = ap₂ _&&_ (num-ok 1 CellField tag fits (c .tag)) (word-ok (c .word))
+  cell-ok c = ap₂ _&&_ (num-ok 1 _ tag fits (c .tag)) (word-ok (c .word))
 
 -- the tasks of the processes ascend from task `before` on
 unfoldable pub ascends : (before : ℕ) → List ℕ → Bool
@@ -115,11 +115,11 @@ module _ (rows : List Row) (ordered : rowsSound 0 rows ≡ true) where
       → processCodec rows before .ok p ≡ ptSound (p .pt) && ((leb before (p .task) && hasRow (p .task) rows) && pswSound (p .psw))
   unfolding processCodec via seq ptSound
   process-ok before p =
-      ap₂ _&&_ (num-ok 1 ProcessField ptSound (λ v g. omega (arith, ltb-true v 64 g)) (p .pt))
+      ap₂ _&&_ (num-ok 1 _ ptSound (λ v g. omega (arith, ltb-true v 64 g)) (p .pt))
       (ap₂ _&&_
-      (num-ok 1 ProcessField (λ t. leb before t && hasRow t rows)
+      (num-ok 1 _ (λ t. leb before t && hasRow t rows)
       (λ t g. omega (arith, hasRow-range 0 t rows ordered (and-right (leb before t) (hasRow t rows) g) .1)) (p .task))
-      (num-ok 8 ProcessField pswSound psw-fits (p .psw)))
+      (num-ok 8 _ pswSound psw-fits (p .psw)))
 
 -- ---- sections
 
@@ -215,9 +215,9 @@ module _ (rows : List Row) (ordered : rowsSound 0 rows ≡ true) where
       && ((ascends 0 (map taskOf ps) && every (λ t. hasRow t rows) (map taskOf ps)) && every pswSound (map pswOf ps))))
   unfolding processesCodec flagSound
   processes-ok flag ps =
-      section-ok (num 1 ProcessField flagSound) (processCodec rows) processTask 1 64 (omega arith) 0 flag ps
+      section-ok (num 1 _ flagSound) (processCodec rows) processTask 1 64 (omega arith) 0 flag ps
       ∙ ap (λ (b : Bool). leb (length ps) 64 && b)
-      (ap₂ _&&_ (num-ok 1 ProcessField flagSound (λ f g. omega (arith, leb-true f 1 g)) flag) (many-processes 0 ps))
+      (ap₂ _&&_ (num-ok 1 _ flagSound (λ f g. omega (arith, leb-true f 1 g)) flag) (many-processes 0 ps))
 
   processes-pass : (flag : ℕ) (ps : List Process) → processesCodec rows .ok (flag, ps) ≡ true → PassedAll rows flag ps
   processes-pass flag ps h =

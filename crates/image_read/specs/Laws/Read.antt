@@ -34,7 +34,7 @@ unfolding readAnswer readLeaves
 decoded-promise b bytes d r a q e k =
     read-promise (e ∙ ap (λ (x : Decoded). readAnswered (decodedAnswer (roomOf b) x)) (sym q)) (k ∙ ap (decodedLeaves b) (sym q))
 
--- 1 to 6
+-- the image's refusals
 pub read-refused : (b : Buffers) (bytes : List ℕ) (e : Refusal) → readAnswered (checkAnswer (decode bytes)) ≡ Refused e → ReadPromise b bytes (Refused e) b
 unfolding readAnswered checkAnswer decodedAnswer decodedLeaves
 read-refused b bytes e h = go (decode bytes) refl h
