@@ -68,6 +68,25 @@ fn exit_codes() {
     assert_eq!(String::from_utf8(error).unwrap(), reason);
 }
 
+/// Every command that reads bytes says where they are bad, of bytes and of hex digits.
+#[test]
+fn refused_bytes() {
+    let bad = [0, 1, 1, 0, 0, 2];
+    let reason = "hep-image: refused as a batch input: R12: process section: create fault flag 0x02 is over 0x01 \
+                  (byte 5 of the batch input, 0x5, counted from 0)\n\
+                  or as an image: R12: process section, process 1 of 1: task 0x00 is not listed in the task section \
+                  (byte 4 of the image, 0x4, counted from 0)\n";
+    for arguments in
+        [&["asm"][..], &["dump"], &["dump", "--after"], &["trace"], &["timeline"], &["share", "1"]]
+    {
+        for file in [&bad[..], tool::to_hex(&bad).as_bytes()] {
+            let output = image_tool(arguments, file);
+            assert_eq!(output.status.code(), Some(1), "{arguments:?}");
+            assert_eq!(String::from_utf8(output.stderr).unwrap(), reason, "{arguments:?}");
+        }
+    }
+}
+
 #[test]
 fn files_and_pipes() {
     let folder = env::temp_dir().join(format!("hep-image-{}", process::id()));
@@ -119,9 +138,9 @@ fn generated_files() {
     let path = folder.to_str().unwrap();
     let generate = |arguments: &[&str]| run(env!("CARGO_BIN_EXE_hep-generate"), arguments, b"");
     assert!(generate(&["--refused", path]).status.success());
-    for number in 1..=6 {
+    for number in [1, 2, 3, 4, 5, 6, 12, 13] {
         let image = fs::read(folder.join(format!("R{number}.bin"))).unwrap();
-        assert_eq!(image::read(&image).err(), Some(number));
+        assert_eq!(image::read(&image).err().map(|refusal| refusal.number), Some(number));
     }
     assert!(generate(&["--small", "3", "2", path]).status.success());
     assert_eq!(fs::read(folder.join("3-000001.bin")).unwrap(), generate::small_input(3, 1));

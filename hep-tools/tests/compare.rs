@@ -51,14 +51,24 @@ fn cases_are_shrunk() {
     });
     let source = tool::load(&quality).expect("accepted");
     assert!(source.draft.registers.len() <= 2, "{}", tool::to_hex(&quality));
-    // A refusal that isn't given.
-    let refused = told_apart(|_, mut answer| {
-        if answer.output == b"R3\n" {
-            answer.output = b"R2\n".to_vec();
-        }
+    // A refusal that isn't given, for a field of each kind of section; before a cell a row may be left.
+    let refused = [
+        (told_apart(|_, answer| renumbered(answer, b"R3\n", b"R2\n")), 20),
+        (told_apart(|_, answer| renumbered(answer, b"R12\n", b"R3\n")), 20),
+        (told_apart(|_, answer| renumbered(answer, b"R13\n", b"R3\n")), 50),
+    ];
+    for (input, most) in refused {
+        assert!(input.len() < most, "{}", tool::to_hex(&input));
+    }
+}
+
+/// The answer with a refusal in another's place.
+fn renumbered(answer: Answer, from: &[u8], to: &[u8]) -> Answer {
+    if answer.output == from {
+        Answer { output: to.to_vec(), ..answer }
+    } else {
         answer
-    });
-    assert!(refused.len() < 20, "{}", tool::to_hex(&refused));
+    }
 }
 
 #[test]

@@ -5,6 +5,7 @@ use hep_tools::emulator::batch;
 use hep_tools::emulator::draft::batch_input;
 use hep_tools::emulator::image;
 use hep_tools::emulator::machine::Counts;
+use hep_tools::emulator::refusal::{Refusal, Section};
 use hep_tools::generate;
 
 #[test]
@@ -29,9 +30,12 @@ fn states_after_runs_are_images() {
     }
 }
 
-/// Whether this is the line of a refusal that the batch program has.
+/// The refusals that the batch program has.
+const REFUSALS: [usize; 10] = [1, 2, 3, 4, 5, 6, 10, 11, 12, 13];
+
+/// Whether this is the line of one of them.
 fn is_refusal(output: &str) -> bool {
-    [1, 2, 3, 4, 5, 6, 10, 11].iter().any(|number| output == format!("R{number}\n"))
+    REFUSALS.iter().any(|number| output == format!("R{number}\n"))
 }
 
 /// Whether these are lines of tasks by ascending number, then the line of the counts.
@@ -70,7 +74,7 @@ fn is_number(text: &str) -> bool {
 
 #[test]
 fn outputs_are_reports_or_refusals() {
-    let mut refused = [0; 12];
+    let mut refused = [0; 14];
     for n in 0..3_000 {
         let output = String::from_utf8(batch::output(&generate::input(13, n))).unwrap();
         assert!(is_report(&output) || is_refusal(&output), "{output:?}");
@@ -78,9 +82,62 @@ fn outputs_are_reports_or_refusals() {
             refused[number.trim().parse::<usize>().unwrap()] += 1;
         }
     }
-    for number in [1, 2, 3, 4, 5, 6, 10, 11] {
+    for number in REFUSALS {
         assert!(refused[number] > 0, "refusal {number} never came");
     }
+}
+
+/// The fields that are refused by 3, 12 and 13.
+const FIELDS: [(Section, &str); 14] = [
+    (Section::Tasks, "task number"),
+    (Section::Tasks, "CB"),
+    (Section::Tasks, "RB"),
+    (Section::Tasks, "RL"),
+    (Section::Tasks, "DB"),
+    (Section::Tasks, "DL"),
+    (Section::Tasks, "trap kind"),
+    (Section::Tasks, "trapped PSW"),
+    (Section::Processes, "create fault flag"),
+    (Section::Processes, "PT"),
+    (Section::Processes, "task"),
+    (Section::Processes, "PSW"),
+    (Section::Registers, "tag"),
+    (Section::Data, "state"),
+];
+
+#[test]
+fn every_field_is_spoilt() {
+    for make in [generate::input, generate::small_input] {
+        let refusals = (0..6_000).filter_map(|n| batch::accepted(&make(14, n)).err());
+        let (fields, others): (Vec<Refusal>, Vec<Refusal>) =
+            refusals.partition(|refusal| [3, 12, 13].contains(&refusal.number));
+        for field in FIELDS {
+            let came = fields.iter().any(|refusal| (refusal.section, refusal.field) == field);
+            assert!(came, "{field:?} never came");
+        }
+        for number in [1, 2, 4, 5, 6] {
+            let came = others.iter().any(|refusal| refusal.number == number);
+            assert!(came, "refusal {number} never came");
+        }
+    }
+}
+
+/// An input that is cut before its refused field lacks that very field.
+#[test]
+fn places_are_those_of_the_fields() {
+    let refusal = |input: &[u8]| batch::accepted(input).err();
+    let mut tried = 0;
+    for input in (0..3_000).map(|n| generate::input(15, n)) {
+        let Some(found) = refusal(&input).filter(|found| [2, 3, 12, 13].contains(&found.number))
+        else {
+            continue;
+        };
+        let cut = refusal(&input[..found.place]).expect("refused");
+        let wrong = cut.wrong.clone();
+        assert_eq!(cut, Refusal { number: 1, wrong, ..found });
+        tried += 1;
+    }
+    assert!(tried > 300, "{tried}");
 }
 
 #[test]

@@ -3,12 +3,13 @@
 use hep_tools::emulator::assemble::*;
 use hep_tools::emulator::batch;
 use hep_tools::emulator::codes;
-use hep_tools::emulator::draft::batch_input;
+use hep_tools::emulator::draft::{batch_input, Process};
 use hep_tools::emulator::image;
 use hep_tools::generate;
 use hep_tools::generate::random::Random;
 use hep_tools::tool;
 use hep_tools::tool::text::{assemble, dump, show};
+use hep_tools::trials::edges;
 
 /// That the bytes come back from their text, and the text from the bytes.
 fn both_ways(bytes: &[u8]) {
@@ -236,7 +237,130 @@ fn files_are_text_hex_or_bytes() {
     let image = batch::split(&bytes).unwrap().1;
     assert_eq!(tool::load(image).unwrap().schedule, None);
     let refused = tool::load(&batch_input(&[1, 0], image)).unwrap_err();
-    assert_eq!(refused, "refused: R10 as a batch input, R3 as an image");
+    let as_input = "R10: schedule, item 2 of 2: task 0x00 is not 0x01 to 0x07 \
+                    (byte 3 of the batch input, 0x3, counted from 0)";
+    let as_image =
+        "R12: process section, process 1 of 2: task 0x00 is not listed in the task section \
+                    (byte 4 of the image, 0x4, counted from 0)";
+    assert_eq!(
+        refused,
+        format!("refused as a batch input: {as_input}\nor as an image: {as_image}")
+    );
+}
+
+/// Fields of the full image that get these bytes, and what is said of them: number, words, and the field's place.
+const REFUSED: [(usize, &[u8], &str); 26] = [
+    (0, &[8], "R2: task section: count 0x08 is over 0x07"),
+    (1, &[0], "R3: task section, row 1 of 2: task number 0x00 must be over 0x00"),
+    (2, &[0x10, 0], "R3: task section, row 1 of 2: CB 0x1000 is over 0x0FFF"),
+    (10, &[0, 1], "R5: task section, row 1 of 2: PL 0x0001 ends the program window past its memory"),
+    (16, &[0, 0, 0, 1], "R5: task section, row 1 of 2: DL 0x00000001 ends the data window past its memory"),
+    (29, &[1], "R3: task section, row 2 of 2: task number 0x01 must be over 0x01"),
+    (34, &[0, 2], "R5: task section, row 2 of 2: RL 0x0002 ends the register window past its memory"),
+    (40, &[1, 0, 0, 1], "R3: task section, row 2 of 2: DB 0x01000001 is over 0x00FFFFFF"),
+    (48, &[2], "R3: task section, row 2 of 2: trap kind 0x02 is none of 0x00 0x12 0x14 0x16 0x1A 0x1C 0x1E 0xFF"),
+    (49, &[1, 0, 0, 0, 0, 0, 0, 7], "R3: task section, row 2 of 2: trapped PSW 0x0100000000000007 sets bits of 0xFF00000000F00000, which must be zero"),
+    (21, &[0, 0, 0, 0, 0, 0, 0, 7], "R3: task section, row 1 of 2: trapped PSW 0x0000000000000007 must be zero beside trap kind 0xFF"),
+    (57, &[65], "R2: process section: count 0x41 is over 0x40"),
+    (58, &[2], "R12: process section: create fault flag 0x02 is over 0x01"),
+    (59, &[64], "R12: process section, process 1 of 3: PT 0x40 is over 0x3F"),
+    (60, &[2], "R12: process section, process 1 of 3: task 0x02 is not listed in the task section"),
+    (69, &[5], "R6: process section, process 2 of 3: PT 0x05 stands twice"),
+    (70, &[8], "R12: process section, process 2 of 3: task 0x08 is over 0x07"),
+    (81, &[0, 0, 0, 0, 0, 0x10, 0, 0], "R12: process section, process 3 of 3: PSW 0x0000000000100000 sets bits of 0xFF00000000F00000, which must be zero"),
+    (89, &[0x10, 1], "R2: constant section: count 0x1001 is over 0x1000"),
+    (107, &[8, 1], "R2: register section: count 0x0801 is over 0x0800"),
+    (109, &[7], "R13: register section, register 1 of 5: tag 0x07 is neither 0x00 to 0x06 nor 0x08 to 0x0E"),
+    (145, &[15], "R13: register section, register 5 of 5: tag 0x0F is over 0x0E"),
+    (154, &[0, 0x10, 0, 1], "R2: program section: count 0x00100001 is over 0x00100000"),
+    (286, &[1, 0, 0, 0], "R2: data section: count 0x01000000 is over 0x00100000"),
+    (290, &[2], "R13: data section, word 1 of 32: state 0x02 is over 0x01"),
+    (569, &[255], "R13: data section, word 32 of 32: state 0xFF is over 0x01"),
+];
+
+/// What is said of an image with a reason at this place, alone and in a batch input of two items.
+fn said_of(image: &[u8], place: usize, reason: &str) {
+    let as_image = format!("{reason} (byte {place} of the image, 0x{place:X}, counted from 0)");
+    let failure = tool::dumped(image, false).unwrap_err();
+    let first = failure.lines().next().unwrap();
+    assert_eq!(first, format!("refused as an image: {as_image}"));
+    let place = place + 4;
+    let as_input =
+        format!("{reason} (byte {place} of the batch input, 0x{place:X}, counted from 0)");
+    let failure = tool::traced(&batch_input(&[1, 7], image)).unwrap_err();
+    let first = failure.lines().next().unwrap();
+    assert_eq!(first, format!("refused as a batch input: {as_input}"));
+}
+
+#[test]
+fn refusals_in_words() {
+    let full = edges::full().bytes();
+    for (place, bytes, reason) in REFUSED {
+        let mut image = full.clone();
+        image[place..][..bytes.len()].copy_from_slice(bytes);
+        said_of(&image, place, reason);
+    }
+    let longer = [&full[..], &[0; 3]].concat();
+    said_of(&longer, 578, "R4: data section: the end has more bytes behind it: 3");
+}
+
+#[test]
+fn cut_images_in_words() {
+    let full = edges::full().bytes();
+    let cases = [
+        (3, 2, "task section, row 1 of 2: CB", (1, 2)),
+        (58, 58, "process section: create fault flag", (0, 1)),
+        (88, 81, "process section, process 3 of 3: PSW", (7, 8)),
+        (90, 89, "constant section: count", (1, 2)),
+        (91, 91, "constant section, constant 1 of 2: word", (0, 8)),
+        (145, 145, "register section, register 5 of 5: tag", (0, 1)),
+        (165, 158, "program section, word 1 of 16: word", (7, 8)),
+        (577, 570, "data section, word 32 of 32: word", (7, 8)),
+    ];
+    for (end, place, field, (there, width)) in cases {
+        let reason = format!("R1: {field} is not whole: the bytes end after {there} of {width}");
+        said_of(&full[..end], place, &reason);
+    }
+}
+
+#[test]
+fn refusals_of_processes_in_words() {
+    let turned = {
+        let mut draft = edges::full();
+        draft.processes.swap(0, 2);
+        draft.bytes()
+    };
+    let words =
+        "R12: process section, process 2 of 3: task 0x01 is under 0x04 of the process before it";
+    said_of(&turned, 70, words);
+    let mut crowd = edges::full();
+    crowd.flag = 0;
+    crowd.processes = (0..64).map(|pt| Process { pt, task: 1, psw: 0 }).collect();
+    let words = "R6: process section: create fault flag 0x00 must be 0x01 beside 64 processes";
+    said_of(&crowd.bytes(), 58, words);
+}
+
+#[test]
+fn refused_schedules_in_words() {
+    let image = edges::full().bytes();
+    let failure = |input: &[u8]| tool::dumped(input, false).unwrap_err();
+    let said = |input: &[u8], reason: &str| {
+        let failure = failure(input);
+        assert!(failure.lines().any(|line| line.contains(reason)), "{failure}");
+    };
+    let place =
+        |place: usize| format!("(byte {place} of the batch input, 0x{place:X}, counted from 0)");
+    let input = batch_input(&[1, 8, 0], &image);
+    let words = "batch input: R10: schedule, item 2 of 3: task 0x08 is not 0x01 to 0x07";
+    said(&input, &format!("{words} {}", place(3)));
+    let words =
+        "batch input: R1: schedule, item 3 of 3: task is not whole: the bytes end after 0 of 1";
+    said(&input[..4], &format!("{words} {}", place(4)));
+    let words = "batch input: R1: schedule: count is not whole: the bytes end after 1 of 2";
+    said(&[0], &format!("{words} {}", place(0)));
+    let long = batch_input(&vec![1; 65_000], &image);
+    let words = "batch input: R11: batch input: length of 65580 bytes is over 65536";
+    said(&long, &format!("{words} {}", place(65_536)));
 }
 
 /// Six steps of one task and one of an unlisted one.

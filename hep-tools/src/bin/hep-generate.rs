@@ -15,7 +15,8 @@ Makes batch inputs: valid, damaged and wild ones, the same for the same seed. Th
 SEED-NUMBER.bin in DIR, or without DIR lines of hex on standard output.
 
   --small     inputs of some 1,000 bytes with at most 40 items
-  --refused   instead the smallest image for each of the refusals 1 to 6, as files R1.bin to R6.bin
+  --refused   instead the smallest image for each of the refusals 1 to 6, 12 and 13, as files
+              R1.bin to R13.bin
 ";
 
 fn main() -> io::Result<()> {
@@ -58,8 +59,8 @@ fn files(directory: &Path, seed: u64, count: u64, make: fn(u64, u64) -> Vec<u8>)
 
 fn refused(directory: &Path) -> io::Result<()> {
     fs::create_dir_all(directory)?;
-    let images = edges::smallest().into_iter().zip(1..);
-    images.map(|(image, n)| fs::write(directory.join(format!("R{n}.bin")), image)).collect()
+    let write = |(n, image)| fs::write(directory.join(format!("R{n}.bin")), image);
+    edges::smallest().into_iter().try_for_each(write)
 }
 
 fn lines(seed: u64, count: u64, make: fn(u64, u64) -> Vec<u8>) -> io::Result<()> {

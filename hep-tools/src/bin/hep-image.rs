@@ -21,7 +21,8 @@ FILE is text, hex digits or bytes; `-` or none means standard input.
   -o FILE      write there instead of to standard output (`-`)
   -h, --help   this text; after a command, that command's
 
-Exit codes: 0 done; 1 the file is refused, with line, column and reason for text;
+Exit codes: 0 done; 1 the file is refused: text with line, column and reason, bytes and hex digits
+with the refusal's number, section, field and the place of its first byte, counted from 0;
 2 wrong usage, or a file that can't be read or written.
 ";
 

@@ -67,7 +67,7 @@ fn answered(tried: &mut dyn Implementation, source: &Source) -> Result<Draft, St
     let Answer { output, image } = tried.answer(&source.bytes())?;
     match image {
         Some(image) => {
-            Ok(image::draft(&image::read(&image).map_err(|number| format!("R{number}"))?))
+            Ok(image::draft(&image::read(&image).map_err(|refusal| refusal.to_string())?))
         }
         None if output.starts_with(b"R") => Err("a generated pair is refused".to_string()),
         None => Err("it gives no images".to_string()),

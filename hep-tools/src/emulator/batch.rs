@@ -3,13 +3,10 @@
 use crate::emulator::image;
 use crate::emulator::machine::{Counts, Machine};
 use crate::emulator::psw;
+use crate::emulator::refusal::*;
 
 /// The longest input.
 pub const MOST_BYTES: usize = 65_536;
-
-const SHORT: u8 = 1;
-const BAD_ITEM: u8 = 10;
-const TOO_LONG: u8 = 11;
 
 /// What the batch program prints, and the image after the run unless it is refused.
 #[derive(Clone, PartialEq, Eq, Debug)]
@@ -24,7 +21,7 @@ pub fn answer(input: &[u8]) -> Answer {
             output: report(&machine, &counts).into_bytes(),
             image: Some(image::write(&machine)),
         },
-        Err(number) => Answer { output: refusal(number), image: None },
+        Err(refusal) => Answer { output: line(&refusal), image: None },
     }
 }
 
@@ -32,36 +29,79 @@ pub fn answer(input: &[u8]) -> Answer {
 pub fn output(input: &[u8]) -> Vec<u8> {
     match run(input) {
         Ok((machine, counts)) => report(&machine, &counts).into_bytes(),
-        Err(number) => refusal(number),
+        Err(refusal) => line(&refusal),
     }
 }
 
-fn refusal(number: u8) -> Vec<u8> {
-    format!("R{number}\n").into_bytes()
+fn line(refusal: &Refusal) -> Vec<u8> {
+    format!("R{}\n", refusal.number).into_bytes()
 }
 
-fn run(input: &[u8]) -> Result<(Machine, Counts), u8> {
+fn run(input: &[u8]) -> Result<(Machine, Counts), Refusal> {
     let (schedule, mut machine) = accepted(input)?;
     let counts = machine.run(schedule);
     Ok((machine, counts))
 }
 
-/// Schedule and machine of an input, or the number of its refusal.
-pub fn accepted(input: &[u8]) -> Result<(&[u8], Machine), u8> {
+/// Schedule and machine of an input, or why it is refused; places count from the input's start.
+pub fn accepted(input: &[u8]) -> Result<(&[u8], Machine), Refusal> {
     if input.len() > MOST_BYTES {
-        return Err(TOO_LONG);
+        return Err(too_long(input));
     }
-    let (schedule, image) = split(input).ok_or(SHORT)?;
-    let machine = image::read(image)?;
-    if !items_accepted(schedule) {
-        return Err(BAD_ITEM);
+    let (schedule, image) = split(input).ok_or_else(|| schedule_cut(input))?;
+    let start = input.len() - image.len();
+    let in_input = |refusal: Refusal| Refusal { place: start + refusal.place, ..refusal };
+    let machine = image::read(image).map_err(in_input)?;
+    match schedule.iter().position(|&item| !item_accepted(item)) {
+        Some(i) => Err(bad_item(schedule, i)),
+        None => Ok((schedule, machine)),
     }
-    Ok((schedule, machine))
+}
+
+fn too_long(input: &[u8]) -> Refusal {
+    Refusal {
+        number: TOO_LONG,
+        section: Section::Input,
+        entry: None,
+        field: "length",
+        place: MOST_BYTES,
+        wrong: format!("of {} bytes is over {MOST_BYTES}", input.len()),
+    }
+}
+
+/// The refusal of an input that ends before its schedule is whole.
+fn schedule_cut(input: &[u8]) -> Refusal {
+    let refusal = |entry, field, place, wrong| {
+        let section = Section::Schedule;
+        Refusal { number: SHORT, section, entry, field, place, wrong }
+    };
+    match input.split_first_chunk() {
+        None => refusal(None, "count", 0, cut(input.len(), 2)),
+        Some((&count, items)) => {
+            let entry = (items.len() + 1, u16::from_be_bytes(count).into());
+            refusal(Some(entry), "task", input.len(), cut(0, 1))
+        }
+    }
+}
+
+fn bad_item(schedule: &[u8], i: usize) -> Refusal {
+    Refusal {
+        number: BAD_ITEM,
+        section: Section::Schedule,
+        entry: Some((i + 1, schedule.len())),
+        field: "task",
+        place: 2 + i,
+        wrong: format!("0x{:02X} is not 0x01 to 0x07", schedule[i]),
+    }
 }
 
 /// Whether every item is the number of a task.
 pub fn items_accepted(schedule: &[u8]) -> bool {
-    schedule.iter().all(|item| (1..=7).contains(item))
+    schedule.iter().all(|&item| item_accepted(item))
+}
+
+fn item_accepted(item: u8) -> bool {
+    (1..=7).contains(&item)
 }
 
 /// Splits the input into schedule and image.

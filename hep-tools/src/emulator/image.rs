@@ -1,15 +1,9 @@
-//! Images: reading with refusals 1 to 6, and writing.
+//! Images: reading with refusals 1 to 6, 12 and 13, and writing.
 
 use crate::emulator::draft::{Draft, Process, Task};
 use crate::emulator::machine::*;
 use crate::emulator::psw;
-
-const SHORT: u8 = 1;
-const COUNT: u8 = 2;
-const FIELD: u8 = 3;
-const LEFT_OVER: u8 = 4;
-const WINDOW: u8 = 5;
-const PROCESS: u8 = 6;
+use crate::emulator::refusal::*;
 
 /// The trap kinds of an image, `NO_TRAP` among them.
 pub const KINDS: [u8; 8] = [
@@ -32,78 +26,151 @@ const DATA_BITS: u32 = 8;
 pub const MOST_CONSTANTS: usize = 4_096;
 pub const MOST_WORDS: usize = 1 << 20;
 
-type Refusable<T> = Result<T, u8>;
+const ROW_BYTES: usize = 28;
 
-/// Refuses with this number unless it holds.
-fn require(holds: bool, number: u8) -> Refusable<()> {
-    if holds {
-        Ok(())
-    } else {
-        Err(number)
-    }
+type Refusable<T> = Result<T, Refusal>;
+
+/// A field of an image: where it stands, its bytes, and its greatest value.
+struct Field {
+    section: Section,
+    name: &'static str,
+    width: usize,
+    most: u64,
+    /// The refusal of a value that it may not have.
+    number: u8,
 }
 
-/// The bytes not yet read.
+const fn count(section: Section, width: usize, most: usize) -> Field {
+    Field { section, name: "count", width, most: most as u64, number: COUNT }
+}
+
+const fn of_task(name: &'static str, width: usize, most: u64) -> Field {
+    Field { section: Section::Tasks, name, width, most, number: TASK_FIELD }
+}
+
+const fn of_process(name: &'static str, width: usize, most: u64) -> Field {
+    Field { section: Section::Processes, name, width, most, number: PROCESS_FIELD }
+}
+
+const fn of_cell(section: Section, name: &'static str, width: usize, most: u64) -> Field {
+    Field { section, name, width, most, number: CELL_FIELD }
+}
+
+const fn any_word(section: Section) -> Field {
+    of_cell(section, "word", 8, u64::MAX)
+}
+
+const TASKS: Field = count(Section::Tasks, 1, 7);
+const TASK_NUMBER: Field = of_task("task number", 1, 7);
+const CB: Field = of_task("CB", 2, 0xFFF);
+const RB: Field = of_task("RB", 2, 0x3FF);
+const RL: Field = of_task("RL", 2, 0x3FF);
+const PB: Field = of_task("PB", 2, 0xFFFF);
+const PL: Field = of_task("PL", 2, 0xFFFF);
+const DB: Field = of_task("DB", 4, 0xFF_FFFF);
+const DL: Field = of_task("DL", 4, 0xFF_FFFF);
+const KIND: Field = of_task("trap kind", 1, 0xFF);
+const TRAPPED_PSW: Field = of_task("trapped PSW", 8, u64::MAX);
+const PROCESS_COUNT: Field = count(Section::Processes, 1, PROCESSES);
+const FLAG: Field = of_process("create fault flag", 1, 1);
+const PT: Field = of_process("PT", 1, 63);
+const PROCESS_TASK: Field = of_process("task", 1, 7);
+const PSW: Field = of_process("PSW", 8, u64::MAX);
+const CONSTANT_COUNT: Field = count(Section::Constants, 2, MOST_CONSTANTS);
+const CONSTANT: Field = any_word(Section::Constants);
+const REGISTER_COUNT: Field = count(Section::Registers, 2, REGISTERS);
+const TAG: Field = of_cell(Section::Registers, "tag", 1, 14);
+const REGISTER: Field = any_word(Section::Registers);
+const PROGRAM_COUNT: Field = count(Section::Program, 4, MOST_WORDS);
+const INSTRUCTION: Field = any_word(Section::Program);
+const DATA_COUNT: Field = count(Section::Data, 4, MOST_WORDS);
+const STATE: Field = of_cell(Section::Data, "state", 1, 1);
+const DATA: Field = any_word(Section::Data);
+
+/// An image, read up to a place.
 struct Input<'a> {
-    rest: &'a [u8],
+    bytes: &'a [u8],
+    place: usize,
+    /// The entry of the section that is read, counted from 1, and of how many.
+    entry: Option<(usize, usize)>,
 }
 
 impl Input<'_> {
-    /// A big-endian field of `width` bytes.
-    fn field(&mut self, width: usize) -> Refusable<u64> {
-        require(self.rest.len() >= width, SHORT)?;
-        let (bytes, rest) = self.rest.split_at(width);
-        self.rest = rest;
-        Ok(bytes.iter().fold(0, |value, &byte| value << 8 | u64::from(byte)))
-    }
-
-    /// A field of one byte.
-    fn byte(&mut self) -> Refusable<u8> {
-        Ok(self.field(1)? as u8)
-    }
-
-    /// A field no greater than `most`.
-    fn within(&mut self, width: usize, most: u64) -> Refusable<u64> {
-        let value = self.field(width)?;
-        require(value <= most, FIELD)?;
+    /// The value of the field that is next, big-endian.
+    fn value(&mut self, field: &Field) -> Refusable<u64> {
+        let rest = &self.bytes[self.place..];
+        let Some(bytes) = rest.get(..field.width) else {
+            let wrong = cut(rest.len(), field.width);
+            return Err(Refusal { number: SHORT, ..self.refusal(field, self.place, wrong) });
+        };
+        self.place += field.width;
+        let value = bytes.iter().fold(0, |value, &byte| value << 8 | u64::from(byte));
+        let over = || format!("is over {}", hex(field.most, field.width));
+        self.require(value <= field.most, field, value, over)?;
         Ok(value)
     }
 
     /// A section's count.
-    fn count(&mut self, width: usize, most: usize) -> Refusable<usize> {
-        let value = self.field(width)? as usize;
-        require(value <= most, COUNT)?;
+    fn count(&mut self, field: &Field) -> Refusable<usize> {
+        self.entry = None;
+        Ok(self.value(field)? as usize)
+    }
+
+    fn status_word(&mut self, field: &Field) -> Refusable<u64> {
+        let value = self.value(field)?;
+        let zero = || format!("sets bits of {}, which must be zero", hex(psw::ZERO, 8));
+        self.require(value & psw::ZERO == 0, field, value, zero)?;
         Ok(value)
     }
 
-    fn status_word(&mut self) -> Refusable<u64> {
-        let value = self.field(8)?;
-        require(value & psw::ZERO == 0, FIELD)?;
-        Ok(value)
+    /// Refuses the value of the field that was just read unless this holds.
+    fn require(
+        &self,
+        holds: bool,
+        field: &Field,
+        value: u64,
+        wrong: impl Fn() -> String,
+    ) -> Refusable<()> {
+        if holds {
+            return Ok(());
+        }
+        let wrong = format!("{} {}", hex(value, field.width), wrong());
+        Err(self.refusal(field, self.place - field.width, wrong))
+    }
+
+    fn refusal(&self, field: &Field, place: usize, wrong: String) -> Refusal {
+        let Field { section, name, number, .. } = *field;
+        Refusal { number, section, entry: self.entry, field: name, place, wrong }
     }
 }
 
-/// The machine of an image, or the number of the refusal.
+/// A value in hex, as it stands in so many bytes.
+fn hex(value: u64, width: usize) -> String {
+    format!("0x{value:0digits$X}", digits = 2 * width)
+}
+
+/// The machine of an image, or why it is refused.
 pub fn read(bytes: &[u8]) -> Refusable<Machine> {
     let mut machine = Machine::blank();
-    let mut input = Input { rest: bytes };
+    let mut input = Input { bytes, place: 0, entry: None };
     tasks(&mut machine, &mut input)?;
-    let twice = processes(&mut machine, &mut input)?;
+    let clash = processes(&mut machine, &mut input)?;
     constants(&mut machine, &mut input)?;
     registers(&mut machine, &mut input)?;
     program(&mut machine, &mut input)?;
     data(&mut machine, &mut input)?;
-    require(input.rest.is_empty(), LEFT_OVER)?;
-    require(windows_fit(&machine), WINDOW)?;
-    require(!twice && (machine.flag || machine.used != u64::MAX), PROCESS)?;
-    Ok(machine)
+    let late = left_over(&input).or_else(|| window_past_memory(&machine)).or(clash);
+    late.map_or(Ok(machine), Err)
 }
 
 fn tasks(machine: &mut Machine, input: &mut Input) -> Refusable<()> {
+    let count = input.count(&TASKS)?;
     let mut last = 0;
-    for _ in 0..input.count(1, 7)? {
-        let number = input.within(1, 7)?;
-        require(number > last, FIELD)?;
+    for i in 0..count {
+        input.entry = Some((i + 1, count));
+        let number = input.value(&TASK_NUMBER)?;
+        let ascends = || format!("must be over {}", hex(last, 1));
+        input.require(number > last, &TASK_NUMBER, number, ascends)?;
         last = number;
         row(&mut machine.rows[number as usize], input)?;
     }
@@ -112,97 +179,149 @@ fn tasks(machine: &mut Machine, input: &mut Input) -> Refusable<()> {
 
 fn row(row: &mut Row, input: &mut Input) -> Refusable<()> {
     row.listed = true;
-    row.constant_base = (input.within(2, 0xFFF)? << 1) as u32;
-    row.registers = window(input, 2, 0x3FF, REGISTER_BITS)?;
-    row.program = window(input, 2, 0xFFFF, PROGRAM_BITS)?;
-    row.data = window(input, 4, 0xFF_FFFF, DATA_BITS)?;
-    row.kind = input.byte()?;
-    require(KINDS.contains(&row.kind), FIELD)?;
-    row.trapped = input.status_word()?;
-    require(row.kind != NO_TRAP || row.trapped == 0, FIELD)
+    row.constant_base = (input.value(&CB)? << 1) as u32;
+    row.registers = Window::new(input.value(&RB)?, input.value(&RL)?, REGISTER_BITS);
+    row.program = Window::new(input.value(&PB)?, input.value(&PL)?, PROGRAM_BITS);
+    row.data = Window::new(input.value(&DB)?, input.value(&DL)?, DATA_BITS);
+    let kind = input.value(&KIND)?;
+    row.kind = kind as u8;
+    let kinds = || format!("is none of{}", KINDS.map(|kind| format!(" 0x{kind:02X}")).concat());
+    input.require(KINDS.contains(&row.kind), &KIND, kind, kinds)?;
+    row.trapped = input.status_word(&TRAPPED_PSW)?;
+    let zero = row.kind != NO_TRAP || row.trapped == 0;
+    let beside = || "must be zero beside trap kind 0xFF".to_string();
+    input.require(zero, &TRAPPED_PSW, row.trapped, beside)
 }
 
-fn window(input: &mut Input, width: usize, most: u64, appended: u32) -> Refusable<Window> {
-    let base = input.within(width, most)?;
-    let limit = input.within(width, most)?;
-    Ok(Window::new(base, limit, appended))
-}
-
-/// Tells whether a process number stands twice.
-fn processes(machine: &mut Machine, input: &mut Input) -> Refusable<bool> {
-    let count = input.count(1, PROCESSES)?;
-    machine.flag = input.within(1, 1)? == 1;
-    let mut last = 1;
-    let mut twice = false;
-    for _ in 0..count {
-        let pt = input.within(1, 63)? as usize;
-        let task = input.within(1, 7)? as usize;
-        require(task >= last && machine.rows[task].listed, FIELD)?;
-        last = task;
-        machine.psws[pt] = input.status_word()?;
-        machine.rows[task].push(pt);
-        twice |= machine.used >> pt & 1 != 0;
+/// Gives the refusal of processes that clash.
+fn processes(machine: &mut Machine, input: &mut Input) -> Refusable<Option<Refusal>> {
+    let count = input.count(&PROCESS_COUNT)?;
+    machine.flag = input.value(&FLAG)? == 1;
+    let flag_place = input.place - FLAG.width;
+    let mut last = 0;
+    let mut twice = Ok(());
+    for i in 0..count {
+        input.entry = Some((i + 1, count));
+        let pt = input.value(&PT)?;
+        let used = machine.used >> pt & 1 != 0;
+        twice = twice.and(input.require(!used, &PT, pt, || "stands twice".to_string()));
         machine.used |= 1 << pt;
+        let task = process_task(machine, input, last)?;
+        last = task;
+        machine.psws[pt as usize] = input.status_word(&PSW)?;
+        machine.rows[task as usize].push(pt as usize);
     }
-    Ok(twice)
+    let crowd = (!machine.flag && machine.used == u64::MAX).then(|| {
+        let wrong = format!("0x00 must be 0x01 beside {PROCESSES} processes");
+        Refusal { entry: None, ..input.refusal(&FLAG, flag_place, wrong) }
+    });
+    Ok(twice.err().or(crowd).map(|clash| Refusal { number: PROCESS, ..clash }))
+}
+
+/// A process's task, where that of the process before it is `last`.
+fn process_task(machine: &Machine, input: &mut Input, last: u64) -> Refusable<u64> {
+    let task = input.value(&PROCESS_TASK)?;
+    let listed = machine.rows[task as usize].listed;
+    let unlisted = || "is not listed in the task section".to_string();
+    input.require(listed, &PROCESS_TASK, task, unlisted)?;
+    let descends = || format!("is under {} of the process before it", hex(last, 1));
+    input.require(task >= last, &PROCESS_TASK, task, descends)?;
+    Ok(task)
 }
 
 fn constants(machine: &mut Machine, input: &mut Input) -> Refusable<()> {
-    machine.constant_count = input.count(2, MOST_CONSTANTS)?;
-    for word in &mut machine.words[REGISTERS..][..machine.constant_count] {
-        *word = input.field(8)?;
+    let count = input.count(&CONSTANT_COUNT)?;
+    machine.constant_count = count;
+    for i in 0..count {
+        input.entry = Some((i + 1, count));
+        machine.words[REGISTERS + i] = input.value(&CONSTANT)?;
     }
     Ok(())
 }
 
 fn registers(machine: &mut Machine, input: &mut Input) -> Refusable<()> {
-    machine.register_count = input.count(2, REGISTERS)?;
-    for i in 0..machine.register_count {
-        let tag = input.within(1, 14)? as u8;
-        require(tag != 7, FIELD)?;
-        machine.tags[i] = tag;
-        machine.words[i] = input.field(8)?;
+    let count = input.count(&REGISTER_COUNT)?;
+    machine.register_count = count;
+    for i in 0..count {
+        input.entry = Some((i + 1, count));
+        let tag = input.value(&TAG)?;
+        let tags = || "is neither 0x00 to 0x06 nor 0x08 to 0x0E".to_string();
+        input.require(tag != 7, &TAG, tag, tags)?;
+        machine.tags[i] = tag as u8;
+        machine.words[i] = input.value(&REGISTER)?;
     }
     Ok(())
 }
 
 fn program(machine: &mut Machine, input: &mut Input) -> Refusable<()> {
-    for _ in 0..input.count(4, MOST_WORDS)? {
-        machine.program.push(input.field(8)?);
+    let count = input.count(&PROGRAM_COUNT)?;
+    for i in 0..count {
+        input.entry = Some((i + 1, count));
+        machine.program.push(input.value(&INSTRUCTION)?);
     }
     Ok(())
 }
 
 fn data(machine: &mut Machine, input: &mut Input) -> Refusable<()> {
-    for _ in 0..input.count(4, MOST_WORDS)? {
-        machine.full.push(input.within(1, 1)? as u8);
-        machine.data.push(input.field(8)?);
+    let count = input.count(&DATA_COUNT)?;
+    for i in 0..count {
+        input.entry = Some((i + 1, count));
+        machine.full.push(input.value(&STATE)? as u8);
+        machine.data.push(input.value(&DATA)?);
     }
     Ok(())
 }
 
-/// Data windows count bytes, the others words.
-fn windows_fit(machine: &Machine) -> bool {
-    machine.rows.iter().filter(|row| row.listed).all(|row| {
-        row.registers.fits(machine.register_count as u64)
-            && row.program.fits(machine.program.len() as u64)
-            && row.data.fits(machine.data.len() as u64 * 8)
+/// The refusal of bytes behind the last section.
+fn left_over(input: &Input) -> Option<Refusal> {
+    let more = input.bytes.len() - input.place;
+    (more > 0).then(|| Refusal {
+        number: LEFT_OVER,
+        section: Section::Data,
+        entry: None,
+        field: "the end",
+        place: input.place,
+        wrong: format!("has more bytes behind it: {more}"),
     })
 }
 
-/// The name of a task's first window that ends past its memory, if there is one.
-pub fn past_its_memory(task: &Task, draft: &Draft) -> Option<&'static str> {
+/// The refusal of the first window that ends past its memory, at its limit.
+fn window_past_memory(machine: &Machine) -> Option<Refusal> {
+    let sizes = [machine.register_count, machine.program.len(), machine.data.len()];
+    let rows: Vec<Task> = machine.tasks().map(|task| drafted_task(machine, task)).collect();
+    let past = |(i, task)| past_its_memory(task, sizes).map(|name| (i, task, name));
+    let (i, task, name): (usize, &Task, _) = rows.iter().enumerate().find_map(past)?;
+    let (field, distance, limit) = match name {
+        "register" => (&RL, 5, u64::from(task.rl)),
+        "program" => (&PL, 9, u64::from(task.pl)),
+        _ => (&DL, 15, u64::from(task.dl)),
+    };
+    Some(Refusal {
+        number: WINDOW,
+        section: Section::Tasks,
+        entry: Some((i + 1, rows.len())),
+        field: field.name,
+        place: 1 + ROW_BYTES * i + distance,
+        wrong: format!("{} ends the {name} window past its memory", hex(limit, field.width)),
+    })
+}
+
+/// The name of a task's first window that ends past its memory, if there is one; the memories are of so many cells.
+pub fn past_its_memory(
+    task: &Task,
+    [registers, program, data]: [usize; 3],
+) -> Option<&'static str> {
     let fits = |base: u32, limit: u32, appended, size: usize| {
         Window::new(u64::from(base), u64::from(limit), appended).fits(size as u64)
     };
     let Task { rb, rl, pb, pl, db, dl, .. } = *task;
-    if !fits(rb.into(), rl.into(), REGISTER_BITS, draft.registers.len()) {
+    if !fits(rb.into(), rl.into(), REGISTER_BITS, registers) {
         return Some("register");
     }
-    if !fits(pb.into(), pl.into(), PROGRAM_BITS, draft.program.len()) {
+    if !fits(pb.into(), pl.into(), PROGRAM_BITS, program) {
         return Some("program");
     }
-    (!fits(db, dl, DATA_BITS, draft.data.len() * 8)).then_some("data")
+    (!fits(db, dl, DATA_BITS, data * 8)).then_some("data")
 }
 
 /// The image of a machine.

@@ -8,4 +8,5 @@ pub mod draft;
 pub mod image;
 pub mod machine;
 pub mod psw;
+pub mod refusal;
 mod step;

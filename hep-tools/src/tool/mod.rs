@@ -8,6 +8,7 @@ pub mod trace;
 use crate::emulator::batch;
 use crate::emulator::image;
 use crate::emulator::machine::Machine;
+use crate::emulator::refusal::Refusal;
 use std::ops::RangeInclusive;
 use text::{assemble, dump, Source};
 
@@ -22,7 +23,7 @@ pub fn load(bytes: &[u8]) -> Result<Source, Failure> {
     if bytes.is_empty() || bytes.iter().take(3).any(|byte| *byte < 9) {
         return from_bytes(bytes);
     }
-    let text = std::str::from_utf8(bytes).map_err(|_| refused(bytes))?;
+    let Ok(text) = std::str::from_utf8(bytes) else { return from_bytes(bytes) };
     match from_hex(text) {
         Some(bytes) => from_bytes(&bytes),
         None => assemble(text).map_err(|error| error.to_string()),
@@ -51,23 +52,44 @@ pub fn to_hex(bytes: &[u8]) -> String {
 
 /// An input if the bytes are one, else an image.
 fn from_bytes(bytes: &[u8]) -> Result<Source, Failure> {
-    if let Ok((schedule, machine)) = batch::accepted(bytes) {
-        return Ok(Source { schedule: Some(schedule.to_vec()), draft: image::draft(&machine) });
-    }
+    let as_input = match batch::accepted(bytes) {
+        Ok((schedule, machine)) => {
+            let schedule = Some(schedule.to_vec());
+            return Ok(Source { schedule, draft: image::draft(&machine) });
+        }
+        Err(refusal) => said(&refusal, "batch input"),
+    };
     match image::read(bytes) {
         Ok(machine) => Ok(Source { schedule: None, draft: image::draft(&machine) }),
-        Err(_) => Err(refused(bytes)),
+        Err(refusal) => Err(refused(bytes, &as_input, &said(&refusal, "image"))),
     }
 }
 
-fn refused(bytes: &[u8]) -> Failure {
-    let as_input = batch::accepted(bytes).err().unwrap_or(0);
-    let as_image = image::read(bytes).err().unwrap_or(0);
-    format!("refused: R{as_input} as a batch input, R{as_image} as an image")
+/// Why the bytes are refused in both readings, the likelier one first.
+fn refused(bytes: &[u8], as_input: &str, as_image: &str) -> Failure {
+    if is_like_an_input(bytes) {
+        format!("refused as a batch input: {as_input}\nor as an image: {as_image}")
+    } else {
+        format!("refused as an image: {as_image}\nor as a batch input: {as_input}")
+    }
+}
+
+/// Whether at least the schedule or the image of these bytes as a batch input is accepted.
+fn is_like_an_input(bytes: &[u8]) -> bool {
+    batch::split(bytes).is_some_and(|(schedule, image)| {
+        batch::items_accepted(schedule) || image::read(image).is_ok()
+    })
+}
+
+/// A refusal in words, with its place in the image or batch input.
+fn said(refusal: &Refusal, whole: &str) -> String {
+    let place = refusal.place;
+    format!("{refusal} (byte {place} of the {whole}, 0x{place:X}, counted from 0)")
 }
 
 fn machine(source: &Source) -> Result<Machine, Failure> {
-    image::read(&source.draft.bytes()).map_err(|number| format!("refused: R{number}"))
+    let bytes = source.draft.bytes();
+    image::read(&bytes).map_err(|refusal| format!("refused: {}", said(&refusal, "image")))
 }
 
 /// The machine before the run and the schedule.

@@ -346,8 +346,10 @@ impl Reading<'_> {
         if self.section == Section::Start {
             return Err(at(last, "the text must begin with `hep image` or `hep input`"));
         }
+        let Draft { registers, program, data, .. } = &self.draft;
+        let sizes = [registers.len(), program.len(), data.len()];
         for (task, &line) in self.draft.tasks.iter().zip(&self.task_lines) {
-            if let Some(name) = image::past_its_memory(task, &self.draft) {
+            if let Some(name) = image::past_its_memory(task, sizes) {
                 return Err(at(line, &format!("the {name} window ends past its memory")));
             }
         }

@@ -3,8 +3,8 @@
 use super::*;
 
 pub fn all(edges: &mut Edges) {
-    for (image, number) in smallest().iter().zip(1..) {
-        edges.bytes(format!("the smallest of {number}"), image, number);
+    for (number, image) in smallest() {
+        edges.bytes(format!("the smallest of {number}"), &image, number);
     }
     edges.image("nothing in any section", &Draft::default(), 0);
     ends(edges);
@@ -74,7 +74,7 @@ fn limits(edges: &mut Edges) {
     }
 }
 
-/// Two reasons at once: the bytes' order decides between 1, 2 and 3; then come 4, 5 and 6.
+/// Two reasons at once: the bytes' order decides between 1, 2, 3, 12 and 13; then come 4, 5 and 6.
 fn order(edges: &mut Edges) {
     let clash = |draft: &mut Draft| draft.processes = crowd(64);
     let past = |draft: &mut Draft| (clash(draft), draft.tasks[0].rl = 9).1;
@@ -87,10 +87,10 @@ fn order(edges: &mut Edges) {
         edges.bytes(format!("4, 5 and 6, {name}"), &[&image[..], &[0]].concat(), 4);
     }
     let crowded = |flag| move |draft: &mut Draft| (draft.processes, draft.flag) = (crowd(65), flag);
-    edges.image("2 before 3", &bench(crowded(2)), 2);
+    edges.image("2 before 12", &bench(crowded(2)), 2);
     edges.image("3 before 2", &bench(|draft| (crowded(0)(draft), draft.tasks[0].kind = 1).1), 3);
     // The count of processes stands behind the only row.
-    for (name, kind, flag, number) in [("2 before 3", 0xFF, 2, 2), ("3 before 2", 1, 0, 3)] {
+    for (name, kind, flag, number) in [("2 before 12", 0xFF, 2, 2), ("3 before 2", 1, 0, 3)] {
         let mut image = bare(|draft| (draft.tasks[0].kind, draft.flag) = (kind, flag)).bytes();
         image[29] = 65;
         edges.bytes(format!("{name}, no process"), &image, number);
@@ -102,8 +102,8 @@ fn cut_behind_a_field(edges: &mut Edges) {
     let last = bench(|draft| draft.data[31].0 = 2).bytes();
     let only = Draft { data: cells(1, 2), ..Draft::default() }.bytes();
     for (name, image) in [("of 32", last), ("alone", only)] {
-        edges.bytes(format!("3 and 4, {name}"), &[&image[..], &[0]].concat(), 3);
-        edges.bytes(format!("a bad state's word cut, {name}"), &image[..image.len() - 8], 3);
+        edges.bytes(format!("13 and 4, {name}"), &[&image[..], &[0]].concat(), 13);
+        edges.bytes(format!("a bad state's word cut, {name}"), &image[..image.len() - 8], 13);
         edges.bytes(format!("a bad state cut, {name}"), &image[..image.len() - 9], 1);
     }
     let good = Draft { data: cells(1, 1), ..Draft::default() }.bytes();
@@ -113,5 +113,5 @@ fn cut_behind_a_field(edges: &mut Edges) {
     edges.bytes("a field whole", &row[..4], 3);
     let tags = Draft { registers: cells(2, 7), ..Draft::default() }.bytes();
     let few = [&tags[..5], &[0, 9], &tags[7..26]].concat();
-    edges.bytes("a tag before the end of too few registers", &few, 3);
+    edges.bytes("a tag before the end of too few registers", &few, 13);
 }

@@ -27,7 +27,9 @@ fn schedules(edges: &mut Edges) {
         let longer = [&empty_image[..], &[0]].concat();
         edges.input(format!("item {item}, a byte left over"), longer, 4);
     }
-    edges.input("3 before 10", batch_input(&[0], &[1, 0]), 3);
+    for (number, image) in smallest() {
+        edges.input(format!("{number} before 10"), batch_input(&[0], &image), number);
+    }
     edges.input("1 before 10", batch_input(&[0], &idle[..9]), 1);
     edges.input("4 before 10", batch_input(&[8], &[&idle[..], &[0]].concat()), 4);
     let clash = bench(|draft| draft.processes = crowd(64)).bytes();
@@ -35,6 +37,11 @@ fn schedules(edges: &mut Edges) {
 }
 
 fn lengths(edges: &mut Edges) {
+    for (number, image) in smallest() {
+        let items = |length: usize| batch_input(&vec![1; length - 2 - image.len()], &image);
+        edges.input(format!("{number} in {MOST_BYTES} bytes"), items(MOST_BYTES), number);
+        edges.input(format!("11 before {number}"), items(MOST_BYTES + 1), 11);
+    }
     let idle = idle();
     for (length, number) in [(MOST_BYTES, 0), (MOST_BYTES + 1, 11)] {
         let items = vec![1; length - 2 - idle.len()];

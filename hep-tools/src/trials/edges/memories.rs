@@ -4,7 +4,7 @@ use super::*;
 
 pub fn all(edges: &mut Edges) {
     for tag in 0..=255 {
-        let number = if tag < 15 && tag != 7 { 0 } else { 3 };
+        let number = if tag < 15 && tag != 7 { 0 } else { 13 };
         for before in [0, 39] {
             let registers = [cells(before, 0), cells(1, tag)].concat();
             let draft = Draft { registers, ..Draft::default() };
@@ -14,7 +14,7 @@ pub fn all(edges: &mut Edges) {
         edges.image(format!("tag {tag} on the bench"), &draft, number);
     }
     for state in 0..=255 {
-        let number = if state < 2 { 0 } else { 3 };
+        let number = if state < 2 { 0 } else { 13 };
         for before in [0, 39] {
             let data = [cells(before, 0), cells(1, state)].concat();
             let draft = Draft { data, ..Draft::default() };

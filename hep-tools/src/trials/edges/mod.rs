@@ -5,6 +5,7 @@ mod inputs;
 mod memories;
 mod processes;
 mod rows;
+mod sections;
 
 use super::Trial;
 use crate::emulator::batch::Answer;
@@ -14,18 +15,28 @@ use crate::emulator::machine::EMPTY;
 /// The trials of every edge.
 pub fn all() -> Vec<Trial> {
     let mut edges = Edges::default();
-    for group in [images::all, rows::all, processes::all, memories::all, inputs::all] {
+    for group in [images::all, sections::all, rows::all, processes::all, memories::all, inputs::all]
+    {
         group(&mut edges);
     }
     edges.trials
 }
 
-/// The smallest image for each of the refusals 1 to 6.
-pub fn smallest() -> [Vec<u8>; 6] {
+/// The smallest image for each of the refusals that an image may have, with its number.
+pub fn smallest() -> [(u8, Vec<u8>); 8] {
     let left_over = [&Draft::default().bytes()[..], &[0]].concat();
     let past = bare(|draft| draft.tasks[0].rb = 0);
     let clash = bare(|draft| draft.processes = vec![Process { pt: 0, task: 1, psw: 0 }; 2]);
-    [vec![], vec![8], vec![1, 0], left_over, past.bytes(), clash.bytes()]
+    [
+        (1, vec![]),
+        (2, vec![8]),
+        (3, vec![1, 0]),
+        (4, left_over),
+        (5, past.bytes()),
+        (6, clash.bytes()),
+        (12, vec![0, 0, 2]),
+        (13, vec![0, 0, 0, 0, 0, 0, 1, 7]),
+    ]
 }
 
 #[derive(Default)]

@@ -11,13 +11,9 @@ pub fn all(edges: &mut Edges) {
     numbers_twice(edges);
 }
 
-/// The refusal of a status word with this bit alone, counted from the right.
-pub fn status_bit(bit: u32) -> u8 {
-    if bit >= 56 || (20..24).contains(&bit) {
-        3
-    } else {
-        0
-    }
+/// Whether a status word may have this bit, counted from the right.
+pub fn is_status_bit(bit: u32) -> bool {
+    bit < 56 && !(20..24).contains(&bit)
 }
 
 fn process(pt: u8, task: u8) -> Process {
@@ -30,7 +26,7 @@ fn two_and_five(processes: &[Process]) -> Draft {
 }
 
 fn numbers(edges: &mut Edges) {
-    for (pt, number) in [(0, 0), (63, 0), (64, 3), (255, 3)] {
+    for (pt, number) in [(0, 0), (63, 0), (64, 12), (255, 12)] {
         edges.image(format!("PT {pt}"), &bench(|draft| draft.processes[0].pt = pt), number);
         edges.image(format!("PT {pt} of task 2"), &two_and_five(&[process(pt, 2)]), number);
     }
@@ -40,19 +36,19 @@ fn numbers(edges: &mut Edges) {
 fn tasks(edges: &mut Edges) {
     for task in [0, 2, 8, 255] {
         let draft = bench(|draft| draft.processes[0].task = task);
-        edges.image(format!("a process of task {task} where 1 is listed"), &draft, 3);
+        edges.image(format!("a process of task {task} where 1 is listed"), &draft, 12);
     }
     for task in (0..=9).chain([255]) {
-        let number = if [2, 5].contains(&task) { 0 } else { 3 };
+        let number = if [2, 5].contains(&task) { 0 } else { 12 };
         let name = format!("a process of task {task} where 2 and 5 are listed");
         edges.image(name, &two_and_five(&[process(0, task)]), number);
     }
     for (first, second) in [(2, 2), (2, 5), (5, 5), (5, 2)] {
-        let number = if first <= second { 0 } else { 3 };
+        let number = if first <= second { 0 } else { 12 };
         let draft = two_and_five(&[process(0, first), process(1, second)]);
         edges.image(format!("processes of tasks {first} and {second}"), &draft, number);
     }
-    for (first, second, number) in [(1, 1, 0), (1, 2, 0), (2, 2, 0), (2, 1, 3)] {
+    for (first, second, number) in [(1, 1, 0), (1, 2, 0), (2, 2, 0), (2, 1, 12)] {
         let two = |draft: &mut Draft| {
             draft.tasks.push(Task::empty(2));
             draft.processes = vec![process(5, first), process(4, second)];
@@ -64,7 +60,8 @@ fn tasks(edges: &mut Edges) {
 
 fn status_words(edges: &mut Edges) {
     for bit in 0..64 {
-        edges.both(&format!("bit {bit} of a PSW"), status_bit(bit), |draft| {
+        let number = if is_status_bit(bit) { 0 } else { 12 };
+        edges.both(&format!("bit {bit} of a PSW"), number, |draft| {
             draft.processes = vec![Process { psw: 1 << bit, ..process(0, 1) }]
         });
     }
@@ -72,7 +69,7 @@ fn status_words(edges: &mut Edges) {
 
 fn flags(edges: &mut Edges) {
     for flag in 0..=255 {
-        let number = if flag < 2 { 0 } else { 3 };
+        let number = if flag < 2 { 0 } else { 12 };
         edges.image(format!("flag {flag}"), &Draft { flag, ..Draft::default() }, number);
         edges.image(format!("flag {flag} on the bench"), &bench(|draft| draft.flag = flag), number);
     }

@@ -49,7 +49,7 @@ fn kinds(edges: &mut Edges) {
 
 fn trapped_psws(edges: &mut Edges) {
     for bit in 0..64 {
-        let number = processes::status_bit(bit);
+        let number = if processes::is_status_bit(bit) { 0 } else { 3 };
         edges.both(&format!("bit {bit} of a trapped PSW"), number, |draft| {
             (draft.tasks[0].kind, draft.tasks[0].trapped) = (0x12, 1 << bit)
         });
