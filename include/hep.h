@@ -9,8 +9,8 @@
  *   - no slice that is written (not const) overlaps another slice of the same call.
  * Nothing else is asked: every function answers any bytes and any lengths.
  *
- * An answer of 0 means that the call did what it says. Any other is the number of a refusal, the first that applies in the order below;
- * then every lent element is as it was.
+ * An answer of 0 means that the call did what it says. Any other is the number of a refusal, the first that applies in the order below,
+ * where the order of the bytes decides between 1, 2, 3, 12 and 13; then every lent element is as it was.
  */
 #ifndef HEP_H
 #define HEP_H
@@ -26,7 +26,9 @@ enum hep_refusal {
     HEP_ACCEPTED = 0,
     HEP_INPUT_ENDS = 1,          /* the image ends before its last section is whole */
     HEP_COUNT_OVER_LIMIT = 2,    /* a count is over its limit */
-    HEP_FIELD_OUT_OF_RANGE = 3,  /* a field is out of its range */
+    HEP_TASK_FIELD = 3,          /* a field of the task section is out of its range: of a row */
+    HEP_PROCESS_FIELD = 12,      /* a field of the process section is out of its range: the flag, or of a process */
+    HEP_CELL_FIELD = 13,         /* a tag of a register or a state of a data word is out of its range */
     HEP_BYTES_LEFT_OVER = 4,     /* bytes stand after the last section */
     HEP_WINDOW_PAST_MEMORY = 5,  /* a window that isn't empty ends past its memory */
     HEP_PROCESSES_CLASH = 6,     /* a process number stands twice, or 64 processes with flag 0 */
@@ -47,12 +49,12 @@ enum { HEP_ROWS, HEP_CONSTANTS, HEP_REGISTERS, HEP_PROGRAM, HEP_DATA_WORDS };
 /* Places in `counts`. */
 enum { HEP_EXECUTED, HEP_WAVED, HEP_TRAPPED, HEP_IDLE, HEP_IMAGE_LEN, HEP_REPORT_LEN };
 
-/* 0 if the image is accepted, else 1 to 6. */
+/* 0 if the image is accepted, else 1, 2, 3, 12, 13, 4, 5 or 6. */
 uint32_t hep_check(const uint8_t *image, size_t image_len);
 
 /*
  * The counts of the image's rows, constants, registers, program words and data words go to the first five of `sizes`; the others stay.
- * Refused: 1 to 6, then 7 if `sizes` is shorter than HEP_SIZES.
+ * Refused: as hep_check, then 7 if `sizes` is shorter than HEP_SIZES.
  */
 uint32_t hep_sizes(const uint8_t *image, size_t image_len, uint64_t *sizes, size_t sizes_len);
 
@@ -66,7 +68,7 @@ uint32_t hep_sizes(const uint8_t *image, size_t image_len, uint64_t *sizes, size
  * starts with the report of the batch program. `counts`, of at least HEP_COUNTS, starts with how many steps were executed, waved, trapped
  * and idle, then the lengths of that image and of that report. What lies beyond stays.
  *
- * Refused: 1 to 6, then 7 if a slice is shorter than said, then 9, then 10.
+ * Refused: as hep_check, then 7 if a slice is shorter than said, then 9, then 10.
  */
 uint32_t hep_run(const uint8_t *image, size_t image_len,
                  const uint8_t *schedule, size_t schedule_len,

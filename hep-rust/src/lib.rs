@@ -23,8 +23,12 @@ pub enum Refusal {
     InputEnds = sys::INPUT_ENDS,
     /// A count is over its limit.
     CountOverLimit = sys::COUNT_OVER_LIMIT,
-    /// A field is out of its range.
-    FieldOutOfRange = sys::FIELD_OUT_OF_RANGE,
+    /// A field of the task section is out of its range: of a row.
+    TaskField = sys::TASK_FIELD,
+    /// A field of the process section is out of its range: the flag, or of a process.
+    ProcessField = sys::PROCESS_FIELD,
+    /// A tag of a register or a state of a data word is out of its range.
+    CellField = sys::CELL_FIELD,
     /// Bytes stand after the last section.
     BytesLeftOver = sys::BYTES_LEFT_OVER,
     /// A window that isn't empty ends past its memory.
@@ -49,7 +53,9 @@ impl Refusal {
             sys::ACCEPTED => return Ok(()),
             sys::INPUT_ENDS => Refusal::InputEnds,
             sys::COUNT_OVER_LIMIT => Refusal::CountOverLimit,
-            sys::FIELD_OUT_OF_RANGE => Refusal::FieldOutOfRange,
+            sys::TASK_FIELD => Refusal::TaskField,
+            sys::PROCESS_FIELD => Refusal::ProcessField,
+            sys::CELL_FIELD => Refusal::CellField,
             sys::BYTES_LEFT_OVER => Refusal::BytesLeftOver,
             sys::WINDOW_PAST_MEMORY => Refusal::WindowPastMemory,
             sys::PROCESSES_CLASH => Refusal::ProcessesClash,

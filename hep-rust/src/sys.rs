@@ -6,7 +6,9 @@
 pub const ACCEPTED: u32 = 0;
 pub const INPUT_ENDS: u32 = 1;
 pub const COUNT_OVER_LIMIT: u32 = 2;
-pub const FIELD_OUT_OF_RANGE: u32 = 3;
+pub const TASK_FIELD: u32 = 3;
+pub const PROCESS_FIELD: u32 = 12;
+pub const CELL_FIELD: u32 = 13;
 pub const BYTES_LEFT_OVER: u32 = 4;
 pub const WINDOW_PAST_MEMORY: u32 = 5;
 pub const PROCESSES_CLASH: u32 = 6;

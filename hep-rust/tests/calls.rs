@@ -67,13 +67,15 @@ fn images_refused() {
     let refusals = [
         Refusal::InputEnds,
         Refusal::CountOverLimit,
-        Refusal::FieldOutOfRange,
+        Refusal::TaskField,
         Refusal::BytesLeftOver,
         Refusal::WindowPastMemory,
         Refusal::ProcessesClash,
+        Refusal::ProcessField,
+        Refusal::CellField,
     ];
-    for ((image, refusal), number) in edges::smallest().iter().zip(refusals).zip(1..) {
-        assert_eq!(refusal.number(), number);
+    for ((number, image), refusal) in edges::smallest().iter().zip(refusals) {
+        assert_eq!(refusal.number(), u32::from(*number));
         assert_eq!(hep::check(image), Err(refusal));
         assert_eq!(hep::sizes(image), Err(refusal));
         assert_eq!(hep::run(image, &[9]), Err(refusal));
@@ -109,7 +111,9 @@ fn the_numbers_are_the_headers() {
         ("ACCEPTED", sys::ACCEPTED),
         ("INPUT_ENDS", sys::INPUT_ENDS),
         ("COUNT_OVER_LIMIT", sys::COUNT_OVER_LIMIT),
-        ("FIELD_OUT_OF_RANGE", sys::FIELD_OUT_OF_RANGE),
+        ("TASK_FIELD", sys::TASK_FIELD),
+        ("PROCESS_FIELD", sys::PROCESS_FIELD),
+        ("CELL_FIELD", sys::CELL_FIELD),
         ("BYTES_LEFT_OVER", sys::BYTES_LEFT_OVER),
         ("WINDOW_PAST_MEMORY", sys::WINDOW_PAST_MEMORY),
         ("PROCESSES_CLASH", sys::PROCESSES_CLASH),

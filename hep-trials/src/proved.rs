@@ -80,7 +80,8 @@ fn consistent(left: &Buffers, lengths: &Lengths) -> Result<(), String> {
     let counted = format!("E{executed} W{waved} T{trapped} I{idle} CF");
     let last = String::from_utf8_lossy(left.report()).lines().last().map(str::to_string);
     require(last.is_some_and(|last| last.starts_with(&counted)), "report and counts disagree")?;
-    let machine = image::read(left.image()).map_err(|n| format!("the image after it: R{n}"))?;
+    let machine =
+        image::read(left.image()).map_err(|refusal| format!("the image after it: {refusal}"))?;
     let draft = image::draft(&machine);
     let pairs = |tags: &[u8], words: &[u64], cells: &[(u8, u64)]| {
         cells.iter().map(|cell| cell.0).eq(tags.iter().copied())

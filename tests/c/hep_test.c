@@ -203,17 +203,37 @@ static void refused(const uint8_t *image, size_t len, uint32_t number)
 
 static void test_images_refused(void)
 {
-    for (uint32_t number = HEP_INPUT_ENDS; number <= HEP_PROCESSES_CLASH; number++) {
-        char name[] = "R0";
-        name[1] += (char)number;
+    const uint32_t numbers[] = {HEP_INPUT_ENDS, HEP_COUNT_OVER_LIMIT, HEP_TASK_FIELD, HEP_PROCESS_FIELD,
+                                HEP_CELL_FIELD, HEP_BYTES_LEFT_OVER, HEP_WINDOW_PAST_MEMORY, HEP_PROCESSES_CLASH};
+    for (size_t i = 0; i < sizeof numbers / sizeof numbers[0]; i++) {
+        char name[8];
+        snprintf(name, sizeof name, "R%u", (unsigned)numbers[i]);
         struct bytes image = file(name);
-        refused(image.at, image.len, number);
+        refused(image.at, image.len, numbers[i]);
     }
     struct bytes image = file("one"), two = file("two");
     refused(image.at, image.len - 1, HEP_INPUT_ENDS);
     image.at[image.len] = 0;
     refused(image.at, image.len + 1, HEP_BYTES_LEFT_OVER);
     EXPECT(hep_check(two.at, two.len) == HEP_ACCEPTED);
+}
+
+/* Bad fields of full.hep's image: its row is at 1, flag 30, process 31, registers 61, data words 215. The first of them decides. */
+static void test_sections(void)
+{
+    static const struct {
+        size_t place;
+        uint8_t value;
+        uint32_t number;
+    } bad[] = {
+        {1, 0, HEP_TASK_FIELD},  {26, 0x10, HEP_TASK_FIELD}, {30, 2, HEP_PROCESS_FIELD}, {38, 0x10, HEP_PROCESS_FIELD},
+        {61, 7, HEP_CELL_FIELD}, {70, 15, HEP_CELL_FIELD},   {215, 2, HEP_CELL_FIELD},   {494, 2, HEP_CELL_FIELD},
+    };
+    struct bytes image = file("full");
+    for (size_t i = sizeof bad / sizeof bad[0]; i-- > 0;) {
+        image.at[bad[i].place] = bad[i].value;
+        refused(image.at, image.len, bad[i].number);
+    }
 }
 
 static void test_buffers_refused(void)
@@ -270,6 +290,7 @@ int main(int argc, char **argv)
     test_printed();
     test_longer();
     test_images_refused();
+    test_sections();
     test_buffers_refused();
     test_schedules_refused();
     printf("c: %d checks, %d failed\n", checks, failed);

@@ -59,7 +59,7 @@ pub fn once(who: &str, class: &str, items: &str) -> Result<(), String> {
         let lengths = asked(&bytes).map_err(|number| refused(&number))?;
         black_box(Buffers::new(&lengths).run(&bytes, schedule, &lengths));
     } else {
-        let mut machine = image::read(&bytes).map_err(|number| refused(&number))?;
+        let mut machine = image::read(&bytes).map_err(|refusal| refused(&refusal.number))?;
         assert!(items_accepted(schedule));
         black_box(machine.run(schedule));
     }
