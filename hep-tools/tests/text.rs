@@ -237,15 +237,11 @@ fn files_are_text_hex_or_bytes() {
     let image = batch::split(&bytes).unwrap().1;
     assert_eq!(tool::load(image).unwrap().schedule, None);
     let refused = tool::load(&batch_input(&[1, 0], image)).unwrap_err();
-    let as_input = "R10: schedule, item 2 of 2: task 0x00 is not 0x01 to 0x07 \
-                    (byte 3 of the batch input, 0x3, counted from 0)";
-    let as_image =
-        "R12: process section, process 1 of 2: task 0x00 is not listed in the task section \
-                    (byte 4 of the image, 0x4, counted from 0)";
-    assert_eq!(
-        refused,
-        format!("refused as a batch input: {as_input}\nor as an image: {as_image}")
-    );
+    let both = "refused as a batch input: R10: schedule, item 2 of 2: task 0x00 is not 0x01 to 0x07 \
+                (byte 3 of the batch input, 0x3, counted from 0)\n\
+                or as an image: R12: process section, process 1 of 2: task 0x00 is not listed in the task section \
+                (byte 4 of the image, 0x4, counted from 0)";
+    assert_eq!(refused, both);
 }
 
 /// Fields of the full image that get these bytes, and what is said of them: number, words, and the field's place.
@@ -255,12 +251,12 @@ const REFUSED: [(usize, &[u8], &str); 26] = [
     (2, &[0x10, 0], "R3: task section, row 1 of 2: CB 0x1000 is over 0x0FFF"),
     (10, &[0, 1], "R5: task section, row 1 of 2: PL 0x0001 ends the program window past its memory"),
     (16, &[0, 0, 0, 1], "R5: task section, row 1 of 2: DL 0x00000001 ends the data window past its memory"),
+    (21, &[0, 0, 0, 0, 0, 0, 0, 7], "R3: task section, row 1 of 2: trapped PSW 0x0000000000000007 must be zero beside trap kind 0xFF"),
     (29, &[1], "R3: task section, row 2 of 2: task number 0x01 must be over 0x01"),
     (34, &[0, 2], "R5: task section, row 2 of 2: RL 0x0002 ends the register window past its memory"),
     (40, &[1, 0, 0, 1], "R3: task section, row 2 of 2: DB 0x01000001 is over 0x00FFFFFF"),
     (48, &[2], "R3: task section, row 2 of 2: trap kind 0x02 is none of 0x00 0x12 0x14 0x16 0x1A 0x1C 0x1E 0xFF"),
     (49, &[1, 0, 0, 0, 0, 0, 0, 7], "R3: task section, row 2 of 2: trapped PSW 0x0100000000000007 sets bits of 0xFF00000000F00000, which must be zero"),
-    (21, &[0, 0, 0, 0, 0, 0, 0, 7], "R3: task section, row 1 of 2: trapped PSW 0x0000000000000007 must be zero beside trap kind 0xFF"),
     (57, &[65], "R2: process section: count 0x41 is over 0x40"),
     (58, &[2], "R12: process section: create fault flag 0x02 is over 0x01"),
     (59, &[64], "R12: process section, process 1 of 3: PT 0x40 is over 0x3F"),
@@ -325,14 +321,11 @@ fn cut_images_in_words() {
 
 #[test]
 fn refusals_of_processes_in_words() {
-    let turned = {
-        let mut draft = edges::full();
-        draft.processes.swap(0, 2);
-        draft.bytes()
-    };
+    let mut turned = edges::full();
+    turned.processes.swap(0, 2);
     let words =
         "R12: process section, process 2 of 3: task 0x01 is under 0x04 of the process before it";
-    said_of(&turned, 70, words);
+    said_of(&turned.bytes(), 70, words);
     let mut crowd = edges::full();
     crowd.flag = 0;
     crowd.processes = (0..64).map(|pt| Process { pt, task: 1, psw: 0 }).collect();
@@ -343,9 +336,8 @@ fn refusals_of_processes_in_words() {
 #[test]
 fn refused_schedules_in_words() {
     let image = edges::full().bytes();
-    let failure = |input: &[u8]| tool::dumped(input, false).unwrap_err();
     let said = |input: &[u8], reason: &str| {
-        let failure = failure(input);
+        let failure = tool::dumped(input, false).unwrap_err();
         assert!(failure.lines().any(|line| line.contains(reason)), "{failure}");
     };
     let place =

@@ -5,18 +5,43 @@ use super::*;
 pub fn all(edges: &mut Edges) {
     let whole = full().bytes();
     for (i, bad) in BAD.iter().enumerate() {
-        let image = spoilt(&whole, &[bad]);
-        edges.bytes(bad.name, &image, bad.number);
-        let (start, end) = (bad.place, bad.place + bad.bytes.len());
-        edges.bytes(format!("{}, cut before it", bad.name), &image[..start], 1);
-        edges.bytes(format!("{}, its last byte cut", bad.name), &image[..end - 1], 1);
-        edges.bytes(format!("{}, cut behind it", bad.name), &image[..end], bad.number);
-        for other in &BAD[i + 1..] {
-            let name = format!("{} before {}", bad.name, other.name);
-            edges.bytes(name, &spoilt(&whole, &[bad, other]), bad.number);
-        }
+        alone(edges, &whole, bad);
+        before(edges, &whole, bad, &BAD[i + 1..]);
+        early(edges, &whole, bad);
     }
-    late(edges, &whole);
+    for reason in &LATE {
+        edges.bytes(format!("{} alone", reason.name), &spoilt(&whole, &[reason]), reason.number);
+    }
+}
+
+/// The only bad field, and the image cut in it and behind it.
+fn alone(edges: &mut Edges, whole: &[u8], bad: &Bad) {
+    let image = spoilt(whole, &[bad]);
+    edges.bytes(bad.name, &image, bad.number);
+    let behind = bad.place + bad.bytes.len();
+    edges.bytes(format!("{}, cut behind it", bad.name), &image[..behind], bad.number);
+    for end in bad.place..behind {
+        let name = format!("{}, {} of its bytes", bad.name, end - bad.place);
+        edges.bytes(name, &image[..end], 1);
+    }
+}
+
+/// A second bad field behind it.
+fn before(edges: &mut Edges, whole: &[u8], bad: &Bad, others: &[Bad]) {
+    for other in others {
+        let name = format!("{} before {}", bad.name, other.name);
+        edges.bytes(name, &spoilt(whole, &[bad, other]), bad.number);
+    }
+}
+
+/// A byte left over, a window past its memory or a PT twice beside it, which are told after it.
+fn early(edges: &mut Edges, whole: &[u8], bad: &Bad) {
+    let longer = [&spoilt(whole, &[bad])[..], &[0]].concat();
+    edges.bytes(format!("{} and 4", bad.name), &longer, bad.number);
+    for reason in &LATE {
+        let name = format!("{} and {}", bad.name, reason.name);
+        edges.bytes(name, &spoilt(whole, &[bad, reason]), bad.number);
+    }
 }
 
 /// A field that gets these bytes, and how the image is then refused.
@@ -66,6 +91,9 @@ const BAD: [Bad; 31] = [
     bad("last state", 13, 569, &[0x80]),
 ];
 
+/// What is told after all sections: the register window of row 1 past its memory, and a PT twice.
+const LATE: [Bad; 2] = [bad("5", 5, 6, &[0, 9]), bad("6", 6, 69, &[5])];
+
 /// The image with these fields bad.
 fn spoilt(whole: &[u8], fields: &[&Bad]) -> Vec<u8> {
     let mut image = whole.to_vec();
@@ -73,21 +101,4 @@ fn spoilt(whole: &[u8], fields: &[&Bad]) -> Vec<u8> {
         image[field.place..][..field.bytes.len()].copy_from_slice(field.bytes);
     }
     image
-}
-
-/// A window past its memory, a PT twice and a byte left over, alone and behind each bad field.
-fn late(edges: &mut Edges, whole: &[u8]) {
-    let past = bad("5", 5, 6, &[0, 9]);
-    let twice = bad("6", 6, 69, &[5]);
-    for reason in [&past, &twice] {
-        edges.bytes(format!("{} alone", reason.name), &spoilt(whole, &[reason]), reason.number);
-    }
-    for field in &BAD {
-        for reason in [&past, &twice] {
-            let name = format!("{} and {}", field.name, reason.name);
-            edges.bytes(name, &spoilt(whole, &[field, reason]), field.number);
-        }
-        let longer = [&spoilt(whole, &[field])[..], &[0]].concat();
-        edges.bytes(format!("{} and 4", field.name), &longer, field.number);
-    }
 }
