@@ -1,7 +1,7 @@
 #!/usr/bin/env python3
 """What moved between two commits, from the repository's root, as the tables of a landing's note (docs/landings).
 
-    landing.py BEFORE AFTER                 what moved and what stayed of each kind, by name, with the lines that the diff adds and takes away
+    landing.py BEFORE AFTER                 what moved and what stayed of each kind in crates/, by name, with the lines gained and lost; lines elsewhere by folder
     landing.py --seconds BEFORE AFTER       the seconds of each crate and of the gate, from two logs of .ci/run (`time bash .ci/run`)
 
 A definition is marked unfoldable, abbrev, record or data; any other name of specs/ is a statement, below Laws a law, below Code a step of the code. A
@@ -97,6 +97,18 @@ def moved(before, after):
         print(f"| {kind} | {stayed} | " + " | ".join(", ".join(cells[c]) for c in ("moved", "new", "gone")) + " |")
 
 
+def outside(before, after):
+    """Lines gained and lost outside the crates, by folder."""
+    total = {}
+    for line in git("diff", "--numstat", before, after, "--", ".", ":!crates").splitlines():
+        gained, lost, path = line.split("\t")
+        row = total.setdefault(path.split("/")[0] if "/" in path else "in no folder", [0, 0])
+        row[0], row[1] = row[0] + int(gained), row[1] + int(lost)
+    print("\n| Outside the crates | Lines gained | Lost |\n|---|---|---|")
+    for folder, (gained, lost) in sorted(total.items()):
+        print(f"| {folder} | {gained} | {lost} |")
+
+
 def times(log):
     text = open(log).read()
     took = {crate: int(n) for crate, n in re.findall(r"^rt: (\w+) proved \((\d+) s\)", text, flags=re.M)}
@@ -125,5 +137,6 @@ if len(sys.argv) == 4 and sys.argv[1] == "--seconds":
     seconds(*sys.argv[2:])
 elif len(sys.argv) == 3:
     moved(*sys.argv[1:])
+    outside(*sys.argv[1:])
 else:
     sys.exit(__doc__)
