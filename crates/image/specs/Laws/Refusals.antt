@@ -106,13 +106,13 @@ unfoldable pub Only : Refusal → Refusal → Type 0
 Only x e = (e ≡ InputEnds) ⊎ ((e ≡ CountOverLimit) ⊎ (e ≡ x))
 
 module _ (x : Refusal) where
-  ends : Only x InputEnds
+  input-ends : Only x InputEnds
   unfolding Only
-  ends = inl refl
+  input-ends = inl refl
 
-  over : Only x CountOverLimit
+  count-over : Only x CountOverLimit
   unfolding Only
-  over = inr (inl refl)
+  count-over = inr (inl refl)
 
   -- a field of w bytes
   fielded : (w : ℕ) (allowed : ℕ → Bool) → Refuses (Only x) (num w x allowed)
@@ -123,7 +123,7 @@ pub tasks-refuse : Refuses (Only TaskField) tasksCodec
 unfolding tasksCodec rowCodec
 tasks-refuse =
     let f = fielded TaskField in
-    list-refuses rowTask 1 tasks 0 (ends TaskField) (over TaskField) λ _.
+    list-refuses rowTask 1 tasks 0 (input-ends TaskField) (count-over TaskField) λ _.
     via-refuses toRow fromRow
     (seq-refuses (f 1 _) λ _. seq-refuses (f 2 _) λ _. seq-refuses (f 2 _) λ _. seq-refuses (f 2 _) λ _. seq-refuses (f 2 _) λ _. seq-refuses (f 2 _) λ _.
     seq-refuses (f 4 _) λ _. seq-refuses (f 4 _) λ _. seq-refuses (f 1 _) λ _. f 8 _)
@@ -132,19 +132,19 @@ pub processes-refuse : (rows : List Row) → Refuses (Only ProcessField) (proces
 unfolding processesCodec processCodec
 processes-refuse rows =
     let f = fielded ProcessField in
-    section-refuses processTask 1 ptCount 0 (ends ProcessField) (over ProcessField) (f 1 _) λ _.
+    section-refuses processTask 1 ptCount 0 (input-ends ProcessField) (count-over ProcessField) (f 1 _) λ _.
     via-refuses toProcess fromProcess (seq-refuses (f 1 _) λ _. seq-refuses (f 1 _) λ _. f 8 _)
 
 -- words are never refused for their value
 pub words-refuse : (w most : ℕ) → Refuses (Only InputEnds) (wordsCodec w most)
 unfolding wordsCodec wordCodec
-words-refuse w most = uniform-refuses w most (ends InputEnds) (over InputEnds) (any-refuses 8 CellField (ends InputEnds))
+words-refuse w most = uniform-refuses w most (input-ends InputEnds) (count-over InputEnds) (any-refuses 8 CellField (input-ends InputEnds))
 
 pub cells-refuse : (allowed : ℕ → Bool) (w most : ℕ) → Refuses (Only CellField) (cellsCodec allowed w most)
 unfolding cellsCodec cellCodec wordCodec
 cells-refuse allowed w most =
-    uniform-refuses w most (ends CellField) (over CellField)
-    (via-refuses toCell fromCell (seq-refuses (fielded CellField 1 allowed) λ _. any-refuses 8 CellField (ends CellField)))
+    uniform-refuses w most (input-ends CellField) (count-over CellField)
+    (via-refuses toCell fromCell (seq-refuses (fielded CellField 1 allowed) λ _. any-refuses 8 CellField (input-ends CellField)))
 
 -- ---- their numbers
 
