@@ -2,36 +2,28 @@
 
 use super::*;
 
+/// Registers or data words of an image.
+type Memory = fn(&mut Draft) -> &mut Vec<(u8, u64)>;
+
 pub fn all(edges: &mut Edges) {
-    tags(edges);
-    states(edges);
+    for value in 0..=255 {
+        let number = if value < 15 && value != 7 { 0 } else { 13 };
+        each(edges, "tag", value, number, |draft| &mut draft.registers);
+        let number = if value < 2 { 0 } else { 13 };
+        each(edges, "state", value, number, |draft| &mut draft.data);
+    }
     many(edges);
 }
 
-fn tags(edges: &mut Edges) {
-    for tag in 0..=255 {
-        let number = if tag < 15 && tag != 7 { 0 } else { 13 };
-        for before in [0, 39] {
-            let registers = [cells(before, 0), cells(1, tag)].concat();
-            let draft = Draft { registers, ..Draft::default() };
-            edges.image(format!("tag {tag} behind {before} registers"), &draft, number);
-        }
-        let draft = bench(|draft| draft.registers[1].0 = tag);
-        edges.image(format!("tag {tag} on the bench"), &draft, number);
+/// A tag or state of the last cell: alone, behind 39 others, and on the bench.
+fn each(edges: &mut Edges, name: &str, value: u8, number: u8, memory: Memory) {
+    for before in [0, 39] {
+        let mut draft = Draft::default();
+        *memory(&mut draft) = [cells(before, 0), cells(1, value)].concat();
+        edges.image(format!("{name} {value} behind {before}"), &draft, number);
     }
-}
-
-fn states(edges: &mut Edges) {
-    for state in 0..=255 {
-        let number = if state < 2 { 0 } else { 13 };
-        for before in [0, 39] {
-            let data = [cells(before, 0), cells(1, state)].concat();
-            let draft = Draft { data, ..Draft::default() };
-            edges.image(format!("state {state} behind {before} data words"), &draft, number);
-        }
-        let draft = bench(|draft| draft.data[31].0 = state);
-        edges.image(format!("state {state} on the bench"), &draft, number);
-    }
+    let draft = bench(|draft| memory(draft).last_mut().expect("the bench has cells").0 = value);
+    edges.image(format!("{name} {value} on the bench"), &draft, number);
 }
 
 fn many(edges: &mut Edges) {
