@@ -54,11 +54,11 @@ def imported(proof, imports):
 def pruned(proof):
     """The proof without the names that it imports and does not use."""
     body = "\n".join(line for line in proof.split("\n") if not line.startswith("use "))
-    used = set(re.findall(r'[^\s(){}.,;@"]+', re.sub(r"--.*", "", body)))
+    used = set(re.findall(r'[^\s(){}.,;@λ"]+', re.sub(r"--.*", "", body)))
     lines = []
     for line in proof.split("\n"):
         if m := re.match(r"use (\S+)\.\{(.*)\}$", line):
-            names = [n for n in m.group(2).split(", ") if n in used or ("_" in n and all(part in used for part in n.split("_") if part))]
+            names = [n for n in m.group(2).split(", ") if all(part in used for part in n.split(" as ")[-1].split("_") if part) or n in used]
             if not names:
                 continue
             line = f"use {m.group(1)}.{{{', '.join(names)}}}"

@@ -20,6 +20,8 @@ import os
 import re
 import sys
 
+from fill import pruned
+
 # ---- the parameters
 
 # How many rows an owner has, as many as there are tasks.
@@ -603,7 +605,7 @@ unfolding code.routine tablesOf
         ]
         for of in reversed([of for of in self.types if isinstance(of, Declared)]):
             body = [text for word, text in of.texts() if word in "".join(body)] + body
-        return used_only("\n\n".join(["\n".join(head), *body]))
+        return pruned(re.sub(r"(?m)^[ \t]+\n", "", "\n\n".join(["\n".join(head), *body])))
 
     def ends(self, binders, premises, answer, result, law, items, lasts, lengths, steps):
         """The walk's last lemma: from the facts at exit and what the callees said to the contract's own promise."""
@@ -1247,23 +1249,6 @@ use denote.Triple.Table.{entered, cited}
 use denote.Triple.Walked.{says, Stays, stay-ref, gave-slice, stay-dropped, walkOf, goes-ref, goes-gave-slice, goes-dropped, Walks, ends-at, walked, walk-meets}
 use denote.Exit.{yes}
 """
-
-
-def used_only(text):
-    """The file with the names that it uses in its imports, and without lines of blanks."""
-    lines = [line for line in text.split("\n") if line == "" or line.strip()]
-    body = "\n".join(line for line in lines if not line.startswith("use ") and not line.lstrip().startswith("--"))
-    words = set(re.split(r"[\s(){},;.λ]+", body))
-    kept = []
-    for line in lines:
-        if line.startswith("use ") and line.endswith("}"):
-            path, names = line[:-1].split(".{")
-            used = [n for n in names.split(", ") if n in words or n.split(" as ")[-1].strip("_") in words]
-            if not used:
-                continue
-            line = f"{path}.{{{', '.join(used)}}}"
-        kept.append(line)
-    return "\n".join(kept)
 
 
 def main():
