@@ -1179,7 +1179,8 @@ class Owned:
 
 
 SPECS = [
-    "use Rattle.library.specs.Held.{lentBuffers, heldRows, SamePlaces}",
+    "use Rattle.library.specs.Held.{lentBuffers}",
+    "use Rattle.library.specs.Code.HeldRows.{heldRows, SamePlaces}",
     "use Rattle.library.specs.Empty.{emptyRow}",
     "use Rattle.library.specs.Code.RowPlace.{placeOf, StandsAt}",
     "use Rattle.step.specs.Soundness.{hasRow}",

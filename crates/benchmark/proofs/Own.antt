@@ -6,7 +6,8 @@ use Rattle.window.specs.declared.Row.{Row}
 use Rattle.step.specs.declared.ProcessTable.{ProcessTable}
 use Rattle.library.specs.declared.Rows.{Rows}
 use Rattle.library.specs.Buffers.{Buffers}
-use Rattle.library.specs.Held.{lentBuffers, heldRows}
+use Rattle.library.specs.Held.{lentBuffers}
+use Rattle.library.specs.Code.HeldRows.{heldRows}
 use Rattle.library.specs.Empty.{noRows, noProcesses}
 use Rattle.benchmark.specs.Calls.{memoriesIn}
 

@@ -11,7 +11,8 @@ ghost use Rattle.image.specs.Image.{ptsOf, queueOf, queuesOf, pswTable, memoryO
 ghost use Rattle.image_bytes.specs.Code.Reading.{fieldAt, wordsAt, cellsAt};
 ghost use Rattle.library.specs.Buffers.{fits, holding};
 ghost use Rattle.library.specs.Calls.{checkAnswer};
-ghost use Rattle.library.specs.Held.{roomFrom, heldRows, lentBuffers, SamePlaces};
+ghost use Rattle.library.specs.Held.{roomFrom, lentBuffers};
+ghost use Rattle.library.specs.Code.HeldRows.{heldRows, SamePlaces};
 ghost use Rattle.library.specs.Promises.{readAnswered, ReadPromise};
 ghost use Rattle.library.specs.declared.ReadAnswer.the-variants.{Refused, Read};
 ghost use Rattle.image_check.specs.Code.Places.{rowsAt, processesAt, imageAt};

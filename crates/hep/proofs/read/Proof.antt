@@ -49,7 +49,8 @@ use denote.Triple.Clauses.{Lasts, ensured, lasts}
 use denote.Triple.Table.{entered, cited}
 use denote.Triple.Walked.{says, Stays, stay-ref, gave-slice, stay-dropped, walkOf, goes-ref, goes-gave-slice, goes-dropped, Walks, ends-at, walked, walk-meets}
 use denote.Exit.{yes}
-use Rattle.library.specs.Held.{lentBuffers, heldRows, SamePlaces}
+use Rattle.library.specs.Held.{lentBuffers}
+use Rattle.library.specs.Code.HeldRows.{heldRows, SamePlaces}
 use Rattle.hep.specs.Code.Rows.{loadedRows, storedRows}
 use Rattle.hep.specs.Laws.Read.{read-lent}
 use Rattle.library.specs.Promises.{ReadPromise}

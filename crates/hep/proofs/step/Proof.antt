@@ -50,7 +50,8 @@ use denote.Triple.Clauses.{Lasts, ensured, lasts}
 use denote.Triple.Table.{entered, cited}
 use denote.Triple.Walked.{says, Stays, stay-ref, gave-slice, stay-dropped, walkOf, goes-ref, goes-gave-slice, goes-dropped, Walks, ends-at, walked, walk-meets}
 use denote.Exit.{yes}
-use Rattle.library.specs.Held.{lentBuffers, heldRows}
+use Rattle.library.specs.Held.{lentBuffers}
+use Rattle.library.specs.Code.HeldRows.{heldRows}
 use Rattle.library.specs.Empty.{emptyRow}
 use Rattle.library.specs.Code.RowPlace.{placeOf, StandsAt}
 use Rattle.step.specs.Soundness.{hasRow}

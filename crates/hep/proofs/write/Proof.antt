@@ -42,7 +42,8 @@ use denote.Triple.Clauses.{Lasts, ensured, lasts}
 use denote.Triple.Table.{entered, cited}
 use denote.Triple.Walked.{says, Stays, gave-slice, stay-dropped, walkOf, goes-gave-slice, goes-dropped, Walks, ends-at, walked, walk-meets}
 use denote.Exit.{yes}
-use Rattle.library.specs.Held.{lentBuffers, heldRows}
+use Rattle.library.specs.Held.{lentBuffers}
+use Rattle.library.specs.Code.HeldRows.{heldRows}
 use Rattle.hep.specs.Code.Rows.{loadedRows}
 use Rattle.hep.specs.Laws.Write.{write-lent}
 use Rattle.library.specs.Promises.{WritePromise}

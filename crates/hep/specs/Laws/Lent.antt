@@ -8,7 +8,7 @@ use Rattle.window.specs.declared.Row.{Row}
 use Rattle.library.specs.declared.Rows.{Rows}
 use Rattle.library.specs.Buffers.{Buffers}
 use Rattle.library.specs.Calls.{orElse}
-use Rattle.library.specs.Held.{heldRows, SamePlaces}
+use Rattle.library.specs.Code.HeldRows.{heldRows, SamePlaces}
 use Rattle.hep.specs.Code.Rows.{loadedRows, storedRows}
 use Rattle.hep.specs.Laws.Rows.{loaded, stored}
 use Rattle.hep.specs.Laws.Seven.{withRows, behind, seven}

@@ -10,7 +10,7 @@ use Rattle.library.specs.declared.ReadAnswer.{ReadAnswer}
 use Rattle.library.specs.declared.Rows.{Rows}
 use Rattle.library.specs.Buffers.{Buffers, roomOf, fits, sizesOf}
 use Rattle.library.specs.Calls.{unless, leaving, decodedRefusal, decodedAnswer, readAnswer, decodedLeaves, readLeaves}
-use Rattle.library.specs.Held.{heldRows, SamePlaces}
+use Rattle.library.specs.Code.HeldRows.{heldRows, SamePlaces}
 use Rattle.library.specs.Promises.{readAnswered, ReadPromise}
 use Rattle.library.specs.Laws.Places.{fitting}
 use Rattle.library.specs.Laws.Numbers.{read-promise}

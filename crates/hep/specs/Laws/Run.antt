@@ -17,7 +17,7 @@ use Rattle.library.specs.declared.Rows.{Rows}
 use Rattle.library.specs.declared.Sizes.{Sizes}
 use Rattle.library.specs.Buffers.{Buffers, fieldsIn, holding}
 use Rattle.library.specs.Calls.{answers, unless, leaving, stateRefusal, orElse, runRefusal, runAnswer, runLeaves}
-use Rattle.library.specs.Held.{heldRows, SamePlaces}
+use Rattle.library.specs.Code.HeldRows.{heldRows, SamePlaces}
 use Rattle.library.specs.Promises.{runAnswered, RunPromise}
 use Rattle.library.specs.Laws.Numbers.{run-promise}
 use Rattle.hep.specs.Code.Rows.{loadedRows, storedRows}

@@ -20,7 +20,7 @@ use Rattle.library.specs.declared.Rows.{Rows}
 use Rattle.library.specs.declared.Sizes.{Sizes}
 use Rattle.library.specs.Buffers.{Buffers, fieldsIn, holding}
 use Rattle.library.specs.Calls.{answers, unless, leaving, stateRefusal, orElse, taskRefusal, stepRefusal, stepAnswer, stepLeaves}
-use Rattle.library.specs.Held.{heldRows}
+use Rattle.library.specs.Code.HeldRows.{heldRows}
 use Rattle.library.specs.Empty.{emptyRow}
 use Rattle.library.specs.Code.RowPlace.{placeOf, StandsAt}
 use Rattle.library.specs.Laws.RowPlace.{stands-first, set-among}

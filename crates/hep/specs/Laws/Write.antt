@@ -10,7 +10,7 @@ use Rattle.library.specs.declared.Rows.{Rows}
 use Rattle.library.specs.declared.Sizes.{Sizes}
 use Rattle.library.specs.Buffers.{Buffers}
 use Rattle.library.specs.Calls.{unless, leaving, stateRefusal, orElse, writeRefusal, writeAnswer, writeLeaves}
-use Rattle.library.specs.Held.{heldRows}
+use Rattle.library.specs.Code.HeldRows.{heldRows}
 use Rattle.library.specs.Promises.{writeAnswered, WritePromise}
 use Rattle.library.specs.Laws.Numbers.{write-promise}
 use Rattle.hep.specs.Code.Rows.{loadedRows}

@@ -28,7 +28,7 @@ returns c =
     let a = s .args in
     let seven = sym (length-map (a .rows .at) _) ∙ s .good .0 .1 .1 .0 .1 .0 .1 in
     rw (c .refused .ensures)
-    (read-refused _ (a .image .now) _ (sym (c .before .before .before .before .check .ensures) ∙ c .before .before .found .given .1), record { count = refl; places = seven })
+    (read-refused _ (a .image .now) _ (sym (c .before .before .before .before .check .ensures) ∙ c .before .before .found .given .1), record { count = refl; places = seven; beyond = refl })
 
 same-length : tie.Need-same-length
 same-length c = search needs

@@ -29,7 +29,7 @@ returns c =
     let seven = sym (length-map (a .rows .at) _) ∙ s .good .0 .1 .1 .0 .1 .0 .1 in
     let q : fits (a .n) (roomFrom (min (a .rows .n) 7) (length (a .constants .now)) (length (a .register-tags .now)) (length (a .register-words .now)) (length (a .program .now)) (length (a .data-tags .now)) (length (a .data-words .now))) ≡ false = rw (← c .before .before .before .row-count .ensures) (sym (c .before .before .fits2 .ensures) ∙ not-true _ (c .before .if1 .taken)) in
     rw (c .refused .ensures)
-    (read-short (a .rows) (a .table) (a .constants .now) (a .register-tags .now) (a .register-words .now) (a .program .now) (a .data-tags .now) (a .data-words .now) (a .image .now) (a .n) seven (found (a .image .now) (a .n) (s .pre)) q, record { count = refl; places = seven })
+    (read-short (a .rows) (a .table) (a .constants .now) (a .register-tags .now) (a .register-words .now) (a .program .now) (a .data-tags .now) (a .data-words .now) (a .image .now) (a .n) seven (found (a .image .now) (a .n) (s .pre)) q, record { count = refl; places = seven; beyond = refl })
 
 read-fitting-requires : tie.Need-read-fitting-requires
 read-fitting-requires c κs =

@@ -4,7 +4,8 @@ use mathlib.Core.Path.{_≡_, refl, sym, ap, _∙_}
 use mathlib.Core.Bool.{true, false}
 use mathlib.Core.List.{List}
 use native.Mathlib.Omega.{arith}
-use lib.ListN.{length, take, length-append, length-drop}
+use lib.ListN.{length, take, drop, length-append, length-drop}
+use lib.Seq.{drop-append-seam}
 use Rattle.refusal.specs.declared.Refusal.{Refusal}
 use Rattle.refusal.specs.declared.Refusal.the-variants.{ShortBuffer}
 use Rattle.window.specs.declared.Row.{Row}
@@ -18,9 +19,10 @@ use Rattle.library.specs.declared.ReadAnswer.{ReadAnswer}
 use Rattle.library.specs.declared.ReadAnswer.the-variants.{Refused, Read}
 use Rattle.library.specs.Buffers.{Buffers, roomOf, fits, sizesOf, holding}
 use Rattle.library.specs.Calls.{unless, leaving, checkAnswer, decodedRefusal, decodedAnswer, readAnswer, decodedLeaves, readLeaves}
-use Rattle.library.specs.Held.{lentBuffers, heldRows, SamePlaces}
+use Rattle.library.specs.Held.{lentBuffers}
+use Rattle.library.specs.Code.HeldRows.{heldRows, SamePlaces}
 use Rattle.library.specs.Promises.{readAnswered, ReadPromise}
-use Rattle.library.specs.Laws.Places.{fitting, take-over}
+use Rattle.library.specs.Laws.Places.{fitting, take-over, drop-later}
 use Rattle.library.specs.Laws.Held.{before, lengths, room-held}
 use Rattle.library.specs.Laws.Numbers.{read-promise}
 use Rattle.image_check.specs.Code.Places.{rowAt, rowsAt, imageAt}
@@ -77,6 +79,9 @@ module _ (v : Rows) (table : ProcessTable) (constants registerTags registerWords
       count = refl;
       places =
           ap length e ∙ length-append (rowsAt (n .rows) bytes) _ ∙ omega (arith, rows-length, few, seven, length-drop (length (rowsAt (n .rows) bytes)) (v .at));
+      beyond =
+          ap (drop (v .n)) e
+          ∙ drop-later (length (rowsAt (n .rows) bytes)) (v .n) (v .at) (over (rowsAt (n .rows) bytes) (v .at)) (omega (arith, rows-length, few)) (drop-append-seam (rowsAt (n .rows) bytes) _);
     }
 
     pub read-image : {at : List Row} {t : ProcessTable} {constants′ registerTags′ registerWords′ program′ dataTags′ dataWords′ : List ℕ} → at ≡ over (rowsAt (n .rows) bytes) (v .at)

@@ -11,7 +11,8 @@ use Rattle.library.specs.declared.Sizes.{Sizes}
 use Rattle.library.specs.declared.Rows.{Rows}
 use Rattle.library.specs.Buffers.{Buffers, Room, roomOf, fits, fieldsIn}
 use Rattle.library.specs.Calls.{stateRefused}
-use Rattle.library.specs.Held.{lentBuffers, roomFrom, heldRows}
+use Rattle.library.specs.Held.{lentBuffers, roomFrom}
+use Rattle.library.specs.Code.HeldRows.{heldRows}
 
 module _ (v : Rows) (table : ProcessTable) (constants registerTags registerWords program dataTags dataWords : List ℕ) where
   -- the buffers

@@ -5,7 +5,7 @@ use mathlib.Core.Bool.{true}
 use mathlib.Core.List.{List, _++_}
 use native.Mathlib.Omega.{arith}
 use lib.ListN.{length, take, drop, length-append, take-append-drop}
-use lib.Seq.{length-take-le, take-add, drop-at, take-append-seam, drop-append-seam}
+use lib.Seq.{length-take-le, take-add, drop-at, drop-drop, take-append-seam, drop-append-seam}
 use borrow.Author.Tests.{leb-true}
 use Rattle.word.specs.Laws.Conjunctions.{both}
 use Rattle.image.specs.Fields.{over}
@@ -58,6 +58,13 @@ module _ {A : Type 0} where
       let p : (y : List A) → take m y ≡ take k y ++ take (m - k) (drop k y) = λ y. ap (λ (z : ℕ). take z y) f ∙ take-add k (m - k) y in
       let q : drop k (take m l) ≡ take (m - k) (drop k l) = ap (drop k) (p l) ∙ drop-at (take k l) (take (m - k) (drop k l)) k (length-take-le k l j) in
       p x ∙ ap (λ (y : List A). take k x ++ take (m - k) y) e ∙ ap (λ (y : List A). take k x ++ y) (sym q) ∙ ap (λ (z : ℕ). take k x ++ drop z (take m l)) (sym (length-take-le k x i))
+
+  -- what stays from place k on stays from any later place on
+  pub drop-later : (k m : ℕ) (l x : List A) → k ≤ m → drop k x ≡ drop k l → drop m x ≡ drop m l
+  drop-later k m l x h e =
+      let f : m ≡ k + (m - k) = omega arith in
+      let p : (y : List A) → drop m y ≡ drop (m - k) (drop k y) = λ y. ap (λ (z : ℕ). drop z y) f ∙ sym (drop-drop (m - k) k y) in
+      p x ∙ ap (drop (m - k)) e ∙ sym (p l)
 
   -- elements put over the first places, and then the first m of all: as if put over those
   pub take-over : (xs l : List A) (m : ℕ) → length xs ≤ m → length xs ≤ length l → take m (over xs l) ≡ over xs (take m l)

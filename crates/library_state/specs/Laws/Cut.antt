@@ -14,7 +14,7 @@ use Rattle.library.specs.declared.Sizes.{Sizes}
 use Rattle.library.specs.declared.Rows.{Rows}
 use Rattle.library.specs.Buffers.{fits, fieldsIn}
 use Rattle.library.specs.Calls.{stateRefused}
-use Rattle.library.specs.Held.{heldRows}
+use Rattle.library.specs.Code.HeldRows.{heldRows}
 use Rattle.library.specs.Laws.Places.{fitting}
 use Rattle.library.specs.Laws.Held.{before, lengths, room-held}
 

@@ -3,8 +3,8 @@
 use mathlib.Core.Path.{refl, sym, _∙_}
 use lib.ListN.{length-map}
 use lib.Seq.{length-take-le}
-use Rattle.library.specs.Held.{heldRows}
-use Rattle.run_schedule.specs.Laws.Cut.{sizes-fit, cut-sound, rows-left, run-cuts}
+use Rattle.library.specs.Code.HeldRows.{heldRows}
+use Rattle.run_schedule.specs.Laws.Cut.{sizes-fit, cut-sound, rows-left, rows-beyond, run-cuts}
 use borrow.Author.Needs.{needs}
 use Rattle.run_schedule.proofs.run_cut.Statement.{statement}
 use Rattle.run_schedule.proofs.run_cut.Tie as tie
@@ -59,7 +59,7 @@ same-length-4 c = search needs
 
 returns : tie.Need-returns
 unfolding heldRows
-returns c = let s = c .before .before .before .before .before .before .before .before .before .before .before .before .before .before .before .before .before .before .before .before .before .before .before .before .before .before .before .before .before .before in let a = s .args in let seven = sym (length-map (a .rows .at) _) ∙ s .good .0 .1 .1 .0 .1 .0 .1 in let x = c .before .before .before .before .before .before .before .before .before .before .before .before .run-items in (run-cuts (a .rows) (a .table) (a .constants .now) (a .register-tags .now) (a .register-words .now) (a .program .now) (a .data-tags .now) (a .data-words .now) (a .n) seven (s .pre .0) (a .schedule .now) _ _ _ _ _ _ _ (x .kept .1 .1 .1 .1 .1 .1 .1 .0) (x .kept .1 .1 .1 .1 .1 .1 .1 .1 .0) (x .kept .1 .1 .1 .1 .1 .1 .1 .1 .1 .1 .0) (x .kept .1 .1 .1 .1 .1 .1 .1 .1 .1 .1 .1 .0) (s .pre .1) (s .pre .2) (x .ensures .0) (x .ensures .1), record { count = refl; places = rows-left (a .rows) (a .table) (a .constants .now) (a .register-tags .now) (a .register-words .now) (a .program .now) (a .data-tags .now) (a .data-words .now) (a .n) seven (s .pre .0) (a .schedule .now) _ _ _ _ _ _ _ (x .ensures .0) (x .ensures .1) })
+returns c = let s = c .before .before .before .before .before .before .before .before .before .before .before .before .before .before .before .before .before .before .before .before .before .before .before .before .before .before .before .before .before .before in let a = s .args in let seven = sym (length-map (a .rows .at) _) ∙ s .good .0 .1 .1 .0 .1 .0 .1 in let x = c .before .before .before .before .before .before .before .before .before .before .before .before .run-items in (run-cuts (a .rows) (a .table) (a .constants .now) (a .register-tags .now) (a .register-words .now) (a .program .now) (a .data-tags .now) (a .data-words .now) (a .n) seven (s .pre .0) (a .schedule .now) _ _ _ _ _ _ _ (x .kept .1 .1 .1 .1 .1 .1 .1 .0) (x .kept .1 .1 .1 .1 .1 .1 .1 .1 .0) (x .kept .1 .1 .1 .1 .1 .1 .1 .1 .1 .1 .0) (x .kept .1 .1 .1 .1 .1 .1 .1 .1 .1 .1 .1 .0) (s .pre .1) (s .pre .2) (x .ensures .0) (x .ensures .1), record { count = refl; places = rows-left (a .rows) (a .table) (a .constants .now) (a .register-tags .now) (a .register-words .now) (a .program .now) (a .data-tags .now) (a .data-words .now) (a .n) seven (s .pre .0) (a .schedule .now) _ _ _ _ _ _ _ (x .ensures .0) (x .ensures .1); beyond = rows-beyond (a .rows) (a .table) (a .constants .now) (a .register-tags .now) (a .register-words .now) (a .program .now) (a .data-tags .now) (a .data-words .now) (a .n) seven (s .pre .0) _ (x .ensures .1) })
 
 pub run-cut-spec : {M : Type 1} → statement M
 run-cut-spec =

@@ -20,9 +20,10 @@ use Rattle.library.specs.declared.Sizes.{Sizes}
 use Rattle.library.specs.declared.Rows.{Rows}
 use Rattle.library.specs.Buffers.{Buffers, fits, fieldsIn, holding}
 use Rattle.library.specs.Calls.{stateRefused}
-use Rattle.library.specs.Held.{lentBuffers, heldRows}
+use Rattle.library.specs.Held.{lentBuffers}
+use Rattle.library.specs.Code.HeldRows.{heldRows}
 use Rattle.library.specs.Promises.{RunPromise}
-use Rattle.library.specs.Laws.Places.{Fitting, fitting, over-first, over-cut, over-places}
+use Rattle.library.specs.Laws.Places.{Fitting, fitting, over-first, over-cut, over-places, drop-later}
 use Rattle.library.specs.Laws.Held.{before, lengths, room-held, accepted}
 use Rattle.library.specs.Laws.Numbers.{run-promise}
 use Rattle.library_state.specs.Laws.Cut.{cut, cut-fields, cut-refused}
@@ -46,6 +47,10 @@ module _ (v : Rows) (table : ProcessTable) (constants tags words program dataTag
   -- the state that is cut is sound
   pub cut-sound : soundIn (n .rows) given ≡ true
   cut-sound = not-false (soundIn (n .rows) given) (cut-refused v table constants tags words program dataTags dataWords n seven fit ∙ sound)
+
+  -- the rows that are not held stay
+  pub rows-beyond : (rows′ : List Row) → drop (n .rows) rows′ ≡ drop (n .rows) (v .at) → drop (v .n) rows′ ≡ drop (v .n) (v .at)
+  rows-beyond rows′ d = let h : n .rows ≤ min (v .n) 7 = sizes-fit .rows in drop-later (n .rows) (v .n) (v .at) rows′ (omega (arith, h)) d
 
   module _ (l : List ℕ) (rows′ : List Row) (table′ : ProcessTable) (c : Counts) (tags′ words′ dataTags′ dataWords′ : List ℕ) where
     abbrev cutAfter : State

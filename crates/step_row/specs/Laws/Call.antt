@@ -22,7 +22,8 @@ use Rattle.library.specs.declared.Sizes.{Sizes}
 use Rattle.library.specs.declared.StepAnswer.the-variants.{Refused, Stepped}
 use Rattle.library.specs.Buffers.{Buffers, roomOf, fieldsIn, holding}
 use Rattle.library.specs.Calls.{unless, leaving, stateRefused, stateRefusal, orElse, taskRefusal, stepRefusal, stepAnswer, stepLeaves}
-use Rattle.library.specs.Held.{lentBuffers, roomFrom, heldRows}
+use Rattle.library.specs.Held.{lentBuffers, roomFrom}
+use Rattle.library.specs.Code.HeldRows.{heldRows}
 use Rattle.library.specs.Promises.{stepAnswered, StepPromise}
 use Rattle.library.specs.Code.RowPlace.{StandsAt}
 use Rattle.library.specs.Laws.Held.{before, accepted}
