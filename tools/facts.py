@@ -34,9 +34,9 @@ def records(lines):
             found.setdefault(record, [])
         elif (m := re.match(r"\s*pub (\S+) : ?(.*)", line)) and record:
             found[record].append((m.group(1), m.group(2)))
-        elif m := re.match(r"\s*Need-(\S+) =", line):
-            need, record = m.group(1), None
-        elif (m := re.match(r"\s*\(c : (\S+)\)", line)) and need:
+        elif m := re.match(r"\s*Need-(\S+) =(.*)", line):
+            need, record, line = m.group(1), None, m.group(2)
+        if (m := re.match(r"\s*\(c : (\S+)\)", line)) and need:
             needs[need], need = m.group(1), None
     return found, needs
 
