@@ -1,5 +1,5 @@
 -- How many bytes values have, and that cells are written alike whatever their tags mean.
-use Prim.Native.Nat.{ℕ, zero, suc, _+_, _-_, _*_, _<_}
+use Prim.Native.Nat.{ℕ, zero, suc, _*_, _<_}
 use mathlib.Core.Path.{_≡_, refl, sym, ap, _∙_}
 use mathlib.Core.Bool.{Bool, true}
 use mathlib.Core.List.{List, [], _∷_, _++_}
@@ -8,8 +8,8 @@ use native.Mathlib.Omega.{arith}
 use lib.ListN.{length, getD, drop, length-append}
 use Rattle.window.specs.declared.Cell.{Cell}
 use Rattle.window.specs.Memories.{cell}
-use Rattle.image.specs.Codec.{Codec, digits, num, count, seq, via, encMany, section, noHeader, listSection, noState, uniformSection}
-use Rattle.image.specs.Image.{wordCodec, wordsCodec, cellCodec, cellsCodec, cellsOf}
+use Rattle.image.specs.Codec.{Codec, num, seq, via, encMany, noState}
+use Rattle.image.specs.Image.{wordCodec, cellCodec, cellsOf}
 use Rattle.image.specs.Laws.Numbers.{length-digits}
 use Rattle.image_bytes.specs.Code.Writing.{wordBytes, cellBytes}
 
@@ -61,13 +61,3 @@ cells-alike f g (c ∷ cs) = ap (λ (l : List ℕ). cellCodec f .enc c ++ l) (ce
 pub cell-bytes : (f : ℕ → Bool) (tags words : List ℕ) → encMany (λ _. cellCodec f) noState tt (cellsOf tags words) ≡ cellBytes tags words
 unfolding cellBytes
 cell-bytes f tags words = cells-alike f (λ _. true) (cellsOf tags words)
-
--- a section of words, and one of cells, as they are written
-pub words-written : (w most : ℕ) (words : List ℕ) → wordsCodec w most .enc words ≡ digits w (length words) ++ wordBytes words
-unfolding wordsCodec uniformSection listSection via section noHeader count num wordBytes
-words-written w most words = refl
-
-pub cells-written : (f : ℕ → Bool) (w most : ℕ) (tags words : List ℕ) → length tags ≡ length words
-    → cellsCodec f w most .enc (cellsOf tags words) ≡ digits w (length words) ++ cellBytes tags words
-unfolding cellsCodec uniformSection listSection via section noHeader count num
-cells-written f w most tags words e = rw (← cell-bytes f tags words, ← cells-length tags words e)
