@@ -29,7 +29,8 @@ const MEMORY_ROOM: usize = 8192;
 fn run_text(
     rows: [Row; TASKS],
     table: ProcessTable,
-    constants: &[u64],
+    constant_tags: &[u8],
+    constant_words: &[u64],
     register_tags: &mut [u8],
     register_words: &mut [u64],
     program: &[u64],
@@ -38,12 +39,13 @@ fn run_text(
     schedule: &[u8],
     n: Sizes,
 ) -> Text
-    ensures { λ r. ⌜ shown r ≡ runText (runRefusal n (lentBuffers rows table (now (constants .entry)) (now («register_tags» .entry)) (now («register_words» .entry)) (now (program .entry)) (now (data_tags .entry)) (now (data_words .entry))) (now (schedule .entry))) (run (now (schedule .entry)) (fieldsIn n (lentBuffers rows table (now (constants .entry)) (now («register_tags» .entry)) (now («register_words» .entry)) (now (program .entry)) (now (data_tags .entry)) (now (data_words .entry))))) ⌝ }
+    ensures { λ r. ⌜ shown r ≡ runText (runRefusal n (lentBuffers rows table (now («constant_tags» .entry)) (now («constant_words» .entry)) (now («register_tags» .entry)) (now («register_words» .entry)) (now (program .entry)) (now (data_tags .entry)) (now (data_words .entry))) (now (schedule .entry))) (run (now (schedule .entry)) (fieldsIn n (lentBuffers rows table (now («constant_tags» .entry)) (now («constant_words» .entry)) (now («register_tags» .entry)) (now («register_words» .entry)) (now (program .entry)) (now (data_tags .entry)) (now (data_words .entry))))) ⌝ }
 {
     let x = hep::run_owned(
         rows,
         table,
-        constants,
+        constant_tags,
+        constant_words,
         register_tags,
         register_words,
         program,
@@ -71,7 +73,8 @@ fn image_text(schedule: &[u8], image: &[u8]) -> Text
     requires { ⌜ length (now image) ≤ 65536 ⌝ }
     ensures { λ r. ⌜ shown r ≡ outputRead (now (schedule .entry)) (decode (now (image .entry))) ⌝ }
 {
-    let mut constants = [0; MEMORY_ROOM];
+    let mut constant_tags = [0; MEMORY_ROOM];
+    let mut constant_words = [0; MEMORY_ROOM];
     let mut register_tags = [0; MEMORY_ROOM];
     let mut register_words = [0; MEMORY_ROOM];
     let mut program = [0; MEMORY_ROOM];
@@ -80,7 +83,8 @@ fn image_text(schedule: &[u8], image: &[u8]) -> Text
     let x = hep::read_owned(
         hep::no_rows(),
         hep::no_processes(),
-        &mut constants,
+        &mut constant_tags,
+        &mut constant_words,
         &mut register_tags,
         &mut register_words,
         &mut program,
@@ -96,7 +100,8 @@ fn image_text(schedule: &[u8], image: &[u8]) -> Text
         ReadAnswer::Read(n) => run_text(
             rows,
             table,
-            &constants,
+            &constant_tags,
+            &constant_words,
             &mut register_tags,
             &mut register_words,
             &program,

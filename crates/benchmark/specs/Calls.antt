@@ -15,7 +15,7 @@ isRead (Refused e) = false
 isRead (Read n) = true
 
 -- the lent memories beside seven rows of no task and no processes
-unfoldable pub memoriesIn : (constants registerTags registerWords program dataTags dataWords : List ℕ) → Buffers
+unfoldable pub memoriesIn : (constantTags constantWords registerTags registerWords program dataTags dataWords : List ℕ) → Buffers
 memoriesIn = lentBuffers noRows noProcesses
 
 -- the sizes of a state without rows whose memories have these lengths

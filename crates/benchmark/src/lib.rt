@@ -67,7 +67,8 @@ fn is_read(x: ReadAnswer) -> bool
 // Reads an image into the memories; answers whether it was read. Its rows and processes are dropped.
 #[no_mangle]
 pub extern "C" fn benchmark_read(
-    constants: &mut [u64],
+    constant_tags: &mut [u8],
+    constant_words: &mut [u64],
     register_tags: &mut [u8],
     register_words: &mut [u64],
     program: &mut [u64],
@@ -75,13 +76,14 @@ pub extern "C" fn benchmark_read(
     data_words: &mut [u64],
     image: &[u8],
 ) -> bool
-    ensures { λ r. ⌜ r ≡ isRead (readAnswered (readAnswer (roomOf (memoriesIn (now (constants .entry)) (now («register_tags» .entry)) (now («register_words» .entry)) (now (program .entry)) (now (data_tags .entry)) (now (data_words .entry)))) (now (image .entry)))) ⌝ }
-    ensures { λ _. ⌜ (let left = readLeaves (memoriesIn (now (constants .entry)) (now («register_tags» .entry)) (now («register_words» .entry)) (now (program .entry)) (now (data_tags .entry)) (now (data_words .entry))) (now (image .entry)) in lentBuffers (left .rows) (left .table) (now (constants .exit)) (now («register_tags» .exit)) (now («register_words» .exit)) (now (program .exit)) (now (data_tags .exit)) (now (data_words .exit)) ≡ left) ⌝ }
+    ensures { λ r. ⌜ r ≡ isRead (readAnswered (readAnswer (roomOf (memoriesIn (now («constant_tags» .entry)) (now («constant_words» .entry)) (now («register_tags» .entry)) (now («register_words» .entry)) (now (program .entry)) (now (data_tags .entry)) (now (data_words .entry)))) (now (image .entry)))) ⌝ }
+    ensures { λ _. ⌜ (let left = readLeaves (memoriesIn (now («constant_tags» .entry)) (now («constant_words» .entry)) (now («register_tags» .entry)) (now («register_words» .entry)) (now (program .entry)) (now (data_tags .entry)) (now (data_words .entry))) (now (image .entry)) in lentBuffers (left .rows) (left .table) (now («constant_tags» .exit)) (now («constant_words» .exit)) (now («register_tags» .exit)) (now («register_words» .exit)) (now (program .exit)) (now (data_tags .exit)) (now (data_words .exit)) ≡ left) ⌝ }
 {
     let left = image_read::read(
         no_rows(),
         no_processes(),
-        constants,
+        constant_tags,
+        constant_words,
         register_tags,
         register_words,
         program,
@@ -96,7 +98,8 @@ pub extern "C" fn benchmark_read(
 // Writes the image of a state that has these memories and neither rows nor processes; answers its length, or 0 where it was refused.
 #[no_mangle]
 pub extern "C" fn benchmark_write(
-    constants: &[u64],
+    constant_tags: &[u8],
+    constant_words: &[u64],
     register_tags: &[u8],
     register_words: &[u64],
     program: &[u64],
@@ -104,12 +107,12 @@ pub extern "C" fn benchmark_write(
     data_words: &[u64],
     output: &mut [u8],
 ) -> usize
-    ensures { λ r. ⌜ r ≡ lengthWritten (writeAnswered (writeAnswer (memorySizes (length (now (constants .entry))) (length (now («register_words» .entry))) (length (now (program .entry))) (length (now (data_words .entry)))) (memoriesIn (now (constants .entry)) (now («register_tags» .entry)) (now («register_words» .entry)) (now (program .entry)) (now (data_tags .entry)) (now (data_words .entry))) (length (now (output .entry))))) ⌝ }
-    ensures { λ _. ⌜ now (output .exit) ≡ writeLeaves (memorySizes (length (now (constants .entry))) (length (now («register_words» .entry))) (length (now (program .entry))) (length (now (data_words .entry)))) (memoriesIn (now (constants .entry)) (now («register_tags» .entry)) (now («register_words» .entry)) (now (program .entry)) (now (data_tags .entry)) (now (data_words .entry))) (now (output .entry)) ⌝ }
+    ensures { λ r. ⌜ r ≡ lengthWritten (writeAnswered (writeAnswer (memorySizes (length (now («constant_words» .entry))) (length (now («register_words» .entry))) (length (now (program .entry))) (length (now (data_words .entry)))) (memoriesIn (now («constant_tags» .entry)) (now («constant_words» .entry)) (now («register_tags» .entry)) (now («register_words» .entry)) (now (program .entry)) (now (data_tags .entry)) (now (data_words .entry))) (length (now (output .entry))))) ⌝ }
+    ensures { λ _. ⌜ now (output .exit) ≡ writeLeaves (memorySizes (length (now («constant_words» .entry))) (length (now («register_words» .entry))) (length (now (program .entry))) (length (now (data_words .entry)))) (memoriesIn (now («constant_tags» .entry)) (now («constant_words» .entry)) (now («register_tags» .entry)) (now («register_words» .entry)) (now (program .entry)) (now (data_tags .entry)) (now (data_words .entry))) (now (output .entry)) ⌝ }
 {
     let n = Sizes {
         rows: 0,
-        constants: constants.len(),
+        constants: constant_words.len(),
         registers: register_words.len(),
         program: program.len(),
         data_words: data_words.len(),
@@ -117,7 +120,8 @@ pub extern "C" fn benchmark_write(
     let answer = image_write::write(
         no_rows(),
         no_processes(),
-        constants,
+        constant_tags,
+        constant_words,
         register_tags,
         register_words,
         program,

@@ -149,7 +149,8 @@ fn put_row(rows: &mut [Row], i: usize, r: Row)
 pub fn read(
     rows: &mut [Row],
     table: &mut ProcessTable,
-    constants: &mut [u64],
+    constant_tags: &mut [u8],
+    constant_words: &mut [u64],
     register_tags: &mut [u8],
     register_words: &mut [u64],
     program: &mut [u64],
@@ -157,13 +158,14 @@ pub fn read(
     data_words: &mut [u64],
     image: &[u8],
 ) -> ReadAnswer
-    ensures { λ r. ⌜ ReadPromise (lentBuffers (now (rows .entry)) (now (table .entry)) (now (constants .entry)) (now («register_tags» .entry)) (now («register_words» .entry)) (now (program .entry)) (now (data_tags .entry)) (now (data_words .entry))) (now (image .entry)) r (lentBuffers (now (rows .exit)) (now (table .exit)) (now (constants .exit)) (now («register_tags» .exit)) (now («register_words» .exit)) (now (program .exit)) (now (data_tags .exit)) (now (data_words .exit))) ⌝ }
+    ensures { λ r. ⌜ ReadPromise (lentBuffers (now (rows .entry)) (now (table .entry)) (now («constant_tags» .entry)) (now («constant_words» .entry)) (now («register_tags» .entry)) (now («register_words» .entry)) (now (program .entry)) (now (data_tags .entry)) (now (data_words .entry))) (now (image .entry)) r (lentBuffers (now (rows .exit)) (now (table .exit)) (now («constant_tags» .exit)) (now («constant_words» .exit)) (now («register_tags» .exit)) (now («register_words» .exit)) (now (program .exit)) (now (data_tags .exit)) (now (data_words .exit))) ⌝ }
 {
     let v = load_rows(rows);
     let after = image_read::read(
         v,
         *table,
-        constants,
+        constant_tags,
+        constant_words,
         register_tags,
         register_words,
         program,
@@ -181,7 +183,8 @@ pub fn read(
 pub fn run(
     rows: &mut [Row],
     table: &mut ProcessTable,
-    constants: &[u64],
+    constant_tags: &[u8],
+    constant_words: &[u64],
     register_tags: &mut [u8],
     register_words: &mut [u64],
     program: &[u64],
@@ -190,13 +193,14 @@ pub fn run(
     schedule: &[u8],
     n: Sizes,
 ) -> RunAnswer
-    ensures { λ r. ⌜ RunPromise n (lentBuffers (now (rows .entry)) (now (table .entry)) (now (constants .entry)) (now («register_tags» .entry)) (now («register_words» .entry)) (now (program .entry)) (now (data_tags .entry)) (now (data_words .entry))) (now (schedule .entry)) r (lentBuffers (now (rows .exit)) (now (table .exit)) (now (constants .entry)) (now («register_tags» .exit)) (now («register_words» .exit)) (now (program .entry)) (now (data_tags .exit)) (now (data_words .exit))) ⌝ }
+    ensures { λ r. ⌜ RunPromise n (lentBuffers (now (rows .entry)) (now (table .entry)) (now («constant_tags» .entry)) (now («constant_words» .entry)) (now («register_tags» .entry)) (now («register_words» .entry)) (now (program .entry)) (now (data_tags .entry)) (now (data_words .entry))) (now (schedule .entry)) r (lentBuffers (now (rows .exit)) (now (table .exit)) (now («constant_tags» .entry)) (now («constant_words» .entry)) (now («register_tags» .exit)) (now («register_words» .exit)) (now (program .entry)) (now (data_tags .exit)) (now (data_words .exit))) ⌝ }
 {
     let v = load_rows(rows);
     let after = run_schedule::run(
         v,
         *table,
-        constants,
+        constant_tags,
+        constant_words,
         register_tags,
         register_words,
         program,
@@ -215,7 +219,8 @@ pub fn run(
 pub fn step(
     rows: &mut [Row],
     table: &mut ProcessTable,
-    constants: &[u64],
+    constant_tags: &[u8],
+    constant_words: &[u64],
     register_tags: &mut [u8],
     register_words: &mut [u64],
     program: &[u64],
@@ -224,7 +229,7 @@ pub fn step(
     n: Sizes,
     task: u8,
 ) -> StepAnswer
-    ensures { λ r. ⌜ StepPromise n (lentBuffers (now (rows .entry)) (now (table .entry)) (now (constants .entry)) (now («register_tags» .entry)) (now («register_words» .entry)) (now (program .entry)) (now (data_tags .entry)) (now (data_words .entry))) task r (lentBuffers (now (rows .exit)) (now (table .exit)) (now (constants .entry)) (now («register_tags» .exit)) (now («register_words» .exit)) (now (program .entry)) (now (data_tags .exit)) (now (data_words .exit))) ⌝ }
+    ensures { λ r. ⌜ StepPromise n (lentBuffers (now (rows .entry)) (now (table .entry)) (now («constant_tags» .entry)) (now («constant_words» .entry)) (now («register_tags» .entry)) (now («register_words» .entry)) (now (program .entry)) (now (data_tags .entry)) (now (data_words .entry))) task r (lentBuffers (now (rows .exit)) (now (table .exit)) (now («constant_tags» .entry)) (now («constant_words» .entry)) (now («register_tags» .exit)) (now («register_words» .exit)) (now (program .entry)) (now (data_tags .exit)) (now (data_words .exit))) ⌝ }
 {
     let v = load_rows(rows);
     let i = find_row(rows, task);
@@ -233,7 +238,8 @@ pub fn step(
         v,
         row,
         *table,
-        constants,
+        constant_tags,
+        constant_words,
         register_tags,
         register_words,
         program,
@@ -252,7 +258,8 @@ pub fn step(
 pub fn write(
     rows: &[Row],
     table: &ProcessTable,
-    constants: &[u64],
+    constant_tags: &[u8],
+    constant_words: &[u64],
     register_tags: &[u8],
     register_words: &[u64],
     program: &[u64],
@@ -261,13 +268,14 @@ pub fn write(
     output: &mut [u8],
     n: Sizes,
 ) -> WriteAnswer
-    ensures { λ r. ⌜ WritePromise n (lentBuffers (now (rows .entry)) (now (table .entry)) (now (constants .entry)) (now («register_tags» .entry)) (now («register_words» .entry)) (now (program .entry)) (now (data_tags .entry)) (now (data_words .entry))) r (now (output .entry)) (now (output .exit)) ⌝ }
+    ensures { λ r. ⌜ WritePromise n (lentBuffers (now (rows .entry)) (now (table .entry)) (now («constant_tags» .entry)) (now («constant_words» .entry)) (now («register_tags» .entry)) (now («register_words» .entry)) (now (program .entry)) (now (data_tags .entry)) (now (data_words .entry))) r (now (output .entry)) (now (output .exit)) ⌝ }
 {
     let v = load_rows(rows);
     image_write::write(
         v,
         *table,
-        constants,
+        constant_tags,
+        constant_words,
         register_tags,
         register_words,
         program,
@@ -310,7 +318,8 @@ fn after_read(at: [Row; TASKS], table: ProcessTable, answer: ReadAnswer) -> Afte
 pub fn read_owned(
     rows: [Row; TASKS],
     table: ProcessTable,
-    constants: &mut [u64],
+    constant_tags: &mut [u8],
+    constant_words: &mut [u64],
     register_tags: &mut [u8],
     register_words: &mut [u64],
     program: &mut [u64],
@@ -318,14 +327,15 @@ pub fn read_owned(
     data_words: &mut [u64],
     image: &[u8],
 ) -> AfterRead
-    ensures { λ r. ⌜ ReadPromise (lentBuffers rows table (now (constants .entry)) (now («register_tags» .entry)) (now («register_words» .entry)) (now (program .entry)) (now (data_tags .entry)) (now (data_words .entry))) (now (image .entry)) (r .answer) (lentBuffers (r .rows .at) (r .table) (now (constants .exit)) (now («register_tags» .exit)) (now («register_words» .exit)) (now (program .exit)) (now (data_tags .exit)) (now (data_words .exit))) × (r .rows .n ≡ tasks) ⌝ }
+    ensures { λ r. ⌜ ReadPromise (lentBuffers rows table (now («constant_tags» .entry)) (now («constant_words» .entry)) (now («register_tags» .entry)) (now («register_words» .entry)) (now (program .entry)) (now (data_tags .entry)) (now (data_words .entry))) (now (image .entry)) (r .answer) (lentBuffers (r .rows .at) (r .table) (now («constant_tags» .exit)) (now («constant_words» .exit)) (now («register_tags» .exit)) (now («register_words» .exit)) (now (program .exit)) (now (data_tags .exit)) (now (data_words .exit))) × (r .rows .n ≡ tasks) ⌝ }
 {
     let mut lent_rows = rows;
     let mut lent_table = table;
     let answer = read(
         &mut lent_rows,
         &mut lent_table,
-        constants,
+        constant_tags,
+        constant_words,
         register_tags,
         register_words,
         program,
@@ -350,7 +360,8 @@ fn after_run(at: [Row; TASKS], table: ProcessTable, answer: RunAnswer) -> AfterR
 pub fn run_owned(
     rows: [Row; TASKS],
     table: ProcessTable,
-    constants: &[u64],
+    constant_tags: &[u8],
+    constant_words: &[u64],
     register_tags: &mut [u8],
     register_words: &mut [u64],
     program: &[u64],
@@ -359,14 +370,15 @@ pub fn run_owned(
     schedule: &[u8],
     n: Sizes,
 ) -> AfterRun
-    ensures { λ r. ⌜ RunPromise n (lentBuffers rows table (now (constants .entry)) (now («register_tags» .entry)) (now («register_words» .entry)) (now (program .entry)) (now (data_tags .entry)) (now (data_words .entry))) (now (schedule .entry)) (r .answer) (lentBuffers (r .rows .at) (r .table) (now (constants .entry)) (now («register_tags» .exit)) (now («register_words» .exit)) (now (program .entry)) (now (data_tags .exit)) (now (data_words .exit))) × (r .rows .n ≡ tasks) ⌝ }
+    ensures { λ r. ⌜ RunPromise n (lentBuffers rows table (now («constant_tags» .entry)) (now («constant_words» .entry)) (now («register_tags» .entry)) (now («register_words» .entry)) (now (program .entry)) (now (data_tags .entry)) (now (data_words .entry))) (now (schedule .entry)) (r .answer) (lentBuffers (r .rows .at) (r .table) (now («constant_tags» .entry)) (now («constant_words» .entry)) (now («register_tags» .exit)) (now («register_words» .exit)) (now (program .entry)) (now (data_tags .exit)) (now (data_words .exit))) × (r .rows .n ≡ tasks) ⌝ }
 {
     let mut lent_rows = rows;
     let mut lent_table = table;
     let answer = run(
         &mut lent_rows,
         &mut lent_table,
-        constants,
+        constant_tags,
+        constant_words,
         register_tags,
         register_words,
         program,
@@ -392,7 +404,8 @@ fn after_step(at: [Row; TASKS], table: ProcessTable, answer: StepAnswer) -> Afte
 pub fn step_owned(
     rows: [Row; TASKS],
     table: ProcessTable,
-    constants: &[u64],
+    constant_tags: &[u8],
+    constant_words: &[u64],
     register_tags: &mut [u8],
     register_words: &mut [u64],
     program: &[u64],
@@ -401,14 +414,15 @@ pub fn step_owned(
     n: Sizes,
     task: u8,
 ) -> AfterOwnedStep
-    ensures { λ r. ⌜ StepPromise n (lentBuffers rows table (now (constants .entry)) (now («register_tags» .entry)) (now («register_words» .entry)) (now (program .entry)) (now (data_tags .entry)) (now (data_words .entry))) task (r .answer) (lentBuffers (r .rows .at) (r .table) (now (constants .entry)) (now («register_tags» .exit)) (now («register_words» .exit)) (now (program .entry)) (now (data_tags .exit)) (now (data_words .exit))) × (r .rows .n ≡ tasks) ⌝ }
+    ensures { λ r. ⌜ StepPromise n (lentBuffers rows table (now («constant_tags» .entry)) (now («constant_words» .entry)) (now («register_tags» .entry)) (now («register_words» .entry)) (now (program .entry)) (now (data_tags .entry)) (now (data_words .entry))) task (r .answer) (lentBuffers (r .rows .at) (r .table) (now («constant_tags» .entry)) (now («constant_words» .entry)) (now («register_tags» .exit)) (now («register_words» .exit)) (now (program .entry)) (now (data_tags .exit)) (now (data_words .exit))) × (r .rows .n ≡ tasks) ⌝ }
 {
     let mut lent_rows = rows;
     let mut lent_table = table;
     let answer = step(
         &mut lent_rows,
         &mut lent_table,
-        constants,
+        constant_tags,
+        constant_words,
         register_tags,
         register_words,
         program,
@@ -424,7 +438,8 @@ pub fn step_owned(
 pub fn write_owned(
     rows: [Row; TASKS],
     table: ProcessTable,
-    constants: &[u64],
+    constant_tags: &[u8],
+    constant_words: &[u64],
     register_tags: &[u8],
     register_words: &[u64],
     program: &[u64],
@@ -433,12 +448,13 @@ pub fn write_owned(
     output: &mut [u8],
     n: Sizes,
 ) -> WriteAnswer
-    ensures { λ r. ⌜ WritePromise n (lentBuffers rows table (now (constants .entry)) (now («register_tags» .entry)) (now («register_words» .entry)) (now (program .entry)) (now (data_tags .entry)) (now (data_words .entry))) r (now (output .entry)) (now (output .exit)) ⌝ }
+    ensures { λ r. ⌜ WritePromise n (lentBuffers rows table (now («constant_tags» .entry)) (now («constant_words» .entry)) (now («register_tags» .entry)) (now («register_words» .entry)) (now (program .entry)) (now (data_tags .entry)) (now (data_words .entry))) r (now (output .entry)) (now (output .exit)) ⌝ }
 {
     write(
         &rows,
         &table,
-        constants,
+        constant_tags,
+        constant_words,
         register_tags,
         register_words,
         program,

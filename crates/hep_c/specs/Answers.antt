@@ -49,7 +49,8 @@ sizesLeft (answers n) sizes = over (sizesListed n) sizes
 
 -- the slices that are lent: the memories of the state, and what the results go to
 pub record Slices : Type 0 where
-  pub constants : List ℕ
+  pub constantTags : List ℕ
+  pub constantWords : List ℕ
   pub registerTags : List ℕ
   pub registerWords : List ℕ
   pub program : List ℕ
@@ -59,9 +60,10 @@ pub record Slices : Type 0 where
   pub counts : List ℕ
   pub report : List ℕ
 
-abbrev pub slices : (constants registerTags registerWords program dataTags dataWords output counts report : List ℕ) → Slices
-slices constants registerTags registerWords program dataTags dataWords output counts report = record {
-  constants = constants;
+abbrev pub slices : (constantTags constantWords registerTags registerWords program dataTags dataWords output counts report : List ℕ) → Slices
+slices constantTags constantWords registerTags registerWords program dataTags dataWords output counts report = record {
+  constantTags = constantTags;
+  constantWords = constantWords;
   registerTags = registerTags;
   registerWords = registerWords;
   program = program;
@@ -87,7 +89,7 @@ lengthsRefusal schedule n memories image output counts report =
 
 unfoldable pub imageRunRefusal : (image schedule : List ℕ) → Sizes → Slices → Option Refusal
 imageRunRefusal image schedule n l =
-    lengthsRefusal schedule n (roomFrom tasks (length (l .constants)) (length (l .registerTags)) (length (l .registerWords)) (length (l .program)) (length (l .dataTags)) (length (l .dataWords)))
+    lengthsRefusal schedule n (roomFrom tasks (length (l .constantTags)) (length (l .constantWords)) (length (l .registerTags)) (length (l .registerWords)) (length (l .program)) (length (l .dataTags)) (length (l .dataWords)))
     (length image) (length (l .output)) (length (l .counts)) (length (l .report))
 
 unfoldable pub imageRunAnswer : (image schedule : List ℕ) → Slices → Decoded → Answer Ran
@@ -102,7 +104,8 @@ countsListed c image report = c .executed ∷ c .waved ∷ c .trapped ∷ c .idl
 unfoldable pub imageRunLeft : Answer Ran → Slices → Slices
 imageRunLeft (refuses e) l = l
 imageRunLeft (answers r) l = record {
-  constants = over (r .state .constants) (l .constants);
+  constantTags = over (r .state .constants .tags) (l .constantTags);
+  constantWords = over (r .state .constants .words) (l .constantWords);
   registerTags = over (r .state .registers .tags) (l .registerTags);
   registerWords = over (r .state .registers .words) (l .registerWords);
   program = over (r .state .program) (l .program);

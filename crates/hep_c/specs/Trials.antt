@@ -11,14 +11,14 @@ use Rattle.hep_c.specs.Answers.{numberAnswered, sizesListed, listedAnswe
 use Rattle.report_text.specs.Texts.{reportRoom}
 
 -- slices that are just long enough, each shorter by so many
-unfoldable pub slicesLess : (constants registerTags registerWords program dataTags dataWords output counts report : ℕ) → Slices
-slicesLess constants registerTags registerWords program dataTags dataWords output counts report =
+unfoldable pub slicesLess : (constantTags constantWords registerTags registerWords program dataTags dataWords output counts report : ℕ) → Slices
+slicesLess constantTags constantWords registerTags registerWords program dataTags dataWords output counts report =
     let zeros : ℕ → List ℕ = λ n. replicate n 0 in
-    slices (zeros (1 - constants)) (zeros (2 - registerTags)) (zeros (2 - registerWords)) (zeros (16 - program)) (zeros (1 - dataTags)) (zeros (1 - dataWords))
-    (zeros (856 - output)) (zeros (6 - counts)) (zeros (reportRoom - report))
+    slices (zeros (1 - constantTags)) (zeros (1 - constantWords)) (zeros (2 - registerTags)) (zeros (2 - registerWords)) (zeros (16 - program)) (zeros (1 - dataTags)) (zeros (1 - dataWords))
+    (zeros (857 - output)) (zeros (6 - counts)) (zeros (reportRoom - report))
 
 unfoldable pub exactSlices : Slices
-exactSlices = slicesLess 0 0 0 0 0 0 0 0 0
+exactSlices = slicesLess 0 0 0 0 0 0 0 0 0 0
 
 -- the number that a run of a schedule answers, and what it leaves
 unfoldable pub imageRunNumber : (image schedule : List ℕ) → Slices → ℕ
@@ -38,21 +38,22 @@ pub record SizesTrials : Type 0 where
 pub record ImageRunTrials : Type 0 where
   -- just enough room, and one place short of it in each slice: 7
   pub enough : imageRunNumber trialBytes (2 ∷ []) exactSlices ≡ 0
-  pub constants : imageRunNumber trialBytes (2 ∷ []) (slicesLess 1 0 0 0 0 0 0 0 0) ≡ 7
-  pub registerTags : imageRunNumber trialBytes (2 ∷ []) (slicesLess 0 1 0 0 0 0 0 0 0) ≡ 7
-  pub registerWords : imageRunNumber trialBytes (2 ∷ []) (slicesLess 0 0 1 0 0 0 0 0 0) ≡ 7
-  pub program : imageRunNumber trialBytes (2 ∷ []) (slicesLess 0 0 0 1 0 0 0 0 0) ≡ 7
-  pub dataTags : imageRunNumber trialBytes (2 ∷ []) (slicesLess 0 0 0 0 1 0 0 0 0) ≡ 7
-  pub dataWords : imageRunNumber trialBytes (2 ∷ []) (slicesLess 0 0 0 0 0 1 0 0 0) ≡ 7
-  pub output : imageRunNumber trialBytes (2 ∷ []) (slicesLess 0 0 0 0 0 0 1 0 0) ≡ 7
-  pub counts : imageRunNumber trialBytes (2 ∷ []) (slicesLess 0 0 0 0 0 0 0 1 0) ≡ 7
-  pub report : imageRunNumber trialBytes (2 ∷ []) (slicesLess 0 0 0 0 0 0 0 0 1) ≡ 7
+  pub constantTags : imageRunNumber trialBytes (2 ∷ []) (slicesLess 1 0 0 0 0 0 0 0 0 0) ≡ 7
+  pub constantWords : imageRunNumber trialBytes (2 ∷ []) (slicesLess 0 1 0 0 0 0 0 0 0 0) ≡ 7
+  pub registerTags : imageRunNumber trialBytes (2 ∷ []) (slicesLess 0 0 1 0 0 0 0 0 0 0) ≡ 7
+  pub registerWords : imageRunNumber trialBytes (2 ∷ []) (slicesLess 0 0 0 1 0 0 0 0 0 0) ≡ 7
+  pub program : imageRunNumber trialBytes (2 ∷ []) (slicesLess 0 0 0 0 1 0 0 0 0 0) ≡ 7
+  pub dataTags : imageRunNumber trialBytes (2 ∷ []) (slicesLess 0 0 0 0 0 1 0 0 0 0) ≡ 7
+  pub dataWords : imageRunNumber trialBytes (2 ∷ []) (slicesLess 0 0 0 0 0 0 1 0 0 0) ≡ 7
+  pub output : imageRunNumber trialBytes (2 ∷ []) (slicesLess 0 0 0 0 0 0 0 1 0 0) ≡ 7
+  pub counts : imageRunNumber trialBytes (2 ∷ []) (slicesLess 0 0 0 0 0 0 0 0 1 0) ≡ 7
+  pub report : imageRunNumber trialBytes (2 ∷ []) (slicesLess 0 0 0 0 0 0 0 0 0 1) ≡ 7
   -- 1 comes before 7, and 7 before 10
-  pub first : imageRunNumber (take 40 trialBytes) (0 ∷ []) (slicesLess 1 1 1 1 1 1 1 1 1) ≡ 1
-  pub second : imageRunNumber trialBytes (0 ∷ []) (slicesLess 0 0 0 0 0 0 0 1 0) ≡ 7
+  pub first : imageRunNumber (take 40 trialBytes) (0 ∷ []) (slicesLess 1 1 1 1 1 1 1 1 1 1) ≡ 1
+  pub second : imageRunNumber trialBytes (0 ∷ []) (slicesLess 0 0 0 0 0 0 0 0 1 0) ≡ 7
   pub item : imageRunNumber trialBytes (2 ∷ 0 ∷ []) exactSlices ≡ 10
   -- a NOP, and a step of a task that has no row
-  pub ran : leftBySchedule (2 ∷ 3 ∷ []) exactSlices .counts ≡ 1 ∷ 0 ∷ 0 ∷ 1 ∷ 216 ∷ 29 ∷ []
+  pub ran : leftBySchedule (2 ∷ 3 ∷ []) exactSlices .counts ≡ 1 ∷ 0 ∷ 0 ∷ 1 ∷ 217 ∷ 29 ∷ []
   -- refused: nothing is touched
   pub left : leftBySchedule (2 ∷ 0 ∷ []) exactSlices ≡ exactSlices
 
@@ -64,7 +65,8 @@ pub image-run-trials : ImageRunTrials
 unfolding trialled opened numberAnswered resultsFit lengthsRefusal imageRunRefusal imageRunAnswer countsListed imageRunLeft slicesLess exactSlices imageRunNumber leftBySchedule
 image-run-trials = record {
   enough = refl;
-  constants = refl;
+  constantTags = refl;
+  constantWords = refl;
   registerTags = refl;
   registerWords = refl;
   program = refl;

@@ -139,7 +139,8 @@ fn schedule_number(schedule: &[u8]) -> u32
 fn lengths_number(
     schedule: &[u8],
     n: Sizes,
-    constants: usize,
+    constant_tags: usize,
+    constant_words: usize,
     register_tags: usize,
     register_words: usize,
     program: usize,
@@ -150,12 +151,13 @@ fn lengths_number(
     counts: usize,
     report: usize,
 ) -> u32
-    ensures { λ r. ⌜ r ≡ numbered (lengthsRefusal (now (schedule .entry)) n (roomFrom tasks constants «register_tags» «register_words» program data_tags data_words) image output counts report) ⌝ }
+    ensures { λ r. ⌜ r ≡ numbered (lengthsRefusal (now (schedule .entry)) n (roomFrom tasks «constant_tags» «constant_words» «register_tags» «register_words» program data_tags data_words) image output counts report) ⌝ }
 {
     if !library_state::fits(
         n,
         TASKS,
-        constants,
+        constant_tags,
+        constant_words,
         register_tags,
         register_words,
         program,
@@ -191,7 +193,8 @@ fn run_accepted(
     image: &[u8],
     n: Sizes,
     schedule: &[u8],
-    constants: &mut [u64],
+    constant_tags: &mut [u8],
+    constant_words: &mut [u64],
     register_tags: &mut [u8],
     register_words: &mut [u64],
     program: &mut [u64],
@@ -202,13 +205,14 @@ fn run_accepted(
     report: &mut [u8],
 )
     requires found { ⌜ readAnswered (checkAnswer (decode (now image))) ≡ Read n ⌝ }
-    requires fine { ⌜ imageRunRefusal (now image) (now schedule) n (slices (now constants) (now «register_tags») (now «register_words») (now program) (now data_tags) (now data_words) (now output) (now counts) (now report)) ≡ none ⌝ }
-    ensures { λ _. ⌜ slices (now (constants .exit)) (now («register_tags» .exit)) (now («register_words» .exit)) (now (program .exit)) (now (data_tags .exit)) (now (data_words .exit)) (now (output .exit)) (now (counts .exit)) (now (report .exit)) ≡ imageRunLeft (imageRunAnswer (now (image .entry)) (now (schedule .entry)) (slices (now (constants .entry)) (now («register_tags» .entry)) (now («register_words» .entry)) (now (program .entry)) (now (data_tags .entry)) (now (data_words .entry)) (now (output .entry)) (now (counts .entry)) (now (report .entry))) (decode (now (image .entry)))) (slices (now (constants .entry)) (now («register_tags» .entry)) (now («register_words» .entry)) (now (program .entry)) (now (data_tags .entry)) (now (data_words .entry)) (now (output .entry)) (now (counts .entry)) (now (report .entry))) ⌝ }
+    requires fine { ⌜ imageRunRefusal (now image) (now schedule) n (slices (now «constant_tags») (now «constant_words») (now «register_tags») (now «register_words») (now program) (now data_tags) (now data_words) (now output) (now counts) (now report)) ≡ none ⌝ }
+    ensures { λ _. ⌜ slices (now («constant_tags» .exit)) (now («constant_words» .exit)) (now («register_tags» .exit)) (now («register_words» .exit)) (now (program .exit)) (now (data_tags .exit)) (now (data_words .exit)) (now (output .exit)) (now (counts .exit)) (now (report .exit)) ≡ imageRunLeft (imageRunAnswer (now (image .entry)) (now (schedule .entry)) (slices (now («constant_tags» .entry)) (now («constant_words» .entry)) (now («register_tags» .entry)) (now («register_words» .entry)) (now (program .entry)) (now (data_tags .entry)) (now (data_words .entry)) (now (output .entry)) (now (counts .entry)) (now (report .entry))) (decode (now (image .entry)))) (slices (now («constant_tags» .entry)) (now («constant_words» .entry)) (now («register_tags» .entry)) (now («register_words» .entry)) (now (program .entry)) (now (data_tags .entry)) (now (data_words .entry)) (now (output .entry)) (now (counts .entry)) (now (report .entry))) ⌝ }
 {
     let x = hep::read_owned(
         hep::no_rows(),
         hep::no_processes(),
-        constants,
+        constant_tags,
+        constant_words,
         register_tags,
         register_words,
         program,
@@ -221,7 +225,8 @@ fn run_accepted(
     let y = hep::run_owned(
         rows,
         table,
-        constants,
+        constant_tags,
+        constant_words,
         register_tags,
         register_words,
         program,
@@ -237,7 +242,8 @@ fn run_accepted(
     let w = hep::write_owned(
         at,
         table,
-        constants,
+        constant_tags,
+        constant_words,
         register_tags,
         register_words,
         program,
@@ -256,7 +262,8 @@ fn run_sound(
     image: &[u8],
     n: Sizes,
     schedule: &[u8],
-    constants: &mut [u64],
+    constant_tags: &mut [u8],
+    constant_words: &mut [u64],
     register_tags: &mut [u8],
     register_words: &mut [u64],
     program: &mut [u64],
@@ -267,12 +274,13 @@ fn run_sound(
     report: &mut [u8],
 ) -> u32
     requires { ⌜ readAnswered (checkAnswer (decode (now image))) ≡ Read n ⌝ }
-    ensures { λ r. ⌜ ImageRunPromise (now (image .entry)) (now (schedule .entry)) (slices (now (constants .entry)) (now («register_tags» .entry)) (now («register_words» .entry)) (now (program .entry)) (now (data_tags .entry)) (now (data_words .entry)) (now (output .entry)) (now (counts .entry)) (now (report .entry))) r (slices (now (constants .exit)) (now («register_tags» .exit)) (now («register_words» .exit)) (now (program .exit)) (now (data_tags .exit)) (now (data_words .exit)) (now (output .exit)) (now (counts .exit)) (now (report .exit))) ⌝ }
+    ensures { λ r. ⌜ ImageRunPromise (now (image .entry)) (now (schedule .entry)) (slices (now («constant_tags» .entry)) (now («constant_words» .entry)) (now («register_tags» .entry)) (now («register_words» .entry)) (now (program .entry)) (now (data_tags .entry)) (now (data_words .entry)) (now (output .entry)) (now (counts .entry)) (now (report .entry))) r (slices (now («constant_tags» .exit)) (now («constant_words» .exit)) (now («register_tags» .exit)) (now («register_words» .exit)) (now (program .exit)) (now (data_tags .exit)) (now (data_words .exit)) (now (output .exit)) (now (counts .exit)) (now (report .exit))) ⌝ }
 {
     let number = lengths_number(
         schedule,
         n,
-        constants.len(),
+        constant_tags.len(),
+        constant_words.len(),
         register_tags.len(),
         register_words.len(),
         program.len(),
@@ -290,7 +298,8 @@ fn run_sound(
         image,
         n,
         schedule,
-        constants,
+        constant_tags,
+        constant_words,
         register_tags,
         register_words,
         program,
@@ -309,7 +318,8 @@ fn run_sound(
 pub extern "C" fn hep_run(
     image: &[u8],
     schedule: &[u8],
-    constants: &mut [u64],
+    constant_tags: &mut [u8],
+    constant_words: &mut [u64],
     register_tags: &mut [u8],
     register_words: &mut [u64],
     program: &mut [u64],
@@ -319,7 +329,7 @@ pub extern "C" fn hep_run(
     counts: &mut [u64],
     report: &mut [u8],
 ) -> u32
-    ensures { λ r. ⌜ ImageRunPromise (now (image .entry)) (now (schedule .entry)) (slices (now (constants .entry)) (now («register_tags» .entry)) (now («register_words» .entry)) (now (program .entry)) (now (data_tags .entry)) (now (data_words .entry)) (now (output .entry)) (now (counts .entry)) (now (report .entry))) r (slices (now (constants .exit)) (now («register_tags» .exit)) (now («register_words» .exit)) (now (program .exit)) (now (data_tags .exit)) (now (data_words .exit)) (now (output .exit)) (now (counts .exit)) (now (report .exit))) ⌝ }
+    ensures { λ r. ⌜ ImageRunPromise (now (image .entry)) (now (schedule .entry)) (slices (now («constant_tags» .entry)) (now («constant_words» .entry)) (now («register_tags» .entry)) (now («register_words» .entry)) (now (program .entry)) (now (data_tags .entry)) (now (data_words .entry)) (now (output .entry)) (now (counts .entry)) (now (report .entry))) r (slices (now («constant_tags» .exit)) (now («constant_words» .exit)) (now («register_tags» .exit)) (now («register_words» .exit)) (now (program .exit)) (now (data_tags .exit)) (now (data_words .exit)) (now (output .exit)) (now (counts .exit)) (now (report .exit))) ⌝ }
 {
     let found = image_check::check(image);
     match found {
@@ -328,7 +338,8 @@ pub extern "C" fn hep_run(
             image,
             n,
             schedule,
-            constants,
+            constant_tags,
+            constant_words,
             register_tags,
             register_words,
             program,

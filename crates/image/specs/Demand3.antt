@@ -30,7 +30,7 @@ pub record Agreed (t : ℕ) (schedule schedule′ : List ℕ) (i i′ : Image) :
   pub task : Compared t (stateOf i) (stateOf i′)
   -- program words
   pub program : SameProgram t (stateOf i) (stateOf i′)
-  -- all of constant memory
+  -- all of constant memory: word and quality at every real address
   pub constants : SameConstants (stateOf i) (stateOf i′)
   -- number of its items
   pub items : occ t schedule ≡ occ t schedule′

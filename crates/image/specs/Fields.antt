@@ -35,7 +35,7 @@ unfoldable pub shaped : State → Bool
 shaped s =
     (eqb (length (s .table .psw)) ptCount
     && (eqb (length (s .table .queues)) tasks && every (λ n. eqb n places) (map (λ (q : Queue). length (q .pts)) (s .table .queues))))
-    && (paired (s .registers) && paired (s .dataWords))
+    && (paired (s .constants) && (paired (s .registers) && paired (s .dataWords)))
 
 -- a lent buffer with elements in its first places; beyond them it isn't touched
 abbrev pub over : {A : Type 0} → (elements buffer : List A) → List A

@@ -11,10 +11,10 @@ use Rattle.window.specs.Memories.{Memory, memory, cell, tagOf, wordOf}
 use Rattle.step.specs.declared.Queue.{Queue}
 use Rattle.step.specs.Queues.{places, listOf, ptCount}
 use Rattle.step.specs.State.{State}
-use Rattle.window.specs.Sound.{bits, tagSound, stateSound}
+use Rattle.window.specs.Sound.{bits, qualitySound, tagSound, stateSound}
 use Rattle.step.specs.Soundness.{taskSound, kindSound, recordSound, ptSound, flagSound, hasRow, distinct, totalSound, windowsSound}
 use Rattle.refusal.specs.declared.Refusal.{Refusal}
-use Rattle.refusal.specs.declared.Refusal.the-variants.{TaskField, ProcessField, CellField, BytesLeftOver, WindowPastMemory, ProcessesClash}
+use Rattle.refusal.specs.declared.Refusal.the-variants.{TaskField, ProcessField, ConstantField, CellField, BytesLeftOver, WindowPastMemory, ProcessesClash}
 use Rattle.image.specs.declared.Process.{Process}
 use Rattle.image.specs.Codec.{Codec, Result, refused, accepted, num, seq, via, section, listSection, uniformSection}
 use Rattle.window.specs.Limits.{tasks, mostConstants, mostRegisters, mostProgram, mostData}
@@ -24,7 +24,7 @@ pub record Image : Type 0 where
   pub rows : List Row
   pub flag : ℕ
   pub processes : List Process
-  pub constants : List ℕ
+  pub constants : List Cell
   pub registers : List Cell
   pub program : List ℕ
   pub dataWords : List Cell
@@ -89,8 +89,8 @@ processTask before p = p .task
 unfoldable pub processesCodec : List Row → Codec (ℕ × List Process)
 processesCodec rows = section (num 1 ProcessField flagSound) (processCodec rows) processTask 1 ptCount 0
 
--- ---- constants: count 2 (to 4,096), words. Registers: count 2 (to 2,048); tag 1, word. Program: count 4 (to 2^20), words. Data: count 4
--- (to 2^20); state 1, word. Words are 8 bytes
+-- ---- constants: count 2 (to 4,096); quality 1, word. Registers: count 2 (to 2,048); tag 1, word. Program: count 4 (to 2^20), words. Data:
+-- count 4 (to 2^20); state 1, word. Words are 8 bytes
 
 -- a word: any 8 bytes
 unfoldable pub wordCodec : Codec ℕ
@@ -108,17 +108,17 @@ toCell fields = let (tag, word) = fields in cell tag word
 abbrev pub fromCell : Cell → CellFields
 fromCell c = (c .tag, c .word)
 
--- a tag or state, and a word
-unfoldable pub cellCodec : (allowed : ℕ → Bool) → Codec Cell
-cellCodec allowed = via toCell fromCell (seq (num 1 CellField allowed) (λ tag. wordCodec))
+-- a quality, tag or state, refused by e where it isn't allowed, and a word
+unfoldable pub cellCodec : (e : Refusal) → (allowed : ℕ → Bool) → Codec Cell
+cellCodec e allowed = via toCell fromCell (seq (num 1 e allowed) (λ tag. wordCodec))
 
-unfoldable pub cellsCodec : (allowed : ℕ → Bool) → (w most : ℕ) → Codec (List Cell)
-cellsCodec allowed w most = uniformSection (cellCodec allowed) w most
+unfoldable pub cellsCodec : (e : Refusal) → (allowed : ℕ → Bool) → (w most : ℕ) → Codec (List Cell)
+cellsCodec e allowed w most = uniformSection (cellCodec e allowed) w most
 
 -- ---- the whole
 
 abbrev pub ImageFields : Type 0
-ImageFields = List Row × ((ℕ × List Process) × (List ℕ × (List Cell × (List ℕ × List Cell))))
+ImageFields = List Row × ((ℕ × List Process) × (List Cell × (List Cell × (List ℕ × List Cell))))
 
 abbrev pub toImage : ImageFields → Image
 toImage fields =
@@ -141,10 +141,10 @@ imageCodec =
     via toImage fromImage
     (seq tasksCodec (λ rows.
     seq (processesCodec rows) (λ processes.
-    seq (wordsCodec 2 mostConstants) (λ constants.
-    seq (cellsCodec tagSound 2 mostRegisters) (λ registers.
+    seq (cellsCodec ConstantField qualitySound 2 mostConstants) (λ constants.
+    seq (cellsCodec CellField tagSound 2 mostRegisters) (λ registers.
     seq (wordsCodec 4 mostProgram) (λ program.
-    cellsCodec stateSound 4 mostData))))))
+    cellsCodec CellField stateSound 4 mostData))))))
 
 -- the bytes of a row and of a process
 abbrev pub rowLength : ℕ
@@ -185,7 +185,7 @@ unfoldable pub stateOf : Image → State
 stateOf i = record {
   rows = i .rows;
   table = record { psw = pswTable (i .processes); queues = queuesOf tasks 1 (i .processes); flag = i .flag };
-  constants = i .constants;
+  constants = memoryOf (i .constants);
   registers = memoryOf (i .registers);
   program = i .program;
   dataWords = memoryOf (i .dataWords);
@@ -214,7 +214,7 @@ imageOf s = record {
   rows = s .rows;
   flag = s .table .flag;
   processes = processesFrom (s .table .psw) 1 (s .table .queues);
-  constants = s .constants;
+  constants = cellsOf (s .constants .tags) (s .constants .words);
   registers = cellsOf (s .registers .tags) (s .registers .words);
   program = s .program;
   dataWords = cellsOf (s .dataWords .tags) (s .dataWords .words);
@@ -236,7 +236,7 @@ afterSections (accepted i []) =
     (cond (not (distinct (map ptOf (i .processes)) && totalSound (length (i .processes)) (i .flag))) (bad ProcessesClash)
     (good i))
 
--- reading an image: refusals 1, 2, 3, 12 and 13 in byte order, then 4, 5 and 6
+-- reading an image: refusals 1, 2, 3, 12, 14 and 13 in byte order, then 4, 5 and 6
 unfoldable pub decode : List ℕ → Decoded
 decode b = afterSections (imageCodec .dec b)
 

@@ -8,6 +8,7 @@ use native.Mathlib.Numerals.{add-one}
 use native.Mathlib.Omega.{arith}
 use lib.ListN.{length, getD, drop, set, drop-of-length-le}
 use borrow.Author.Tests.{eq-eqb, ne-eqb}
+use Rattle.refusal.specs.declared.Refusal.the-variants.{CellField}
 use Rattle.window.specs.Memories.{cell}
 use Rattle.image.specs.Codec.{Codec, digits, num, seq, via, encMany, noState}
 use Rattle.image.specs.Image.{wordCodec, cellCodec, cellsOf}
@@ -75,14 +76,14 @@ module _ {A : Type 0} (c : Codec A) (size : ℕ) (long : (a : A) → length (c .
 -- ---- cells, each in two parts
 
 cell-laid : (at t w : ℕ) (l : List ℕ) {x : ℕ} {l₁ l₂ : List ℕ} → at + 9 ≤ length l → x ≡ t → l₁ ≡ laid at (digits 1 x) l → l₂ ≡ laid (at + 1) (digits 8 w) l₁
-    → l₂ ≡ laid at (cellCodec (λ _. true) .enc (cell t w)) l
+    → l₂ ≡ laid at (cellCodec CellField (λ _. true) .enc (cell t w)) l
 unfolding cellCodec via seq wordCodec num
 cell-laid at t w l h ex e1 e2 =
     let o = laid-append at (digits 1 t) (digits 8 w) l (rw length-digits (omega arith)) in
     rw (e2, e1, ex) (rw length-digits at o)
 
 abbrev pub PuttingCells : (at : ℕ) (tags words l₀ l : List ℕ) (p i : ℕ) → Type 0
-PuttingCells at tags words l₀ l p i = Putting (cellCodec (λ _. true)) 9 (cell-length (λ _. true)) at (cellsOf tags words) l₀ l p i
+PuttingCells at tags words l₀ l p i = Putting (cellCodec CellField (λ _. true)) 9 (cell-length CellField (λ _. true)) at (cellsOf tags words) l₀ l p i
 
 module _ (at : ℕ) (tags words l₀ : List ℕ) where
   pub cells-unpaired : (length tags ≡ length words → ⊥) → l₀ ≡ putCells at tags words l₀
@@ -102,18 +103,18 @@ module _ (at : ℕ) (tags words l₀ : List ℕ) where
 
     module _ (fit : at + 9 * length words ≤ length l₀) where
       pub cells-start : PuttingCells at tags words l₀ l₀ at 0
-      cells-start = start (cellCodec (λ _. true)) 9 (cell-length (λ _. true)) at (cellsOf tags words) l₀ (rw many fit)
+      cells-start = start (cellCodec CellField (λ _. true)) 9 (cell-length CellField (λ _. true)) at (cellsOf tags words) l₀ (rw many fit)
 
       module _ {l : List ℕ} {p i : ℕ} (z : PuttingCells at tags words l₀ l p i) where
         pub cells-fit : i < length words → p + 9 ≤ length l₀
-        cells-fit h = fits (cellCodec (λ _. true)) 9 (cell-length (λ _. true)) at (cellsOf tags words) l₀ z (rw many h)
+        cells-fit h = fits (cellCodec CellField (λ _. true)) 9 (cell-length CellField (λ _. true)) at (cellsOf tags words) l₀ z (rw many h)
 
         pub cells-step : {x : ℕ} {l₁ l₂ : List ℕ} → i < length words → x ≡ getD tags i 0 → l₁ ≡ laid p (digits 1 x) l
             → l₂ ≡ laid (p + 1) (digits 8 (getD words i 0)) l₁ → PuttingCells at tags words l₀ l₂ (p + 9) (i + 1)
         cells-step h ex e1 e2 =
-            step (cellCodec (λ _. true)) 9 (cell-length (λ _. true)) at (cellsOf tags words) l₀ z (rw many h) (cells-cons tags words i same h)
+            step (cellCodec CellField (λ _. true)) 9 (cell-length CellField (λ _. true)) at (cellsOf tags words) l₀ z (rw many h) (cells-cons tags words i same h)
             (cell-laid p (getD tags i 0) (getD words i 0) l (rw (z .same) (cells-fit h)) ex e1 e2)
 
         pub cells-done : length words ≤ i → l ≡ putCells at tags words l₀
         unfolding cellBytes
-        cells-done h = paired (done (cellCodec (λ _. true)) 9 (cell-length (λ _. true)) at (cellsOf tags words) l₀ z (rw many h) (rw many fit))
+        cells-done h = paired (done (cellCodec CellField (λ _. true)) 9 (cell-length CellField (λ _. true)) at (cellsOf tags words) l₀ z (rw many h) (rw many fit))

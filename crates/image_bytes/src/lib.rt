@@ -9,8 +9,15 @@ ghost use Rattle.image.specs.Codec.{num, digits, decMany, noState};
 ghost use Rattle.image.specs.Image.{wordCodec, cellCodec};
 ghost use Rattle.image_bytes.specs.Code.Reading.{fieldAt, numberAt, listed, tagsAt, filledWords, filledCells};
 ghost use Rattle.image_bytes.specs.Code.Writing.{laid, putAt, wordBytes, putCells};
-ghost use Rattle.image_bytes.specs.Code.Scanning.{scan, valueAt, tagTest};
+ghost use Rattle.image_bytes.specs.Code.Scanning.{scan, valueAt, tagTest, tagRefusal};
 use refusal::Refusal;
+
+// Whose tags they are: the qualities of constants, the tags of registers or the states of data words.
+pub enum CellKind {
+    Constant,
+    Register,
+    Data,
+}
 
 // A check of an image under way: refused, or at the place of the next field.
 pub enum Scan {
@@ -225,51 +232,62 @@ pub fn put_cells(out: &mut [u8], at: usize, tags: &[u8], words: &[u64])
     }
 }
 
-// Whether a tag is one of a register, or of a data word.
-fn tag_ok(register: bool, t: u8) -> bool
-    ensures { λ r. ⌜ r ≡ tagTest register t ⌝ }
+// Whether a tag is one of its kind.
+fn tag_ok(kind: CellKind, t: u8) -> bool
+    ensures { λ r. ⌜ r ≡ tagTest kind t ⌝ }
 {
-    if register {
-        t <= 6 || (8 <= t && t <= 14)
-    } else {
-        t <= 1
+    match kind {
+        CellKind::Constant => t <= 6,
+        CellKind::Register => t <= 6 || (8 <= t && t <= 14),
+        CellKind::Data => t <= 1,
+    }
+}
+
+// What a tag that is not one of its kind is refused by.
+fn tag_refusal(kind: CellKind) -> Refusal
+    ensures { λ r. ⌜ r ≡ tagRefusal kind ⌝ }
+{
+    match kind {
+        CellKind::Constant => Refusal::ConstantField,
+        CellKind::Register => Refusal::CellField,
+        CellKind::Data => Refusal::CellField,
     }
 }
 
 // Whether all tags so far and this one are sound. With no early return the loops over tags go many at a time.
-fn still(good: bool, register: bool, t: u8) -> bool
-    ensures { λ r. ⌜ r ≡ (good && tagTest register t) ⌝ }
+fn still(good: bool, kind: CellKind, t: u8) -> bool
+    ensures { λ r. ⌜ r ≡ (good && tagTest kind t) ⌝ }
 {
     if good {
-        return tag_ok(register, t);
+        return tag_ok(kind, t);
     }
     false
 }
 
 // Whether all tags are sound.
-pub fn tags_ok(register: bool, tags: &[u8]) -> bool
-    ensures { λ r. ⌜ r ≡ every (tagTest register) (now (tags .entry)) ⌝ }
+pub fn tags_ok(kind: CellKind, tags: &[u8]) -> bool
+    ensures { λ r. ⌜ r ≡ every (tagTest kind) (now (tags .entry)) ⌝ }
 {
     let n = tags.len();
     let mut good = true;
     let mut i = 0;
     while i < n {
-        good = still(good, register, tags[i]);
+        good = still(good, kind, tags[i]);
         i += 1;
     }
     good
 }
 
 // Whether the tags of n cells at `at` are sound, of which the last may not be whole.
-fn cell_tags_ok(s: &[u8], at: usize, n: usize, register: bool) -> bool
+fn cell_tags_ok(s: &[u8], at: usize, n: usize, kind: CellKind) -> bool
     requires { ⌜ 9 * n ≤ (length (now s) - at) + 8 ⌝ }
-    ensures { λ r. ⌜ r ≡ every (tagTest register) (tagsAt n at (now (s .entry))) ⌝ }
+    ensures { λ r. ⌜ r ≡ every (tagTest kind) (tagsAt n at (now (s .entry))) ⌝ }
 {
     let mut p = at;
     let mut k = n;
     let mut good = true;
     while 0 < k {
-        good = still(good, register, s[p]);
+        good = still(good, kind, s[p]);
         p += 9;
         k -= 1;
     }
@@ -322,21 +340,21 @@ pub fn check_words(s: &[u8], c: Scan, n: usize) -> Scan
 }
 
 // n cells: refused where a tag that is there is not sound, and then where they are not all there.
-pub fn check_cells(s: &[u8], c: Scan, n: usize, register: bool) -> Scan
-    ensures { λ r. ⌜ r ≡ scan (decMany (λ _. cellCodec (tagTest register)) noState tt n) (now (s .entry)) c ⌝ }
+pub fn check_cells(s: &[u8], c: Scan, n: usize, kind: CellKind) -> Scan
+    ensures { λ r. ⌜ r ≡ scan (decMany (λ _. cellCodec (tagRefusal kind) (tagTest kind)) noState tt n) (now (s .entry)) c ⌝ }
 {
     let Scan::At(p) = c else {
         return c;
     };
     let left = left_from(s, p);
     if left / 9 < n {
-        if !cell_tags_ok(s, p, (left + 8) / 9, register) {
-            return Scan::Refused(Refusal::CellField);
+        if !cell_tags_ok(s, p, (left + 8) / 9, kind) {
+            return Scan::Refused(tag_refusal(kind));
         }
         return Scan::Refused(Refusal::InputEnds);
     }
-    if !cell_tags_ok(s, p, n, register) {
-        return Scan::Refused(Refusal::CellField);
+    if !cell_tags_ok(s, p, n, kind) {
+        return Scan::Refused(tag_refusal(kind));
     }
     Scan::At(s.len() - (left - 9 * n))
 }

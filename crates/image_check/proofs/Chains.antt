@@ -8,9 +8,9 @@ use native.Mathlib.Nat.{add-zero}
 use lib.ListN.{drop}
 use lib.Seq.{drop-drop}
 use lib.Dec.{ltb}
-use Rattle.window.specs.Sound.{bits, tagSound, stateSound}
+use Rattle.window.specs.Sound.{bits, tagSound, stateSound, qualitySound}
 use Rattle.step.specs.Soundness.{taskSound}
-use Rattle.refusal.specs.declared.Refusal.the-variants.{TaskField}
+use Rattle.refusal.specs.declared.Refusal.the-variants.{TaskField, ConstantField, CellField}
 use Rattle.image.specs.Codec.{field, num}
 use Rattle.image.specs.Image.{rowCodec, toRow, fromRow, rowTask, tasksCodec, processTask, processesCodec, wordsCodec, cellsCodec, imageCodec, toImage, fromImage}
 use Rattle.image_bytes.specs.declared.Scan.{Scan}
@@ -57,17 +57,17 @@ process-leads before s x e p q = rw (e, q, drop-drop 1 p s)
 -- the image: six sections
 pub image-scan : (s : List ℕ) {c₁ c₂ c₃ c₄ c₅ c₆ : Scan} → c₁ ≡ scan (tasksCodec .dec) s (At 0)
     → c₂ ≡ scan (processesCodec (rowsAt (fieldAt 1 0 s) s) .dec) s c₁
-    → c₃ ≡ scan (wordsCodec 2 4096 .dec) s c₂
-    → c₄ ≡ scan (cellsCodec tagSound 2 2048 .dec) s c₃
+    → c₃ ≡ scan (cellsCodec ConstantField qualitySound 2 4096 .dec) s c₂
+    → c₄ ≡ scan (cellsCodec CellField tagSound 2 2048 .dec) s c₃
     → c₅ ≡ scan (wordsCodec 4 1048576 .dec) s c₄
-    → c₆ ≡ scan (cellsCodec stateSound 4 1048576 .dec) s c₅
+    → c₆ ≡ scan (cellsCodec CellField stateSound 4 1048576 .dec) s c₅
     → scan (imageCodec .dec) s (At 0) ≡ c₆
 unfolding imageCodec
 image-scan s {c₁} {c₂} {c₃} {c₄} e₁ e₂ e₃ e₄ e₅ e₆ =
     via-scan toImage fromImage _ s (At 0)
     ∙ seq-scan tasks-spans s (At 0) e₁ _ (rowsAt (fieldAt 1 0 s) s) (λ p q. let z : _≡_ {A = ℕ} 0 p = cc in rw (← z) (first-rows s (field 1 s)))
     ∙ then-scan (processes-spans (rowsAt (fieldAt 1 0 s) s)) s c₁ e₂ _
-    ∙ then-scan (words-spans 2 4096) s c₂ e₃ _
-    ∙ then-scan (cells-spans tagSound 2 2048) s c₃ e₄ _
+    ∙ then-scan (cells-spans ConstantField qualitySound 2 4096) s c₂ e₃ _
+    ∙ then-scan (cells-spans CellField tagSound 2 2048) s c₃ e₄ _
     ∙ then-scan (words-spans 4 (2 ^ 20)) s c₄ e₅ _
     ∙ sym e₆

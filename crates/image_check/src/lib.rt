@@ -9,12 +9,13 @@ ghost use Rattle.step.specs.Soundness.{hasRow, windowsSound, distinct, totalSou
 ghost use Rattle.image.specs.Codec.{num, decMany, accepted};
 ghost use Rattle.image.specs.Image.{rowCodec, rowTask, tasksCodec, processCodec, processTask, processesCodec, wordsCodec, cellsCodec, afterSections, decode, rowLength, processLength};
 ghost use Rattle.image_bytes.specs.Code.Reading.{fieldAt};
-ghost use Rattle.image_bytes.specs.Code.Scanning.{scan, Within, tagTest};
+ghost use Rattle.image_bytes.specs.Code.Scanning.{scan, Within, tagTest, tagRefusal};
 ghost use Rattle.library.specs.Calls.{checkAnswer};
 ghost use Rattle.library.specs.Promises.{readAnswered};
 ghost use Rattle.image_check.specs.Code.Places.{rowAt, rowsAt, ptsAt, trapCodec, sizesIn, imageAt};
 use image::PROCESS_BYTES;
 use image::ROW_BYTES;
+use image_bytes::CellKind;
 use image_bytes::Scan;
 use library::ReadAnswer;
 use library::Sizes;
@@ -205,13 +206,13 @@ fn check_words(s: &[u8], c: Scan, w: usize, most: u64) -> Scan
 }
 
 // A section of cells, likewise.
-fn check_cells(s: &[u8], c: Scan, w: usize, most: u64, register: bool) -> Scan
+fn check_cells(s: &[u8], c: Scan, w: usize, most: u64, kind: CellKind) -> Scan
     requires { ⌜ w ≤ 8 ⌝ }
-    ensures { λ r. ⌜ r ≡ scan (cellsCodec (tagTest register) w most .dec) (now (s .entry)) c ⌝ }
+    ensures { λ r. ⌜ r ≡ scan (cellsCodec (tagRefusal kind) (tagTest kind) w most .dec) (now (s .entry)) c ⌝ }
 {
     let n = image_bytes::value(s, c, 0, w);
     let c = image_bytes::check_number(s, c, w, n <= most, Refusal::CountOverLimit);
-    image_bytes::check_cells(s, c, n as usize, register)
+    image_bytes::check_cells(s, c, n as usize, kind)
 }
 
 // ---- after the last section
@@ -296,7 +297,7 @@ fn sizes(s: &[u8]) -> Sizes
     let processes = image_bytes::number_at(s, at, 1) as usize;
     let at = at + (2 + PROCESS_BYTES * processes);
     let constants = image_bytes::number_at(s, at, 2) as usize;
-    let at = at + (2 + 8 * constants);
+    let at = at + (2 + 9 * constants);
     let registers = image_bytes::number_at(s, at, 2) as usize;
     let at = at + (2 + 9 * registers);
     let program = image_bytes::number_at(s, at, 4) as usize;
@@ -341,17 +342,17 @@ fn check_end(s: &[u8], end: usize) -> ReadAnswer
     ReadAnswer::Read(n)
 }
 
-// Refusals 1, 2 and 3 in byte order, then 4, 5 and 6; else the sizes of the state.
+// Refusals 1, 2, 3, 12, 14 and 13 in byte order, then 4, 5 and 6; else the sizes of the state.
 pub fn check(image: &[u8]) -> ReadAnswer
     ensures { λ r. ⌜ r ≡ readAnswered (checkAnswer (decode (now (image .entry)))) ⌝ }
 {
     let rows = image_bytes::number_at(image, 0, 1);
     let c = check_tasks(image, Scan::At(0));
     let c = check_processes(image, c, rows);
-    let c = check_words(image, c, 2, CONSTANTS);
-    let c = check_cells(image, c, 2, REGISTERS, true);
+    let c = check_cells(image, c, 2, CONSTANTS, CellKind::Constant);
+    let c = check_cells(image, c, 2, REGISTERS, CellKind::Register);
     let c = check_words(image, c, 4, PROGRAM);
-    let c = check_cells(image, c, 4, DATA, false);
+    let c = check_cells(image, c, 4, DATA, CellKind::Data);
     match c {
         Scan::Refused(e) => ReadAnswer::Refused(e),
         Scan::At(end) => check_end(image, end),

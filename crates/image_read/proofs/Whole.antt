@@ -16,18 +16,19 @@ use Rattle.image_check.specs.Code.Places.{processesAt, processesPlace, constant
 abbrev pub constantsAt : (n : Sizes) (m : ℕ) → ℕ
 constantsAt n m = 1 + rowLength * n .rows + (2 + processLength * m)
 
-pub all-filled : (n : Sizes) (m : ℕ) (s : List ℕ) (rows : List Row) (t : ProcessTable) (constants registerTags registerWords program dataTags dataWords : List ℕ)
-    {constants′ registerTags′ registerWords′ program′ dataTags′ dataWords′ : List ℕ} → m ≡ fieldAt 1 (1 + rowLength * n .rows) s
-    → constants′ ≡ over (wordsAt (n .constants) (constantsAt n m + 2) s) constants
-    → (registerTags′ ≡ over (memoryOf (cellsAt (n .registers) (constantsAt n m + (2 + 8 * n .constants) + 2) s) .tags) registerTags)
-    × (registerWords′ ≡ over (memoryOf (cellsAt (n .registers) (constantsAt n m + (2 + 8 * n .constants) + 2) s) .words) registerWords)
-    → program′ ≡ over (wordsAt (n .program) (constantsAt n m + (2 + 8 * n .constants) + (2 + 9 * n .registers) + 4) s) program
-    → (dataTags′ ≡ over (memoryOf (cellsAt (n .data_words) (constantsAt n m + (2 + 8 * n .constants) + (2 + 9 * n .registers) + (4 + 8 * n .program) + 4) s) .tags) dataTags)
-    × (dataWords′ ≡ over (memoryOf (cellsAt (n .data_words) (constantsAt n m + (2 + 8 * n .constants) + (2 + 9 * n .registers) + (4 + 8 * n .program) + 4) s) .words) dataWords)
-    → lentBuffers (over (imageAt n s .rows) rows) (stateOf (imageAt n s) .table) constants′ registerTags′ registerWords′ program′ dataTags′ dataWords′
-    ≡ holding (stateOf (imageAt n s)) (lentBuffers rows t constants registerTags registerWords program dataTags dataWords)
+pub all-filled : (n : Sizes) (m : ℕ) (s : List ℕ) (rows : List Row) (t : ProcessTable) (constantTags constantWords registerTags registerWords program dataTags dataWords : List ℕ)
+    {constantTags′ constantWords′ registerTags′ registerWords′ program′ dataTags′ dataWords′ : List ℕ} → m ≡ fieldAt 1 (1 + rowLength * n .rows) s
+    → (constantTags′ ≡ over (memoryOf (cellsAt (n .constants) (constantsAt n m + 2) s) .tags) constantTags)
+    × (constantWords′ ≡ over (memoryOf (cellsAt (n .constants) (constantsAt n m + 2) s) .words) constantWords)
+    → (registerTags′ ≡ over (memoryOf (cellsAt (n .registers) (constantsAt n m + (2 + 9 * n .constants) + 2) s) .tags) registerTags)
+    × (registerWords′ ≡ over (memoryOf (cellsAt (n .registers) (constantsAt n m + (2 + 9 * n .constants) + 2) s) .words) registerWords)
+    → program′ ≡ over (wordsAt (n .program) (constantsAt n m + (2 + 9 * n .constants) + (2 + 9 * n .registers) + 4) s) program
+    → (dataTags′ ≡ over (memoryOf (cellsAt (n .data_words) (constantsAt n m + (2 + 9 * n .constants) + (2 + 9 * n .registers) + (4 + 8 * n .program) + 4) s) .tags) dataTags)
+    × (dataWords′ ≡ over (memoryOf (cellsAt (n .data_words) (constantsAt n m + (2 + 9 * n .constants) + (2 + 9 * n .registers) + (4 + 8 * n .program) + 4) s) .words) dataWords)
+    → lentBuffers (over (imageAt n s .rows) rows) (stateOf (imageAt n s) .table) constantTags′ constantWords′ registerTags′ registerWords′ program′ dataTags′ dataWords′
+    ≡ holding (stateOf (imageAt n s)) (lentBuffers rows t constantTags constantWords registerTags registerWords program dataTags dataWords)
 unfolding holding stateOf imageAt processesPlace constantsPlace registersPlace programPlace dataPlace
-all-filled n m s rows t constants registerTags registerWords program dataTags dataWords e c r p d = rw (c, r .0, r .1, p, d .0, d .1, e)
+all-filled n m s rows t constantTags constantWords registerTags registerWords program dataTags dataWords e c r p d = rw (c .0, c .1, r .0, r .1, p, d .0, d .1, e)
 
 -- the table, from the section of m processes
 pub table-read : (n : Sizes) (m : ℕ) (s : List ℕ) {t : ProcessTable} → m ≡ fieldAt 1 (1 + rowLength * n .rows) s

@@ -138,7 +138,8 @@ fn fill_first_cells(image: &[u8], at: usize, n: usize, tags: &mut [u8], words: &
 
 // Fills the buffers from the sections behind that of the m processes; so they hold the state, whatever their rows and table are.
 fn fill(
-    constants: &mut [u64],
+    constant_tags: &mut [u8],
+    constant_words: &mut [u64],
     register_tags: &mut [u8],
     register_words: &mut [u64],
     program: &mut [u64],
@@ -148,14 +149,20 @@ fn fill(
     n: Sizes,
     m: usize,
 )
-    requires { ⌜ Room n m (now image) (length (now constants)) (length (now «register_tags»)) (length (now «register_words»)) (length (now program)) (length (now data_tags)) (length (now data_words)) ⌝ }
-    ensures { λ _. ⌜ ((rows : List Row) (t : ProcessTable) → lentBuffers (over (imageAt n (now (image .entry)) .rows) rows) (stateOf (imageAt n (now (image .entry))) .table) (now (constants .exit)) (now («register_tags» .exit)) (now («register_words» .exit)) (now (program .exit)) (now (data_tags .exit)) (now (data_words .exit)) ≡ holding (stateOf (imageAt n (now (image .entry)))) (lentBuffers rows t (now (constants .entry)) (now («register_tags» .entry)) (now («register_words» .entry)) (now (program .entry)) (now (data_tags .entry)) (now (data_words .entry)))) ⌝ }
+    requires { ⌜ Room n m (now image) (length (now «constant_tags»)) (length (now «constant_words»)) (length (now «register_tags»)) (length (now «register_words»)) (length (now program)) (length (now data_tags)) (length (now data_words)) ⌝ }
+    ensures { λ _. ⌜ ((rows : List Row) (t : ProcessTable) → lentBuffers (over (imageAt n (now (image .entry)) .rows) rows) (stateOf (imageAt n (now (image .entry))) .table) (now («constant_tags» .exit)) (now («constant_words» .exit)) (now («register_tags» .exit)) (now («register_words» .exit)) (now (program .exit)) (now (data_tags .exit)) (now (data_words .exit)) ≡ holding (stateOf (imageAt n (now (image .entry)))) (lentBuffers rows t (now («constant_tags» .entry)) (now («constant_words» .entry)) (now («register_tags» .entry)) (now («register_words» .entry)) (now (program .entry)) (now (data_tags .entry)) (now (data_words .entry)))) ⌝ }
 {
     let constants_at = 1 + ROW_BYTES * n.rows + (2 + PROCESS_BYTES * m);
-    let registers_at = constants_at + (2 + 8 * n.constants);
+    let registers_at = constants_at + (2 + 9 * n.constants);
     let program_at = registers_at + (2 + 9 * n.registers);
     let data_at = program_at + (4 + 8 * n.program);
-    fill_first_words(image, constants_at + 2, n.constants, constants);
+    fill_first_cells(
+        image,
+        constants_at + 2,
+        n.constants,
+        constant_tags,
+        constant_words,
+    );
     fill_first_cells(
         image,
         registers_at + 2,
@@ -182,7 +189,8 @@ fn refused(e: Refusal, rows: Rows, table: ProcessTable) -> AfterRead
 // Reads an image of these sizes into buffers that they fit.
 fn read_fitting(
     rows: Rows,
-    constants: &mut [u64],
+    constant_tags: &mut [u8],
+    constant_words: &mut [u64],
     register_tags: &mut [u8],
     register_words: &mut [u64],
     program: &mut [u64],
@@ -191,8 +199,8 @@ fn read_fitting(
     image: &[u8],
     n: Sizes,
 ) -> AfterRead
-    requires { ⌜ (readAnswered (checkAnswer (decode (now image))) ≡ Read n) × (fits n (roomFrom (min (rows .n) tasks) (length (now constants)) (length (now «register_tags»)) (length (now «register_words»)) (length (now program)) (length (now data_tags)) (length (now data_words))) ≡ true) ⌝ }
-    ensures { λ r. ⌜ ((table : ProcessTable) → ReadPromise (lentBuffers (heldRows rows) table (now (constants .entry)) (now («register_tags» .entry)) (now («register_words» .entry)) (now (program .entry)) (now (data_tags .entry)) (now (data_words .entry))) (now (image .entry)) (r .answer) (lentBuffers (heldRows (r .rows)) (r .table) (now (constants .exit)) (now («register_tags» .exit)) (now («register_words» .exit)) (now (program .exit)) (now (data_tags .exit)) (now (data_words .exit))) × SamePlaces rows (r .rows)) ⌝ }
+    requires { ⌜ (readAnswered (checkAnswer (decode (now image))) ≡ Read n) × (fits n (roomFrom (min (rows .n) tasks) (length (now «constant_tags»)) (length (now «constant_words»)) (length (now «register_tags»)) (length (now «register_words»)) (length (now program)) (length (now data_tags)) (length (now data_words))) ≡ true) ⌝ }
+    ensures { λ r. ⌜ ((table : ProcessTable) → ReadPromise (lentBuffers (heldRows rows) table (now («constant_tags» .entry)) (now («constant_words» .entry)) (now («register_tags» .entry)) (now («register_words» .entry)) (now (program .entry)) (now (data_tags .entry)) (now (data_words .entry))) (now (image .entry)) (r .answer) (lentBuffers (heldRows (r .rows)) (r .table) (now («constant_tags» .exit)) (now («constant_words» .exit)) (now («register_tags» .exit)) (now («register_words» .exit)) (now (program .exit)) (now (data_tags .exit)) (now (data_words .exit))) × SamePlaces rows (r .rows)) ⌝ }
 {
     let old = rows.at;
     let at = rows_at(image, n.rows, old);
@@ -200,7 +208,8 @@ fn read_fitting(
     let m = image_bytes::number_at(image, place, 1) as usize;
     let table = table_at(image, place, m);
     fill(
-        constants,
+        constant_tags,
+        constant_words,
         register_tags,
         register_words,
         program,
@@ -221,7 +230,8 @@ fn read_fitting(
 fn read_sound(
     rows: Rows,
     table: ProcessTable,
-    constants: &mut [u64],
+    constant_tags: &mut [u8],
+    constant_words: &mut [u64],
     register_tags: &mut [u8],
     register_words: &mut [u64],
     program: &mut [u64],
@@ -231,12 +241,13 @@ fn read_sound(
     n: Sizes,
 ) -> AfterRead
     requires { ⌜ readAnswered (checkAnswer (decode (now image))) ≡ Read n ⌝ }
-    ensures { λ r. ⌜ ReadPromise (lentBuffers (heldRows rows) table (now (constants .entry)) (now («register_tags» .entry)) (now («register_words» .entry)) (now (program .entry)) (now (data_tags .entry)) (now (data_words .entry))) (now (image .entry)) (r .answer) (lentBuffers (heldRows (r .rows)) (r .table) (now (constants .exit)) (now («register_tags» .exit)) (now («register_words» .exit)) (now (program .exit)) (now (data_tags .exit)) (now (data_words .exit))) × SamePlaces rows (r .rows) ⌝ }
+    ensures { λ r. ⌜ ReadPromise (lentBuffers (heldRows rows) table (now («constant_tags» .entry)) (now («constant_words» .entry)) (now («register_tags» .entry)) (now («register_words» .entry)) (now (program .entry)) (now (data_tags .entry)) (now (data_words .entry))) (now (image .entry)) (r .answer) (lentBuffers (heldRows (r .rows)) (r .table) (now («constant_tags» .exit)) (now («constant_words» .exit)) (now («register_tags» .exit)) (now («register_words» .exit)) (now (program .exit)) (now (data_tags .exit)) (now (data_words .exit))) × SamePlaces rows (r .rows) ⌝ }
 {
     if !library_state::fits(
         n,
         library_state::row_count(rows.n),
-        constants.len(),
+        constant_tags.len(),
+        constant_words.len(),
         register_tags.len(),
         register_words.len(),
         program.len(),
@@ -247,7 +258,8 @@ fn read_sound(
     }
     read_fitting(
         rows,
-        constants,
+        constant_tags,
+        constant_words,
         register_tags,
         register_words,
         program,
@@ -262,7 +274,8 @@ fn read_sound(
 pub fn read(
     rows: Rows,
     table: ProcessTable,
-    constants: &mut [u64],
+    constant_tags: &mut [u8],
+    constant_words: &mut [u64],
     register_tags: &mut [u8],
     register_words: &mut [u64],
     program: &mut [u64],
@@ -270,7 +283,7 @@ pub fn read(
     data_words: &mut [u64],
     image: &[u8],
 ) -> AfterRead
-    ensures { λ r. ⌜ ReadPromise (lentBuffers (heldRows rows) table (now (constants .entry)) (now («register_tags» .entry)) (now («register_words» .entry)) (now (program .entry)) (now (data_tags .entry)) (now (data_words .entry))) (now (image .entry)) (r .answer) (lentBuffers (heldRows (r .rows)) (r .table) (now (constants .exit)) (now («register_tags» .exit)) (now («register_words» .exit)) (now (program .exit)) (now (data_tags .exit)) (now (data_words .exit))) × SamePlaces rows (r .rows) ⌝ }
+    ensures { λ r. ⌜ ReadPromise (lentBuffers (heldRows rows) table (now («constant_tags» .entry)) (now («constant_words» .entry)) (now («register_tags» .entry)) (now («register_words» .entry)) (now (program .entry)) (now (data_tags .entry)) (now (data_words .entry))) (now (image .entry)) (r .answer) (lentBuffers (heldRows (r .rows)) (r .table) (now («constant_tags» .exit)) (now («constant_words» .exit)) (now («register_tags» .exit)) (now («register_words» .exit)) (now (program .exit)) (now (data_tags .exit)) (now (data_words .exit))) × SamePlaces rows (r .rows) ⌝ }
 {
     let found = image_check::check(image);
     match found {
@@ -278,7 +291,8 @@ pub fn read(
         ReadAnswer::Read(n) => read_sound(
             rows,
             table,
-            constants,
+            constant_tags,
+            constant_words,
             register_tags,
             register_words,
             program,

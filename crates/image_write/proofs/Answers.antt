@@ -74,16 +74,16 @@ pub record Small (n : Sizes) (t : ProcessTable) : Type 0 where
 
 -- ---- a state in buffers that isn't refused
 
-module _ (v : Rows) (table : ProcessTable) (constants registerTags registerWords program dataTags dataWords : List ℕ) (n : Sizes)
+module _ (v : Rows) (table : ProcessTable) (constantTags constantWords registerTags registerWords program dataTags dataWords : List ℕ) (n : Sizes)
     (seven : length (v .at) ≡ 7)
-    (fine : stateRefused n (before v table constants registerTags registerWords program dataTags dataWords) ≡ false) where
+    (fine : stateRefused n (before v table constantTags constantWords registerTags registerWords program dataTags dataWords) ≡ false) where
   abbrev held : Buffers
-  held = before v table constants registerTags registerWords program dataTags dataWords
+  held = before v table constantTags constantWords registerTags registerWords program dataTags dataWords
 
-  pub fitted : Fitting n (lengths v table constants registerTags registerWords program dataTags dataWords)
+  pub fitted : Fitting n (lengths v table constantTags constantWords registerTags registerWords program dataTags dataWords)
   fitted =
-      fitting n (lengths v table constants registerTags registerWords program dataTags dataWords)
-      (rw (room-held v table constants registerTags registerWords program dataTags dataWords seven) at (accepted n held fine .0))
+      fitting n (lengths v table constantTags constantWords registerTags registerWords program dataTags dataWords)
+      (rw (room-held v table constantTags constantWords registerTags registerWords program dataTags dataWords seven) at (accepted n held fine .0))
 
   few : n .rows ≤ min (v .n) 7
   few = fitted .rows
@@ -97,7 +97,7 @@ module _ (v : Rows) (table : ProcessTable) (constants registerTags registerWords
       record {
         rows = omega (arith, few);
         processes = pts-few (livePts (table .queues)) (p .table .once) (p .table .small);
-        constants = omega (arith, z .constants, words-few 4096 (take (n .constants) constants) (m .constants));
+        constants = omega (arith, z .constantWords, memory-few 4096 _ (fieldsIn n held .constants) (m .constants));
         registers = omega (arith, z .registerWords, memory-few 2048 _ (fieldsIn n held .registers) (m .registers));
         program = omega (arith, z .program, words-few (2 ^ 20) (take (n .program) program) (m .program));
         dataWords = omega (arith, z .dataWords, memory-few (2 ^ 20) _ (fieldsIn n held .dataWords) (m .dataWords));
@@ -105,7 +105,10 @@ module _ (v : Rows) (table : ProcessTable) (constants registerTags registerWords
 
   -- the slices that are cut to the sizes
   abbrev pub given : State
-  given = cut v table constants registerTags registerWords program dataTags dataWords n
+  given = cut v table constantTags constantWords registerTags registerWords program dataTags dataWords n
+
+  pub constants-cut : length (take (n .constants) constantTags) ≡ length (take (n .constants) constantWords)
+  constants-cut = length-take-le (n .constants) constantTags (fitted .constantTags) ∙ sym (length-take-le (n .constants) constantWords (fitted .constantWords))
 
   pub tags-cut : length (take (n .registers) registerTags) ≡ length (take (n .registers) registerWords)
   tags-cut = length-take-le (n .registers) registerTags (fitted .registerTags) ∙ sym (length-take-le (n .registers) registerWords (fitted .registerWords))
@@ -117,13 +120,13 @@ module _ (v : Rows) (table : ProcessTable) (constants registerTags registerWords
   pub bytes : encode (fieldsIn n held) ≡ imageBytes given
   unfolding stateIn
   bytes =
-      ap encode (sym (cut-fields v table constants registerTags registerWords program dataTags dataWords n (omega (arith, few))))
-      ∙ image-bytes given tags-cut data-cut
+      ap encode (sym (cut-fields v table constantTags constantWords registerTags registerWords program dataTags dataWords n (omega (arith, few))))
+      ∙ image-bytes given constants-cut tags-cut data-cut
 
   -- how long it is
   pub image-size : (m : ℕ) → m ≡ length (livePts (table .queues))
       → length (encode (fieldsIn n held))
-      ≡ (1 + rowLength * n .rows) + ((2 + processLength * m) + ((2 + 8 * n .constants) + ((2 + 9 * n .registers) + ((4 + 8 * n .program) + (4 + 9 * n .data_words)))))
+      ≡ (1 + rowLength * n .rows) + ((2 + processLength * m) + ((2 + 9 * n .constants) + ((2 + 9 * n .registers) + ((4 + 8 * n .program) + (4 + 9 * n .data_words)))))
   unfolding imageBytes stateIn
   image-size m k =
       ap length bytes
@@ -132,9 +135,10 @@ module _ (v : Rows) (table : ProcessTable) (constants registerTags registerWords
         tasks-size (v .at) (n .rows) (omega (arith, few, seven)),
         processes-size (table .psw) (table .flag) (table .queues) m k,
         words-size,
+        cells-size 2 (take (n .constants) constantWords) (take (n .constants) constantTags) constants-cut,
         cells-size 2 (take (n .registers) registerWords) (take (n .registers) registerTags) tags-cut,
         cells-size 4 (take (n .data_words) dataWords) (take (n .data_words) dataTags) data-cut,
-        length-take-le (n .constants) constants (fitted .constants),
+        length-take-le (n .constants) constantWords (fitted .constantWords),
         length-take-le (n .registers) registerWords (fitted .registerWords),
         length-take-le (n .program) program (fitted .program),
         length-take-le (n .data_words) dataWords (fitted .dataWords),

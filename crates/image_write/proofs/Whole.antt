@@ -6,6 +6,7 @@ use mathlib.Core.List.{List, [], _∷_, _++_}
 use lib.ListN.{length}
 use Rattle.window.specs.declared.Row.{Row}
 use Rattle.step.specs.State.{State}
+use Rattle.refusal.specs.declared.Refusal.{Refusal}
 use Rattle.image.specs.declared.Process.{Process}
 use Rattle.image.specs.Codec.{Codec, digits, num, count, seq, via, encMany, section, noHeader, listSection, noState, uniformSection}
 use Rattle.image.specs.Image.{rowCodec, rowTask, tasksCodec, processCodec, processTask, processesCodec, processesFrom, wordsCodec, cellsCodec, cellsOf, imageCodec, imageOf, encode}
@@ -33,9 +34,9 @@ words-bytes : (w most : ℕ) (words : List ℕ) → wordsCodec w most .enc words
 unfolding wordsCodec uniformSection listSection section via count num noHeader wordsSection wordBytes
 words-bytes w most words = refl
 
-cells-bytes : (good : ℕ → Bool) (w most : ℕ) (tags words : List ℕ) → length tags ≡ length words → cellsCodec good w most .enc (cellsOf tags words) ≡ cellsSection w tags words
+cells-bytes : (e : Refusal) (good : ℕ → Bool) (w most : ℕ) (tags words : List ℕ) → length tags ≡ length words → cellsCodec e good w most .enc (cellsOf tags words) ≡ cellsSection w tags words
 unfolding cellsCodec uniformSection listSection section via count num noHeader cellsSection
-cells-bytes good w most tags words h = ap₂ {C = List ℕ} (λ n l. digits w n ++ l) (cells-length tags words h) (cell-bytes good tags words)
+cells-bytes e good w most tags words h = ap₂ {C = List ℕ} (λ n l. digits w n ++ l) (cells-length tags words h) (cell-bytes e good tags words)
 
 -- what is left after each section
 module _ (s : State) where
@@ -49,16 +50,16 @@ module _ (s : State) where
   left₃ = cellsSection 2 (s .registers .tags) (s .registers .words) ++ left₄
 
   abbrev pub left₂ : List ℕ
-  left₂ = wordsSection 2 (s .constants) ++ left₃
+  left₂ = cellsSection 2 (s .constants .tags) (s .constants .words) ++ left₃
 
   abbrev pub left₁ : List ℕ
   left₁ = processesSection (s .table .flag) (processesFrom (s .table .psw) 1 (s .table .queues)) ++ left₂
 
-  pub image-bytes : length (s .registers .tags) ≡ length (s .registers .words) → length (s .dataWords .tags) ≡ length (s .dataWords .words) → encode s ≡ imageBytes s
+  pub image-bytes : length (s .constants .tags) ≡ length (s .constants .words) → length (s .registers .tags) ≡ length (s .registers .words) → length (s .dataWords .tags) ≡ length (s .dataWords .words) → encode s ≡ imageBytes s
   unfolding encode imageOf imageCodec via seq imageBytes
-  image-bytes h k =
+  image-bytes g h k =
       ap₂ {C = List ℕ} (λ a b. a ++ b) (tasks-bytes _)
       (ap₂ {C = List ℕ} (λ a b. a ++ b) (processes-bytes _ _ _)
-      (ap₂ {C = List ℕ} (λ a b. a ++ b) (words-bytes _ _ _)
-      (ap₂ {C = List ℕ} (λ a b. a ++ b) (cells-bytes _ _ _ _ _ h)
-      (ap₂ {C = List ℕ} (λ a b. a ++ b) (words-bytes _ _ _) (cells-bytes _ _ _ _ _ k)))))
+      (ap₂ {C = List ℕ} (λ a b. a ++ b) (cells-bytes _ _ _ _ _ _ g)
+      (ap₂ {C = List ℕ} (λ a b. a ++ b) (cells-bytes _ _ _ _ _ _ h)
+      (ap₂ {C = List ℕ} (λ a b. a ++ b) (words-bytes _ _ _) (cells-bytes _ _ _ _ _ _ k)))))

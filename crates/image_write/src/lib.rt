@@ -3,6 +3,7 @@ ghost use mathlib.Core.Path.{_≡_};
 ghost use mathlib.Core.Bool.{false};
 ghost use Prim.Native.Nat.{_+_, _*_, _^_, _≤_};
 ghost use lib.ListN.{length, take, getD};
+ghost use Rattle.window.specs.Memories.{memory};
 ghost use Rattle.step.specs.Queues.{listOf, livePts};
 ghost use Rattle.image.specs.Image.{toProcess, processesIn, processesFrom, encode, rowLength, processLength};
 ghost use Rattle.image_bytes.specs.Code.Writing.{putAt};
@@ -194,11 +195,11 @@ fn put_cells(output: &mut [u8], at: usize, w: usize, tags: &[u8], words: &[u64])
 // How long the image of a state of these sizes and m processes is.
 fn size(n: Sizes, m: usize) -> usize
     requires { ⌜ (n .rows ≤ tasks) × ((m ≤ 64) × ((n .constants ≤ 4096) × ((n .registers ≤ 2048) × ((n .program ≤ 2 ^ 20) × (n .data_words ≤ 2 ^ 20))))) ⌝ }
-    ensures { λ r. ⌜ r ≡ (1 + rowLength * n .rows) + ((2 + processLength * m) + ((2 + 8 * n .constants) + ((2 + 9 * n .registers) + ((4 + 8 * n .program) + (4 + 9 * n .data_words))))) ⌝ }
+    ensures { λ r. ⌜ r ≡ (1 + rowLength * n .rows) + ((2 + processLength * m) + ((2 + 9 * n .constants) + ((2 + 9 * n .registers) + ((4 + 8 * n .program) + (4 + 9 * n .data_words))))) ⌝ }
 {
     (1 + ROW_BYTES * n.rows)
         + ((2 + PROCESS_BYTES * m)
-            + ((2 + 8 * n.constants)
+            + ((2 + 9 * n.constants)
                 + ((2 + 9 * n.registers) + ((4 + 8 * n.program) + (4 + 9 * n.data_words)))))
 }
 
@@ -206,7 +207,8 @@ fn size(n: Sizes, m: usize) -> usize
 fn put_image(
     rows: [Row; TASKS],
     table: ProcessTable,
-    constants: &[u64],
+    constant_tags: &[u8],
+    constant_words: &[u64],
     register_tags: &[u8],
     register_words: &[u64],
     program: &[u64],
@@ -216,14 +218,14 @@ fn put_image(
     n: usize,
     m: usize,
 ) -> usize
-    requires { ⌜ (n ≤ tasks) × ((m ≡ length (livePts (table .queues))) × ((length (now «register_tags») ≡ length (now «register_words»)) × (length (now data_tags) ≡ length (now data_words)))) ⌝ }
-    requires { ⌜ length (imageBytes (stateIn rows n table (now constants) (now «register_tags») (now «register_words») (now program) (now data_tags) (now data_words))) ≤ length (now output) ⌝ }
-    ensures { λ r. ⌜ r ≡ length (imageBytes (stateIn rows n table (now (constants .entry)) (now («register_tags» .entry)) (now («register_words» .entry)) (now (program .entry)) (now (data_tags .entry)) (now (data_words .entry)))) ⌝ }
-    ensures { λ _. ⌜ now (output .exit) ≡ putAt 0 (imageBytes (stateIn rows n table (now (constants .entry)) (now («register_tags» .entry)) (now («register_words» .entry)) (now (program .entry)) (now (data_tags .entry)) (now (data_words .entry)))) (now (output .entry)) ⌝ }
+    requires { ⌜ (n ≤ tasks) × ((m ≡ length (livePts (table .queues))) × ((length (now «constant_tags») ≡ length (now «constant_words»)) × ((length (now «register_tags») ≡ length (now «register_words»)) × (length (now data_tags) ≡ length (now data_words))))) ⌝ }
+    requires { ⌜ length (imageBytes (stateIn rows n table (memory (now «constant_tags») (now «constant_words»)) (now «register_tags») (now «register_words») (now program) (now data_tags) (now data_words))) ≤ length (now output) ⌝ }
+    ensures { λ r. ⌜ r ≡ length (imageBytes (stateIn rows n table (memory (now («constant_tags» .entry)) (now («constant_words» .entry))) (now («register_tags» .entry)) (now («register_words» .entry)) (now (program .entry)) (now (data_tags .entry)) (now (data_words .entry)))) ⌝ }
+    ensures { λ _. ⌜ now (output .exit) ≡ putAt 0 (imageBytes (stateIn rows n table (memory (now («constant_tags» .entry)) (now («constant_words» .entry))) (now («register_tags» .entry)) (now («register_words» .entry)) (now (program .entry)) (now (data_tags .entry)) (now (data_words .entry)))) (now (output .entry)) ⌝ }
 {
     let at = put_tasks(output, rows, n);
     let at = put_processes(output, at, m, table);
-    let at = put_words(output, at, 2, constants);
+    let at = put_cells(output, at, 2, constant_tags, constant_words);
     let at = put_cells(output, at, 2, register_tags, register_words);
     let at = put_words(output, at, 4, program);
     put_cells(output, at, 4, data_tags, data_words)
@@ -233,7 +235,8 @@ fn put_image(
 fn put_state(
     rows: Rows,
     table: ProcessTable,
-    constants: &[u64],
+    constant_tags: &[u8],
+    constant_words: &[u64],
     register_tags: &[u8],
     register_words: &[u64],
     program: &[u64],
@@ -243,9 +246,9 @@ fn put_state(
     n: Sizes,
     m: usize,
 ) -> usize
-    requires { ⌜ (stateRefused n (lentBuffers (heldRows rows) table (now constants) (now «register_tags») (now «register_words») (now program) (now data_tags) (now data_words)) ≡ false) × ((m ≡ length (livePts (table .queues))) × (length (encode (fieldsIn n (lentBuffers (heldRows rows) table (now constants) (now «register_tags») (now «register_words») (now program) (now data_tags) (now data_words)))) ≤ length (now output))) ⌝ }
-    ensures { λ r. ⌜ r ≡ length (encode (fieldsIn n (lentBuffers (heldRows rows) table (now (constants .entry)) (now («register_tags» .entry)) (now («register_words» .entry)) (now (program .entry)) (now (data_tags .entry)) (now (data_words .entry))))) ⌝ }
-    ensures { λ _. ⌜ now (output .exit) ≡ putAt 0 (encode (fieldsIn n (lentBuffers (heldRows rows) table (now (constants .entry)) (now («register_tags» .entry)) (now («register_words» .entry)) (now (program .entry)) (now (data_tags .entry)) (now (data_words .entry))))) (now (output .entry)) ⌝ }
+    requires { ⌜ (stateRefused n (lentBuffers (heldRows rows) table (now «constant_tags») (now «constant_words») (now «register_tags») (now «register_words») (now program) (now data_tags) (now data_words)) ≡ false) × ((m ≡ length (livePts (table .queues))) × (length (encode (fieldsIn n (lentBuffers (heldRows rows) table (now «constant_tags») (now «constant_words») (now «register_tags») (now «register_words») (now program) (now data_tags) (now data_words)))) ≤ length (now output))) ⌝ }
+    ensures { λ r. ⌜ r ≡ length (encode (fieldsIn n (lentBuffers (heldRows rows) table (now («constant_tags» .entry)) (now («constant_words» .entry)) (now («register_tags» .entry)) (now («register_words» .entry)) (now (program .entry)) (now (data_tags .entry)) (now (data_words .entry))))) ⌝ }
+    ensures { λ _. ⌜ now (output .exit) ≡ putAt 0 (encode (fieldsIn n (lentBuffers (heldRows rows) table (now («constant_tags» .entry)) (now («constant_words» .entry)) (now («register_tags» .entry)) (now («register_words» .entry)) (now (program .entry)) (now (data_tags .entry)) (now (data_words .entry))))) (now (output .entry)) ⌝ }
 {
     let at = rows.at;
     let constant_count = n.constants;
@@ -255,7 +258,8 @@ fn put_state(
     put_image(
         at,
         table,
-        &constants[..constant_count],
+        &constant_tags[..constant_count],
+        &constant_words[..constant_count],
         &register_tags[..register_count],
         &register_words[..register_count],
         &program[..program_count],
@@ -271,7 +275,8 @@ fn put_state(
 fn write_sound(
     rows: Rows,
     table: ProcessTable,
-    constants: &[u64],
+    constant_tags: &[u8],
+    constant_words: &[u64],
     register_tags: &[u8],
     register_words: &[u64],
     program: &[u64],
@@ -280,8 +285,8 @@ fn write_sound(
     output: &mut [u8],
     n: Sizes,
 ) -> WriteAnswer
-    requires { ⌜ stateRefused n (lentBuffers (heldRows rows) table (now constants) (now «register_tags») (now «register_words») (now program) (now data_tags) (now data_words)) ≡ false ⌝ }
-    ensures { λ r. ⌜ WritePromise n (lentBuffers (heldRows rows) table (now (constants .entry)) (now («register_tags» .entry)) (now («register_words» .entry)) (now (program .entry)) (now (data_tags .entry)) (now (data_words .entry))) r (now (output .entry)) (now (output .exit)) ⌝ }
+    requires { ⌜ stateRefused n (lentBuffers (heldRows rows) table (now «constant_tags») (now «constant_words») (now «register_tags») (now «register_words») (now program) (now data_tags) (now data_words)) ≡ false ⌝ }
+    ensures { λ r. ⌜ WritePromise n (lentBuffers (heldRows rows) table (now («constant_tags» .entry)) (now («constant_words» .entry)) (now («register_tags» .entry)) (now («register_words» .entry)) (now (program .entry)) (now (data_tags .entry)) (now (data_words .entry))) r (now (output .entry)) (now (output .exit)) ⌝ }
 {
     let queues = table.queues;
     let m = step_soundness::live(queues);
@@ -291,7 +296,8 @@ fn write_sound(
     let end = put_state(
         rows,
         table,
-        constants,
+        constant_tags,
+        constant_words,
         register_tags,
         register_words,
         program,
@@ -308,7 +314,8 @@ fn write_sound(
 pub fn write(
     rows: Rows,
     table: ProcessTable,
-    constants: &[u64],
+    constant_tags: &[u8],
+    constant_words: &[u64],
     register_tags: &[u8],
     register_words: &[u64],
     program: &[u64],
@@ -317,12 +324,13 @@ pub fn write(
     output: &mut [u8],
     n: Sizes,
 ) -> WriteAnswer
-    ensures { λ r. ⌜ WritePromise n (lentBuffers (heldRows rows) table (now (constants .entry)) (now («register_tags» .entry)) (now («register_words» .entry)) (now (program .entry)) (now (data_tags .entry)) (now (data_words .entry))) r (now (output .entry)) (now (output .exit)) ⌝ }
+    ensures { λ r. ⌜ WritePromise n (lentBuffers (heldRows rows) table (now («constant_tags» .entry)) (now («constant_words» .entry)) (now («register_tags» .entry)) (now («register_words» .entry)) (now (program .entry)) (now (data_tags .entry)) (now (data_words .entry))) r (now (output .entry)) (now (output .exit)) ⌝ }
 {
     if library_state::refused(
         rows,
         table,
-        constants,
+        constant_tags,
+        constant_words,
         register_tags,
         register_words,
         program,
@@ -335,7 +343,8 @@ pub fn write(
     write_sound(
         rows,
         table,
-        constants,
+        constant_tags,
+        constant_words,
         register_tags,
         register_words,
         program,

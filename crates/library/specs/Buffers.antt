@@ -11,11 +11,12 @@ use Rattle.step.specs.State.{State}
 use Rattle.image.specs.Fields.{over}
 use Rattle.library.specs.declared.Sizes.{Sizes}
 
--- the buffers; registers and data words have one for tags and one for words. The process table has a fixed size
+-- the buffers; constants, registers and data words have one for tags and one for words. The process table has a fixed size
 pub record Buffers : Type 0 where
   pub rows : List Row
   pub table : ProcessTable
-  pub constants : List ℕ
+  pub constantTags : List ℕ
+  pub constantWords : List ℕ
   pub registerTags : List ℕ
   pub registerWords : List ℕ
   pub program : List ℕ
@@ -25,7 +26,8 @@ pub record Buffers : Type 0 where
 -- the lengths of the buffers
 pub record Room : Type 0 where
   pub rows : ℕ
-  pub constants : ℕ
+  pub constantTags : ℕ
+  pub constantWords : ℕ
   pub registerTags : ℕ
   pub registerWords : ℕ
   pub program : ℕ
@@ -35,7 +37,8 @@ pub record Room : Type 0 where
 unfoldable pub roomOf : Buffers → Room
 roomOf b = record {
   rows = length (b .rows);
-  constants = length (b .constants);
+  constantTags = length (b .constantTags);
+  constantWords = length (b .constantWords);
   registerTags = length (b .registerTags);
   registerWords = length (b .registerWords);
   program = length (b .program);
@@ -47,17 +50,18 @@ roomOf b = record {
 unfoldable pub fits : Sizes → Room → Bool
 fits n room =
     leb (n .rows) (room .rows)
-    && (leb (n .constants) (room .constants)
+    && (leb (n .constants) (room .constantTags)
+    && (leb (n .constants) (room .constantWords)
     && (leb (n .registers) (room .registerTags)
     && (leb (n .registers) (room .registerWords)
     && (leb (n .program) (room .program)
-    && (leb (n .data_words) (room .dataTags) && leb (n .data_words) (room .dataWords))))))
+    && (leb (n .data_words) (room .dataTags) && leb (n .data_words) (room .dataWords)))))))
 
 -- the counts of a state's fields
 unfoldable pub sizesOf : State → Sizes
 sizesOf s = record {
   rows = length (s .rows);
-  constants = length (s .constants);
+  constants = length (s .constants .words);
   registers = length (s .registers .words);
   program = length (s .program);
   data_words = length (s .dataWords .words);
@@ -68,7 +72,7 @@ unfoldable pub fieldsIn : Sizes → Buffers → State
 fieldsIn n b = record {
   rows = take (n .rows) (b .rows);
   table = b .table;
-  constants = take (n .constants) (b .constants);
+  constants = memory (take (n .constants) (b .constantTags)) (take (n .constants) (b .constantWords));
   registers = memory (take (n .registers) (b .registerTags)) (take (n .registers) (b .registerWords));
   program = take (n .program) (b .program);
   dataWords = memory (take (n .data_words) (b .dataTags)) (take (n .data_words) (b .dataWords));
@@ -77,7 +81,8 @@ fieldsIn n b = record {
 -- what lies beyond the fields
 pub record Spare : Type 0 where
   pub rows : List Row
-  pub constants : List ℕ
+  pub constantTags : List ℕ
+  pub constantWords : List ℕ
   pub registerTags : List ℕ
   pub registerWords : List ℕ
   pub program : List ℕ
@@ -87,7 +92,8 @@ pub record Spare : Type 0 where
 unfoldable pub spareIn : Sizes → Buffers → Spare
 spareIn n b = record {
   rows = drop (n .rows) (b .rows);
-  constants = drop (n .constants) (b .constants);
+  constantTags = drop (n .constants) (b .constantTags);
+  constantWords = drop (n .constants) (b .constantWords);
   registerTags = drop (n .registers) (b .registerTags);
   registerWords = drop (n .registers) (b .registerWords);
   program = drop (n .program) (b .program);
@@ -100,7 +106,8 @@ unfoldable pub holding : State → Buffers → Buffers
 holding s b = record {
   rows = over (s .rows) (b .rows);
   table = s .table;
-  constants = over (s .constants) (b .constants);
+  constantTags = over (s .constants .tags) (b .constantTags);
+  constantWords = over (s .constants .words) (b .constantWords);
   registerTags = over (s .registers .tags) (b .registerTags);
   registerWords = over (s .registers .words) (b .registerWords);
   program = over (s .program) (b .program);

@@ -5,11 +5,12 @@ use Rattle.window.specs.declared.Row.{Row}
 use Rattle.step.specs.declared.ProcessTable.{ProcessTable}
 use Rattle.library.specs.Buffers.{Buffers, Room}
 
-abbrev pub lentBuffers : List Row → ProcessTable → (constants registerTags registerWords program dataTags dataWords : List ℕ) → Buffers
-lentBuffers rows table constants registerTags registerWords program dataTags dataWords = record {
+abbrev pub lentBuffers : List Row → ProcessTable → (constantTags constantWords registerTags registerWords program dataTags dataWords : List ℕ) → Buffers
+lentBuffers rows table constantTags constantWords registerTags registerWords program dataTags dataWords = record {
   rows = rows;
   table = table;
-  constants = constants;
+  constantTags = constantTags;
+  constantWords = constantWords;
   registerTags = registerTags;
   registerWords = registerWords;
   program = program;
@@ -17,10 +18,11 @@ lentBuffers rows table constants registerTags registerWords program dataTags dat
   dataWords = dataWords;
 }
 
-abbrev pub roomFrom : (rows constants registerTags registerWords program dataTags dataWords : ℕ) → Room
-roomFrom rows constants registerTags registerWords program dataTags dataWords = record {
+abbrev pub roomFrom : (rows constantTags constantWords registerTags registerWords program dataTags dataWords : ℕ) → Room
+roomFrom rows constantTags constantWords registerTags registerWords program dataTags dataWords = record {
   rows = rows;
-  constants = constants;
+  constantTags = constantTags;
+  constantWords = constantWords;
   registerTags = registerTags;
   registerWords = registerWords;
   program = program;

@@ -27,7 +27,7 @@ trialImage = record {
   rows = record { task = 2; cb = 0; rb = 0; rl = 0; pb = 0; pl = 0; db = 1; dl = 0; kind = 255; psw = 0 } ∷ [];
   flag = 0;
   processes = record { pt = 4; task = 2; psw = 0 } ∷ [];
-  constants = 5 ∷ [];
+  constants = cell 3 5 ∷ [];
   registers = cell 0 6 ∷ cell 8 7 ∷ [];
   program = replicate 16 0;
   dataWords = cell 1 8 ∷ [];
@@ -41,10 +41,11 @@ unfoldable pub trialSizes : Sizes
 trialSizes = record { rows = 1; constants = 1; registers = 2; program = 16; data_words = 1 }
 
 -- buffers that are just long enough, less so many places each
-unfoldable pub roomLess : (rows constants registerTags registerWords program dataTags dataWords : ℕ) → Room
-roomLess r c t w p d v = record {
+unfoldable pub roomLess : (rows constantTags constantWords registerTags registerWords program dataTags dataWords : ℕ) → Room
+roomLess r q c t w p d v = record {
   rows = 1 - r;
-  constants = 1 - c;
+  constantTags = 1 - q;
+  constantWords = 1 - c;
   registerTags = 2 - t;
   registerWords = 2 - w;
   program = 16 - p;
@@ -56,7 +57,8 @@ unfoldable pub noBuffers : Buffers
 noBuffers = record {
   rows = [];
   table = stateOf trialImage .table;
-  constants = [];
+  constantTags = [];
+  constantWords = [];
   registerTags = [];
   registerWords = [];
   program = [];
@@ -71,7 +73,8 @@ buffersOf room =
     record {
       rows = take (room .rows) (b .rows);
       table = b .table;
-      constants = take (room .constants) (b .constants);
+      constantTags = take (room .constantTags) (b .constantTags);
+      constantWords = take (room .constantWords) (b .constantWords);
       registerTags = take (room .registerTags) (b .registerTags);
       registerWords = take (room .registerWords) (b .registerWords);
       program = take (room .program) (b .program);
@@ -80,7 +83,7 @@ buffersOf room =
     }
 
 abbrev pub exact : Room
-exact = roomLess 0 0 0 0 0 0 0
+exact = roomLess 0 0 0 0 0 0 0 0
 
 -- the buffers with another process table
 unfoldable pub withTable : ProcessTable → Buffers
@@ -89,7 +92,24 @@ withTable table =
     record {
       rows = b .rows;
       table = table;
-      constants = b .constants;
+      constantTags = b .constantTags;
+      constantWords = b .constantWords;
+      registerTags = b .registerTags;
+      registerWords = b .registerWords;
+      program = b .program;
+      dataTags = b .dataTags;
+      dataWords = b .dataWords;
+    }
+
+-- the buffers with another quality of the constant
+unfoldable pub withQuality : ℕ → Buffers
+withQuality q =
+    let b : Buffers = buffersOf exact in
+    record {
+      rows = b .rows;
+      table = b .table;
+      constantTags = q ∷ [];
+      constantWords = b .constantWords;
       registerTags = b .registerTags;
       registerWords = b .registerWords;
       program = b .program;
@@ -109,15 +129,16 @@ unlisted = record { psw = replicate 64 0; queues = queueOf (4 ∷ []) ∷ replic
 pub record ReadTrials : Type 0 where
   -- just enough room, and one place short of it in each buffer: 7
   pub enough : numbered (readRefusal exact trialBytes) ≡ 0
-  pub rows : numbered (readRefusal (roomLess 1 0 0 0 0 0 0) trialBytes) ≡ 7
-  pub constants : numbered (readRefusal (roomLess 0 1 0 0 0 0 0) trialBytes) ≡ 7
-  pub registerTags : numbered (readRefusal (roomLess 0 0 1 0 0 0 0) trialBytes) ≡ 7
-  pub registerWords : numbered (readRefusal (roomLess 0 0 0 1 0 0 0) trialBytes) ≡ 7
-  pub program : numbered (readRefusal (roomLess 0 0 0 0 1 0 0) trialBytes) ≡ 7
-  pub dataTags : numbered (readRefusal (roomLess 0 0 0 0 0 1 0) trialBytes) ≡ 7
-  pub dataWords : numbered (readRefusal (roomLess 0 0 0 0 0 0 1) trialBytes) ≡ 7
+  pub rows : numbered (readRefusal (roomLess 1 0 0 0 0 0 0 0) trialBytes) ≡ 7
+  pub constantTags : numbered (readRefusal (roomLess 0 1 0 0 0 0 0 0) trialBytes) ≡ 7
+  pub constantWords : numbered (readRefusal (roomLess 0 0 1 0 0 0 0 0) trialBytes) ≡ 7
+  pub registerTags : numbered (readRefusal (roomLess 0 0 0 1 0 0 0 0) trialBytes) ≡ 7
+  pub registerWords : numbered (readRefusal (roomLess 0 0 0 0 1 0 0 0) trialBytes) ≡ 7
+  pub program : numbered (readRefusal (roomLess 0 0 0 0 0 1 0 0) trialBytes) ≡ 7
+  pub dataTags : numbered (readRefusal (roomLess 0 0 0 0 0 0 1 0) trialBytes) ≡ 7
+  pub dataWords : numbered (readRefusal (roomLess 0 0 0 0 0 0 0 1) trialBytes) ≡ 7
   -- 1 comes before 7
-  pub first : numbered (readRefusal (roomLess 1 1 1 1 1 1 1) (take 40 trialBytes)) ≡ 1
+  pub first : numbered (readRefusal (roomLess 1 1 1 1 1 1 1 1) (take 40 trialBytes)) ≡ 1
   -- the answer is the counts; buffers of no room are left as they are
   pub answer : readAnswer exact trialBytes ≡ answers trialSizes
   pub left : readLeaves noBuffers trialBytes ≡ noBuffers
@@ -125,15 +146,17 @@ pub record ReadTrials : Type 0 where
 pub record RunTrials : Type 0 where
   -- a buffer as long as its count, and one place shorter: 8
   pub enough : numbered (runRefusal trialSizes (buffersOf exact) (2 ∷ [])) ≡ 0
-  pub rows : numbered (runRefusal trialSizes (buffersOf (roomLess 1 0 0 0 0 0 0)) (2 ∷ [])) ≡ 8
-  pub constants : numbered (runRefusal trialSizes (buffersOf (roomLess 0 1 0 0 0 0 0)) (2 ∷ [])) ≡ 8
-  pub registerTags : numbered (runRefusal trialSizes (buffersOf (roomLess 0 0 1 0 0 0 0)) (2 ∷ [])) ≡ 8
-  pub registerWords : numbered (runRefusal trialSizes (buffersOf (roomLess 0 0 0 1 0 0 0)) (2 ∷ [])) ≡ 8
-  pub program : numbered (runRefusal trialSizes (buffersOf (roomLess 0 0 0 0 1 0 0)) (2 ∷ [])) ≡ 8
-  pub dataTags : numbered (runRefusal trialSizes (buffersOf (roomLess 0 0 0 0 0 1 0)) (2 ∷ [])) ≡ 8
-  pub dataWords : numbered (runRefusal trialSizes (buffersOf (roomLess 0 0 0 0 0 0 1)) (2 ∷ [])) ≡ 8
+  pub rows : numbered (runRefusal trialSizes (buffersOf (roomLess 1 0 0 0 0 0 0 0)) (2 ∷ [])) ≡ 8
+  pub constantTags : numbered (runRefusal trialSizes (buffersOf (roomLess 0 1 0 0 0 0 0 0)) (2 ∷ [])) ≡ 8
+  pub constantWords : numbered (runRefusal trialSizes (buffersOf (roomLess 0 0 1 0 0 0 0 0)) (2 ∷ [])) ≡ 8
+  pub registerTags : numbered (runRefusal trialSizes (buffersOf (roomLess 0 0 0 1 0 0 0 0)) (2 ∷ [])) ≡ 8
+  pub registerWords : numbered (runRefusal trialSizes (buffersOf (roomLess 0 0 0 0 1 0 0 0)) (2 ∷ [])) ≡ 8
+  pub program : numbered (runRefusal trialSizes (buffersOf (roomLess 0 0 0 0 0 1 0 0)) (2 ∷ [])) ≡ 8
+  pub dataTags : numbered (runRefusal trialSizes (buffersOf (roomLess 0 0 0 0 0 0 1 0)) (2 ∷ [])) ≡ 8
+  pub dataWords : numbered (runRefusal trialSizes (buffersOf (roomLess 0 0 0 0 0 0 0 1)) (2 ∷ [])) ≡ 8
   -- a state that no image reads as: 8, before 10
   pub twice : numbered (runRefusal trialSizes (withTable ptTwice) (0 ∷ [])) ≡ 8
+  pub quality : numbered (runRefusal trialSizes (withQuality 7) (0 ∷ [])) ≡ 8
   pub stray : numbered (runRefusal trialSizes (withTable unlisted) (2 ∷ [])) ≡ 8
   -- a state that is one, and a list that is refused: 9, 10
   pub long : numbered (runRefusal trialSizes (buffersOf exact) (replicate 65536 2)) ≡ 9
@@ -168,7 +191,7 @@ pub record WriteTrials : Type 0 where
 
 -- naming this opens what the trials use
 unfoldable pub trialled : ℕ
-unfolding opened numbered trialImage trialBytes trialSizes roomLess noBuffers buffersOf withTable ptTwice unlisted
+unfolding opened numbered trialImage trialBytes trialSizes roomLess noBuffers buffersOf withTable withQuality ptTwice unlisted
 trialled = 0
 
 pub read-trials : ReadTrials
@@ -176,7 +199,8 @@ unfolding trialled
 read-trials = record {
   enough = refl;
   rows = refl;
-  constants = refl;
+  constantTags = refl;
+  constantWords = refl;
   registerTags = refl;
   registerWords = refl;
   program = refl;
@@ -192,13 +216,15 @@ unfolding trialled
 run-trials = record {
   enough = refl;
   rows = refl;
-  constants = refl;
+  constantTags = refl;
+  constantWords = refl;
   registerTags = refl;
   registerWords = refl;
   program = refl;
   dataTags = refl;
   dataWords = refl;
   twice = refl;
+  quality = refl;
   stray = refl;
   long = refl;
   item = refl;

@@ -24,19 +24,23 @@ pub fn row_count(n: usize) -> usize
 pub fn fits(
     n: Sizes,
     rows: usize,
-    constants: usize,
+    constant_tags: usize,
+    constant_words: usize,
     register_tags: usize,
     register_words: usize,
     program: usize,
     data_tags: usize,
     data_words: usize,
 ) -> bool
-    ensures { λ r. ⌜ r ≡ fits n (roomFrom rows constants «register_tags» «register_words» program data_tags data_words) ⌝ }
+    ensures { λ r. ⌜ r ≡ fits n (roomFrom rows «constant_tags» «constant_words» «register_tags» «register_words» program data_tags data_words) ⌝ }
 {
     if rows < n.rows {
         return false;
     }
-    if constants < n.constants {
+    if constant_tags < n.constants {
+        return false;
+    }
+    if constant_words < n.constants {
         return false;
     }
     if register_tags < n.registers {
@@ -58,7 +62,8 @@ pub fn fits(
 fn cut_refused(
     rows: Rows,
     table: ProcessTable,
-    constants: &[u64],
+    constant_tags: &[u8],
+    constant_words: &[u64],
     register_tags: &[u8],
     register_words: &[u64],
     program: &[u64],
@@ -66,8 +71,8 @@ fn cut_refused(
     data_words: &[u64],
     n: Sizes,
 ) -> bool
-    requires { ⌜ fits n (roomFrom (min (rows .n) tasks) (length (now constants)) (length (now «register_tags»)) (length (now «register_words»)) (length (now program)) (length (now data_tags)) (length (now data_words))) ≡ true ⌝ }
-    ensures { λ r. ⌜ r ≡ stateRefused n (lentBuffers (heldRows rows) table (now (constants .entry)) (now («register_tags» .entry)) (now («register_words» .entry)) (now (program .entry)) (now (data_tags .entry)) (now (data_words .entry))) ⌝ }
+    requires { ⌜ fits n (roomFrom (min (rows .n) tasks) (length (now «constant_tags»)) (length (now «constant_words»)) (length (now «register_tags»)) (length (now «register_words»)) (length (now program)) (length (now data_tags)) (length (now data_words))) ≡ true ⌝ }
+    ensures { λ r. ⌜ r ≡ stateRefused n (lentBuffers (heldRows rows) table (now («constant_tags» .entry)) (now («constant_words» .entry)) (now («register_tags» .entry)) (now («register_words» .entry)) (now (program .entry)) (now (data_tags .entry)) (now (data_words .entry))) ⌝ }
 {
     let at = rows.at;
     let constant_count = n.constants;
@@ -78,7 +83,8 @@ fn cut_refused(
         at,
         n.rows,
         table,
-        &constants[..constant_count],
+        &constant_tags[..constant_count],
+        &constant_words[..constant_count],
         &register_tags[..register_count],
         &register_words[..register_count],
         &program[..program_count],
@@ -91,7 +97,8 @@ fn cut_refused(
 pub fn refused(
     rows: Rows,
     table: ProcessTable,
-    constants: &[u64],
+    constant_tags: &[u8],
+    constant_words: &[u64],
     register_tags: &[u8],
     register_words: &[u64],
     program: &[u64],
@@ -99,12 +106,13 @@ pub fn refused(
     data_words: &[u64],
     n: Sizes,
 ) -> bool
-    ensures { λ r. ⌜ r ≡ stateRefused n (lentBuffers (heldRows rows) table (now (constants .entry)) (now («register_tags» .entry)) (now («register_words» .entry)) (now (program .entry)) (now (data_tags .entry)) (now (data_words .entry))) ⌝ }
+    ensures { λ r. ⌜ r ≡ stateRefused n (lentBuffers (heldRows rows) table (now («constant_tags» .entry)) (now («constant_words» .entry)) (now («register_tags» .entry)) (now («register_words» .entry)) (now (program .entry)) (now (data_tags .entry)) (now (data_words .entry))) ⌝ }
 {
     if !fits(
         n,
         row_count(rows.n),
-        constants.len(),
+        constant_tags.len(),
+        constant_words.len(),
         register_tags.len(),
         register_words.len(),
         program.len(),
@@ -116,7 +124,8 @@ pub fn refused(
     cut_refused(
         rows,
         table,
-        constants,
+        constant_tags,
+        constant_words,
         register_tags,
         register_words,
         program,

@@ -21,7 +21,7 @@ pub record Environment : Type 0 where
   pub datum : ℕ → Cell
 
 -- what the memories show of themselves through the windows of a row
-unfoldable pub environmentOf : Row → (psw flag : ℕ) → (program constants : List ℕ) → (registers dataWords : Memory) → Environment
+unfoldable pub environmentOf : Row → (psw flag : ℕ) → (program : List ℕ) → (constants registers dataWords : Memory) → Environment
 environmentOf r psw flag program constants registers dataWords = record {
   row = r;
   psw = psw;

@@ -1,6 +1,6 @@
 // What operations share, by the roles of their fields: D, S0, S1, S2 or unused.
 // illegal: check 2, an illegal access code or a nonzero unused field. waits: check 5, each source with its tag, D by its address.
-// masked: check 6, by the tags of the sources. release: sources are set empty, each by its address and its tag before the step.
+// masked: check 6, each source with its address and its tag, a constant by its quality. release: sources are set empty, each by its address and its tag before the step.
 // write: that, then the destination gets a word of a quality.
 ghost use mathlib.Core.Path.{_≡_};
 ghost use Prim.Native.Nat.{_/_, _%_, _^_};
@@ -10,6 +10,7 @@ ghost use lib.ListN.{getD, set};
 ghost use Rattle.operand.specs.declared.Role.the-variants.{Unused, Destination, Source};
 ghost use Rattle.operand.specs.Field.{accessOf, illegalField};
 ghost use Rattle.operand.specs.Access.{waitsOf, maskedOf, destinationTag};
+ghost use Rattle.operand.specs.Code.Cells.{sourceTag};
 ghost use Rattle.operand.specs.Code.Spans.{released};
 ghost use Rattle.operation.specs.declared.Course.the-variants.{Continues};
 use operand::Role;
@@ -204,23 +205,44 @@ pub fn waits_s0_s1_s2(first: u16, t: u8, second: u16, x: u8, third: u16, y: u8) 
 }
 
 // S1, S2.
-pub fn masked_s1_s2(psw: u64, x: u8, y: u8) -> bool
-    ensures { λ r. ⌜ r ≡ maskedOf Source psw x || maskedOf Source psw y ⌝ }
+pub fn masked_s1_s2(
+    psw: u64,
+    second: u16,
+    a: usize,
+    x: u8,
+    third: u16,
+    b: usize,
+    y: u8,
+    constant_tags: &[u8],
+) -> bool
+    ensures { λ r. ⌜ r ≡ maskedOf Source psw (sourceTag second a x (now («constant_tags» .entry))) || maskedOf Source psw (sourceTag third b y (now («constant_tags» .entry))) ⌝ }
 {
-    if operand::masked(Role::Source, psw, x) {
+    if operand::masked(psw, second, a, x, constant_tags) {
         return true;
     }
-    operand::masked(Role::Source, psw, y)
+    operand::masked(psw, third, b, y, constant_tags)
 }
 
 // S0, S1, S2.
-pub fn masked_s0_s1_s2(psw: u64, t: u8, x: u8, y: u8) -> bool
-    ensures { λ r. ⌜ r ≡ maskedOf Source psw t || (maskedOf Source psw x || maskedOf Source psw y) ⌝ }
+pub fn masked_s0_s1_s2(
+    psw: u64,
+    first: u16,
+    c: usize,
+    t: u8,
+    second: u16,
+    a: usize,
+    x: u8,
+    third: u16,
+    b: usize,
+    y: u8,
+    constant_tags: &[u8],
+) -> bool
+    ensures { λ r. ⌜ r ≡ maskedOf Source psw (sourceTag first c t (now («constant_tags» .entry))) || (maskedOf Source psw (sourceTag second a x (now («constant_tags» .entry))) || maskedOf Source psw (sourceTag third b y (now («constant_tags» .entry)))) ⌝ }
 {
-    if operand::masked(Role::Source, psw, t) {
+    if operand::masked(psw, first, c, t, constant_tags) {
         return true;
     }
-    masked_s1_s2(psw, x, y)
+    masked_s1_s2(psw, second, a, x, third, b, y, constant_tags)
 }
 
 // S1, S2.

@@ -1,5 +1,5 @@
 // Operations on the process itself: NOP, B, CALL, CREATE, QT and SVC. Each acts at once: the public function tests the fields and looks the operands up,
-// the function `_found` tests what stands there, then writes. The operands of the three fields are d, a, b, of S1 and S2 the tags x, y and the words s1, s2.
+// the function `_found` tests what stands there, then writes. The operands of the three fields are d, a, b, of S1 and S2 the tags x, y (0 of a constant) and the words s1, s2.
 ghost use mathlib.Core.Path.{_≡_};
 ghost use mathlib.Core.Bool.{cond};
 ghost use mathlib.Core.List.{List};
@@ -31,7 +31,7 @@ use operation::Course;
 
 // NOP.
 pub fn nop(psws: &mut [u64], pt: usize, psw: u64, first: u16, second: u16, third: u16) -> Course
-    ensures { λ r. ⌜ ((row : Row) (code flag fresh : ℕ) (program constants : List ℕ) (m n : Memory) → psw ≡ getD (now (psws .entry)) pt 0 → Performs row (decideListed (roles Unused Unused Unused) operation.Nop (environmentOf row psw flag program constants m n) (instruction code first second third)) pt fresh r (now (psws .entry)) (now (psws .exit)) m m n n) ⌝ }
+    ensures { λ r. ⌜ ((row : Row) (code flag fresh : ℕ) (program : List ℕ) (constants : Memory) (m n : Memory) → psw ≡ getD (now (psws .entry)) pt 0 → Performs row (decideListed (roles Unused Unused Unused) operation.Nop (environmentOf row psw flag program constants m n) (instruction code first second third)) pt fresh r (now (psws .entry)) (now (psws .exit)) m m n n) ⌝ }
 {
     if operation_checks::illegal_none(first, second, third) {
         return Course::IllegalInstruction;
@@ -76,14 +76,15 @@ fn branch_found(
     b: usize,
     y: u8,
     s2: u64,
+    constant_tags: &[u8],
     register_tags: &mut [u8],
 ) -> Course
-    ensures { λ r. ⌜ ((row : Row) (v : Environment) (i : Instruction) (words constants : List ℕ) (n : Memory) (fresh : ℕ) (oa ob : Operand) → v .psw ≡ psw → i .first ≡ first → psw ≡ getD (now (psws .entry)) pt 0 → Sourced row (now («register_tags» .entry)) words constants second oa a x s1 → Sourced row (now («register_tags» .entry)) words constants third ob b y s2 → Performs row (decideFound (operation.Branch c p) v i (allFoundAt (memory (now («register_tags» .entry)) words) constants (roles Free Source Source) first second third Absent oa ob)) pt fresh r (now (psws .entry)) (now (psws .exit)) (memory (now («register_tags» .entry)) words) (memory (now («register_tags» .exit)) words) n n) ⌝ }
+    ensures { λ r. ⌜ ((row : Row) (v : Environment) (i : Instruction) (words constantWords : List ℕ) (n : Memory) (fresh : ℕ) (oa ob : Operand) → v .psw ≡ psw → i .first ≡ first → psw ≡ getD (now (psws .entry)) pt 0 → Sourced row (now («register_tags» .entry)) words (memory (now («constant_tags» .entry)) constantWords) second oa a x s1 → Sourced row (now («register_tags» .entry)) words (memory (now («constant_tags» .entry)) constantWords) third ob b y s2 → Performs row (decideFound (operation.Branch c p) v i (allFoundAt (memory (now («register_tags» .entry)) words) (memory (now («constant_tags» .entry)) constantWords) (roles Free Source Source) first second third Absent oa ob)) pt fresh r (now (psws .entry)) (now (psws .exit)) (memory (now («register_tags» .entry)) words) (memory (now («register_tags» .exit)) words) n n) ⌝ }
 {
     if operation_checks::waits_s1_s2(second, x, third, y) {
         return Course::Waits;
     }
-    if operation_checks::masked_s1_s2(psw, x, y) {
+    if operation_checks::masked_s1_s2(psw, second, a, x, third, b, y, constant_tags) {
         return Course::DataException;
     }
     operation_checks::release_s1_s2(second, a, x, third, b, y, register_tags);
@@ -103,11 +104,12 @@ pub fn branch(
     first: u16,
     second: u16,
     third: u16,
-    constants: &[u64],
+    constant_tags: &[u8],
+    constant_words: &[u64],
     register_tags: &mut [u8],
     register_words: &[u64],
 ) -> Course
-    ensures { λ r. ⌜ ((row : Row) (code flag fresh : ℕ) (program : List ℕ) (n : Memory) → Spans row cb base end → psw ≡ getD (now (psws .entry)) pt 0 → Performs row (decideListed (roles Free Source Source) (operation.Branch c p) (environmentOf row psw flag program (now (constants .entry)) (memory (now («register_tags» .entry)) (now («register_words» .entry))) n) (instruction code first second third)) pt fresh r (now (psws .entry)) (now (psws .exit)) (memory (now («register_tags» .entry)) (now («register_words» .entry))) (memory (now («register_tags» .exit)) (now («register_words» .entry))) n n) ⌝ }
+    ensures { λ r. ⌜ ((row : Row) (code flag fresh : ℕ) (program : List ℕ) (n : Memory) → Spans row cb base end → psw ≡ getD (now (psws .entry)) pt 0 → Performs row (decideListed (roles Free Source Source) (operation.Branch c p) (environmentOf row psw flag program (memory (now («constant_tags» .entry)) (now («constant_words» .entry))) (memory (now («register_tags» .entry)) (now («register_words» .entry))) n) (instruction code first second third)) pt fresh r (now (psws .entry)) (now (psws .exit)) (memory (now («register_tags» .entry)) (now («register_words» .entry))) (memory (now («register_tags» .exit)) (now («register_words» .entry))) n n) ⌝ }
 {
     if operation_checks::illegal_s1_s2(second, third) {
         return Course::IllegalInstruction;
@@ -115,11 +117,11 @@ pub fn branch(
     let Lookup::Found(a) = operand::source(cb, base, end, psw, second) else {
         return Course::ProtectionViolation;
     };
-    let x = operand::cell(register_tags, register_words, constants, a);
+    let x = operand::cell(constant_words, register_tags, register_words, a);
     let Lookup::Found(b) = operand::source(cb, base, end, psw, third) else {
         return Course::ProtectionViolation;
     };
-    let y = operand::cell(register_tags, register_words, constants, b);
+    let y = operand::cell(constant_words, register_tags, register_words, b);
     branch_found(
         c,
         p,
@@ -135,6 +137,7 @@ pub fn branch(
         operand::number(b),
         y.tag,
         y.word,
+        constant_tags,
         register_tags,
     )
 }
@@ -177,15 +180,16 @@ fn call_found(
     b: usize,
     y: u8,
     s2: u64,
+    constant_tags: &[u8],
     register_tags: &mut [u8],
     register_words: &mut [u64],
 ) -> Course
-    ensures { λ r. ⌜ ((row : Row) (v : Environment) (i : Instruction) (constants : List ℕ) (n : Memory) (fresh : ℕ) (od oa ob : Operand) → v .psw ≡ psw → psw ≡ getD (now (psws .entry)) pt 0 → Destined row od d → Sourced row (now («register_tags» .entry)) (now («register_words» .entry)) constants second oa a x s1 → Sourced row (now («register_tags» .entry)) (now («register_words» .entry)) constants third ob b y s2 → Performs row (decideFound (operation.Call c) v i (allFoundAt (memory (now («register_tags» .entry)) (now («register_words» .entry))) constants (roles Destination Source Source) first second third od oa ob)) pt fresh r (now (psws .entry)) (now (psws .exit)) (memory (now («register_tags» .entry)) (now («register_words» .entry))) (memory (now («register_tags» .exit)) (now («register_words» .exit))) n n) ⌝ }
+    ensures { λ r. ⌜ ((row : Row) (v : Environment) (i : Instruction) (constantWords : List ℕ) (n : Memory) (fresh : ℕ) (od oa ob : Operand) → v .psw ≡ psw → psw ≡ getD (now (psws .entry)) pt 0 → Destined row od d → Sourced row (now («register_tags» .entry)) (now («register_words» .entry)) (memory (now («constant_tags» .entry)) constantWords) second oa a x s1 → Sourced row (now («register_tags» .entry)) (now («register_words» .entry)) (memory (now («constant_tags» .entry)) constantWords) third ob b y s2 → Performs row (decideFound (operation.Call c) v i (allFoundAt (memory (now («register_tags» .entry)) (now («register_words» .entry))) (memory (now («constant_tags» .entry)) constantWords) (roles Destination Source Source) first second third od oa ob)) pt fresh r (now (psws .entry)) (now (psws .exit)) (memory (now («register_tags» .entry)) (now («register_words» .entry))) (memory (now («register_tags» .exit)) (now («register_words» .exit))) n n) ⌝ }
 {
     if operation_checks::waits_d_s1_s2(first, d, second, x, third, y, register_tags) {
         return Course::Waits;
     }
-    if operation_checks::masked_s1_s2(psw, x, y) {
+    if operation_checks::masked_s1_s2(psw, second, a, x, third, b, y, constant_tags) {
         return Course::DataException;
     }
     operation_checks::write_d_s1_s2(
@@ -217,11 +221,12 @@ pub fn call(
     first: u16,
     second: u16,
     third: u16,
-    constants: &[u64],
+    constant_tags: &[u8],
+    constant_words: &[u64],
     register_tags: &mut [u8],
     register_words: &mut [u64],
 ) -> Course
-    ensures { λ r. ⌜ ((row : Row) (code flag fresh : ℕ) (program : List ℕ) (n : Memory) → Spans row cb base end → psw ≡ getD (now (psws .entry)) pt 0 → Performs row (decideListed (roles Destination Source Source) (operation.Call c) (environmentOf row psw flag program (now (constants .entry)) (memory (now («register_tags» .entry)) (now («register_words» .entry))) n) (instruction code first second third)) pt fresh r (now (psws .entry)) (now (psws .exit)) (memory (now («register_tags» .entry)) (now («register_words» .entry))) (memory (now («register_tags» .exit)) (now («register_words» .exit))) n n) ⌝ }
+    ensures { λ r. ⌜ ((row : Row) (code flag fresh : ℕ) (program : List ℕ) (n : Memory) → Spans row cb base end → psw ≡ getD (now (psws .entry)) pt 0 → Performs row (decideListed (roles Destination Source Source) (operation.Call c) (environmentOf row psw flag program (memory (now («constant_tags» .entry)) (now («constant_words» .entry))) (memory (now («register_tags» .entry)) (now («register_words» .entry))) n) (instruction code first second third)) pt fresh r (now (psws .entry)) (now (psws .exit)) (memory (now («register_tags» .entry)) (now («register_words» .entry))) (memory (now («register_tags» .exit)) (now («register_words» .exit))) n n) ⌝ }
 {
     if operation_checks::illegal_d_s1_s2(first, second, third) {
         return Course::IllegalInstruction;
@@ -232,11 +237,11 @@ pub fn call(
     let Lookup::Found(a) = operand::source(cb, base, end, psw, second) else {
         return Course::ProtectionViolation;
     };
-    let x = operand::cell(register_tags, register_words, constants, a);
+    let x = operand::cell(constant_words, register_tags, register_words, a);
     let Lookup::Found(b) = operand::source(cb, base, end, psw, third) else {
         return Course::ProtectionViolation;
     };
-    let y = operand::cell(register_tags, register_words, constants, b);
+    let y = operand::cell(constant_words, register_tags, register_words, b);
     call_found(
         c,
         psws,
@@ -252,6 +257,7 @@ pub fn call(
         operand::number(b),
         y.tag,
         y.word,
+        constant_tags,
         register_tags,
         register_words,
     )
@@ -320,14 +326,15 @@ fn create_found(
     b: usize,
     y: u8,
     s2: u64,
+    constant_tags: &[u8],
     register_tags: &mut [u8],
 ) -> Course
-    ensures { λ r. ⌜ ((row : Row) (v : Environment) (i : Instruction) (words constants : List ℕ) (n : Memory) (first : ℕ) (oa ob : Operand) → v .psw ≡ psw → v .flag ≡ flag → psw ≡ getD (now (psws .entry)) pt 0 → Sourced row (now («register_tags» .entry)) words constants second oa a x s1 → Sourced row (now («register_tags» .entry)) words constants third ob b y s2 → Performs row (decideFound (operation.Create c act) v i (allFoundAt (memory (now («register_tags» .entry)) words) constants (roles Unused Source Source) first second third Absent oa ob)) pt fresh r (now (psws .entry)) (now (psws .exit)) (memory (now («register_tags» .entry)) words) (memory (now («register_tags» .exit)) words) n n) ⌝ }
+    ensures { λ r. ⌜ ((row : Row) (v : Environment) (i : Instruction) (words constantWords : List ℕ) (n : Memory) (first : ℕ) (oa ob : Operand) → v .psw ≡ psw → v .flag ≡ flag → psw ≡ getD (now (psws .entry)) pt 0 → Sourced row (now («register_tags» .entry)) words (memory (now («constant_tags» .entry)) constantWords) second oa a x s1 → Sourced row (now («register_tags» .entry)) words (memory (now («constant_tags» .entry)) constantWords) third ob b y s2 → Performs row (decideFound (operation.Create c act) v i (allFoundAt (memory (now («register_tags» .entry)) words) (memory (now («constant_tags» .entry)) constantWords) (roles Unused Source Source) first second third Absent oa ob)) pt fresh r (now (psws .entry)) (now (psws .exit)) (memory (now («register_tags» .entry)) words) (memory (now («register_tags» .exit)) words) n n) ⌝ }
 {
     if operation_checks::waits_s1_s2(second, x, third, y) {
         return Course::Waits;
     }
-    if operation_checks::masked_s1_s2(psw, x, y) {
+    if operation_checks::masked_s1_s2(psw, second, a, x, third, b, y, constant_tags) {
         return Course::DataException;
     }
     let holds = word::holds(c, s2, y, psw);
@@ -356,11 +363,12 @@ pub fn create(
     first: u16,
     second: u16,
     third: u16,
-    constants: &[u64],
+    constant_tags: &[u8],
+    constant_words: &[u64],
     register_tags: &mut [u8],
     register_words: &[u64],
 ) -> Course
-    ensures { λ r. ⌜ ((row : Row) (code : ℕ) (program : List ℕ) (n : Memory) → Spans row cb base end → psw ≡ getD (now (psws .entry)) pt 0 → Performs row (decideListed (roles Unused Source Source) (operation.Create c act) (environmentOf row psw flag program (now (constants .entry)) (memory (now («register_tags» .entry)) (now («register_words» .entry))) n) (instruction code first second third)) pt fresh r (now (psws .entry)) (now (psws .exit)) (memory (now («register_tags» .entry)) (now («register_words» .entry))) (memory (now («register_tags» .exit)) (now («register_words» .entry))) n n) ⌝ }
+    ensures { λ r. ⌜ ((row : Row) (code : ℕ) (program : List ℕ) (n : Memory) → Spans row cb base end → psw ≡ getD (now (psws .entry)) pt 0 → Performs row (decideListed (roles Unused Source Source) (operation.Create c act) (environmentOf row psw flag program (memory (now («constant_tags» .entry)) (now («constant_words» .entry))) (memory (now («register_tags» .entry)) (now («register_words» .entry))) n) (instruction code first second third)) pt fresh r (now (psws .entry)) (now (psws .exit)) (memory (now («register_tags» .entry)) (now («register_words» .entry))) (memory (now («register_tags» .exit)) (now («register_words» .entry))) n n) ⌝ }
 {
     if operation_checks::illegal_unused_s1_s2(first, second, third) {
         return Course::IllegalInstruction;
@@ -368,11 +376,11 @@ pub fn create(
     let Lookup::Found(a) = operand::source(cb, base, end, psw, second) else {
         return Course::ProtectionViolation;
     };
-    let x = operand::cell(register_tags, register_words, constants, a);
+    let x = operand::cell(constant_words, register_tags, register_words, a);
     let Lookup::Found(b) = operand::source(cb, base, end, psw, third) else {
         return Course::ProtectionViolation;
     };
-    let y = operand::cell(register_tags, register_words, constants, b);
+    let y = operand::cell(constant_words, register_tags, register_words, b);
     create_found(
         c,
         act,
@@ -389,6 +397,7 @@ pub fn create(
         operand::number(b),
         y.tag,
         y.word,
+        constant_tags,
         register_tags,
     )
 }
@@ -402,14 +411,15 @@ fn quit_found(
     b: usize,
     y: u8,
     s2: u64,
+    constant_tags: &[u8],
     register_tags: &mut [u8],
 ) -> Course
-    ensures { λ r. ⌜ ((row : Row) (v : Environment) (i : Instruction) (words constants : List ℕ) (n : Memory) (fresh first second : ℕ) (ob : Operand) → v .psw ≡ psw → psw ≡ getD (now (psws .entry)) pt 0 → Sourced row (now («register_tags» .entry)) words constants third ob b y s2 → Performs row (decideFound (operation.Quit c) v i (allFoundAt (memory (now («register_tags» .entry)) words) constants (roles Unused Unused Source) first second third Absent Absent ob)) pt fresh r (now (psws .entry)) (now (psws .exit)) (memory (now («register_tags» .entry)) words) (memory (now («register_tags» .exit)) words) n n) ⌝ }
+    ensures { λ r. ⌜ ((row : Row) (v : Environment) (i : Instruction) (words constantWords : List ℕ) (n : Memory) (fresh first second : ℕ) (ob : Operand) → v .psw ≡ psw → psw ≡ getD (now (psws .entry)) pt 0 → Sourced row (now («register_tags» .entry)) words (memory (now («constant_tags» .entry)) constantWords) third ob b y s2 → Performs row (decideFound (operation.Quit c) v i (allFoundAt (memory (now («register_tags» .entry)) words) (memory (now («constant_tags» .entry)) constantWords) (roles Unused Unused Source) first second third Absent Absent ob)) pt fresh r (now (psws .entry)) (now (psws .exit)) (memory (now («register_tags» .entry)) words) (memory (now («register_tags» .exit)) words) n n) ⌝ }
 {
     if operand::waits(Role::Source, operand::access(third), y) {
         return Course::Waits;
     }
-    if operand::masked(Role::Source, psw, y) {
+    if operand::masked(psw, third, b, y, constant_tags) {
         return Course::DataException;
     }
     operand::release(third, b, y, register_tags);
@@ -431,11 +441,12 @@ pub fn quit(
     first: u16,
     second: u16,
     third: u16,
-    constants: &[u64],
+    constant_tags: &[u8],
+    constant_words: &[u64],
     register_tags: &mut [u8],
     register_words: &[u64],
 ) -> Course
-    ensures { λ r. ⌜ ((row : Row) (code flag fresh : ℕ) (program : List ℕ) (n : Memory) → Spans row cb base end → psw ≡ getD (now (psws .entry)) pt 0 → Performs row (decideListed (roles Unused Unused Source) (operation.Quit c) (environmentOf row psw flag program (now (constants .entry)) (memory (now («register_tags» .entry)) (now («register_words» .entry))) n) (instruction code first second third)) pt fresh r (now (psws .entry)) (now (psws .exit)) (memory (now («register_tags» .entry)) (now («register_words» .entry))) (memory (now («register_tags» .exit)) (now («register_words» .entry))) n n) ⌝ }
+    ensures { λ r. ⌜ ((row : Row) (code flag fresh : ℕ) (program : List ℕ) (n : Memory) → Spans row cb base end → psw ≡ getD (now (psws .entry)) pt 0 → Performs row (decideListed (roles Unused Unused Source) (operation.Quit c) (environmentOf row psw flag program (memory (now («constant_tags» .entry)) (now («constant_words» .entry))) (memory (now («register_tags» .entry)) (now («register_words» .entry))) n) (instruction code first second third)) pt fresh r (now (psws .entry)) (now (psws .exit)) (memory (now («register_tags» .entry)) (now («register_words» .entry))) (memory (now («register_tags» .exit)) (now («register_words» .entry))) n n) ⌝ }
 {
     if operation_checks::illegal_s2(first, second, third) {
         return Course::IllegalInstruction;
@@ -443,7 +454,7 @@ pub fn quit(
     let Lookup::Found(b) = operand::source(cb, base, end, psw, third) else {
         return Course::ProtectionViolation;
     };
-    let y = operand::cell(register_tags, register_words, constants, b);
+    let y = operand::cell(constant_words, register_tags, register_words, b);
     quit_found(
         c,
         psws,
@@ -453,6 +464,7 @@ pub fn quit(
         operand::number(b),
         y.tag,
         y.word,
+        constant_tags,
         register_tags,
     )
 }

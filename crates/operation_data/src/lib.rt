@@ -1,5 +1,5 @@
 // The operations on data words: LODI, LODX, STOI, STOX. Each acts at once: the public function tests SAC, DAC and the fields and looks the operands up, the function `_found` tests what
-// stands there, then writes. D is the register d; S0, S1, S2 lie at c, a, b with the tags t, x, y and the words s0, s1, s2; the data window has the bytes from data_base on and below data_end.
+// stands there, then writes. D is the register d; S0, S1, S2 lie at c, a, b with the tags t, x, y (0 of a constant) and the words s0, s1, s2; the data window has the bytes from data_base on and below data_end.
 ghost use mathlib.Core.Path.{_≡_};
 ghost use Prim.Native.Nat.{ℕ, _+_, _%_, _^_};
 ghost use mathlib.Core.Bool.{_||_};
@@ -121,17 +121,18 @@ fn load_indirect_found(
     a: usize,
     x: u8,
     s1: u64,
+    constant_tags: &[u8],
     register_tags: &mut [u8],
     register_words: &mut [u64],
     data_tags: &mut [u8],
     data_words: &[u64],
 ) -> Course
-    ensures { λ r. ⌜ ((row : Row) (i : Instruction) (flag fresh : ℕ) (program constants : List ℕ) (third : ℕ) (od oa : Operand) → Span (dataWindow row) data_base data_end → psw ≡ getD (now (psws .entry)) pt 0 → Destined row od d → Sourced row (now («register_tags» .entry)) (now («register_words» .entry)) constants second oa a x s1 → Performs row (decideFound (LoadIndirect low) (environmentOf row psw flag program constants (memory (now («register_tags» .entry)) (now («register_words» .entry))) (memory (now (data_tags .entry)) (now (data_words .entry)))) i (allFoundAt (memory (now («register_tags» .entry)) (now («register_words» .entry))) constants (roles Destination Source Unused) first second third od oa Absent)) pt fresh r (now (psws .entry)) (now (psws .exit)) (memory (now («register_tags» .entry)) (now («register_words» .entry))) (memory (now («register_tags» .exit)) (now («register_words» .exit))) (memory (now (data_tags .entry)) (now (data_words .entry))) (memory (now (data_tags .exit)) (now (data_words .entry)))) ⌝ }
+    ensures { λ r. ⌜ ((row : Row) (i : Instruction) (flag fresh : ℕ) (program constantWords : List ℕ) (third : ℕ) (od oa : Operand) → Span (dataWindow row) data_base data_end → psw ≡ getD (now (psws .entry)) pt 0 → Destined row od d → Sourced row (now («register_tags» .entry)) (now («register_words» .entry)) (memory (now («constant_tags» .entry)) constantWords) second oa a x s1 → Performs row (decideFound (LoadIndirect low) (environmentOf row psw flag program (memory (now («constant_tags» .entry)) constantWords) (memory (now («register_tags» .entry)) (now («register_words» .entry))) (memory (now (data_tags .entry)) (now (data_words .entry)))) i (allFoundAt (memory (now («register_tags» .entry)) (now («register_words» .entry))) (memory (now («constant_tags» .entry)) constantWords) (roles Destination Source Unused) first second third od oa Absent)) pt fresh r (now (psws .entry)) (now (psws .exit)) (memory (now («register_tags» .entry)) (now («register_words» .entry))) (memory (now («register_tags» .exit)) (now («register_words» .exit))) (memory (now (data_tags .entry)) (now (data_words .entry))) (memory (now (data_tags .exit)) (now (data_words .entry)))) ⌝ }
 {
     if operation_checks::waits_d_s1(first, d, second, x, register_tags) {
         return Course::Waits;
     }
-    if operand::masked(Role::Source, psw, x) {
+    if operand::masked(psw, second, a, x, constant_tags) {
         return Course::DataException;
     }
     match word_place(low, data_base, data_end, indirect_address(s1)) {
@@ -173,13 +174,14 @@ pub fn load_indirect(
     first: u16,
     second: u16,
     third: u16,
-    constants: &[u64],
+    constant_tags: &[u8],
+    constant_words: &[u64],
     register_tags: &mut [u8],
     register_words: &mut [u64],
     data_tags: &mut [u8],
     data_words: &[u64],
 ) -> Course
-    ensures { λ r. ⌜ ((row : Row) (code flag fresh : ℕ) (program : List ℕ) → Spans row cb base end → Span (dataWindow row) data_base data_end → psw ≡ getD (now (psws .entry)) pt 0 → Performs row (decideListed (roles Destination Source Unused) (LoadIndirect low) (environmentOf row psw flag program (now (constants .entry)) (memory (now («register_tags» .entry)) (now («register_words» .entry))) (memory (now (data_tags .entry)) (now (data_words .entry)))) (instruction code first second third)) pt fresh r (now (psws .entry)) (now (psws .exit)) (memory (now («register_tags» .entry)) (now («register_words» .entry))) (memory (now («register_tags» .exit)) (now («register_words» .exit))) (memory (now (data_tags .entry)) (now (data_words .entry))) (memory (now (data_tags .exit)) (now (data_words .entry)))) ⌝ }
+    ensures { λ r. ⌜ ((row : Row) (code flag fresh : ℕ) (program : List ℕ) → Spans row cb base end → Span (dataWindow row) data_base data_end → psw ≡ getD (now (psws .entry)) pt 0 → Performs row (decideListed (roles Destination Source Unused) (LoadIndirect low) (environmentOf row psw flag program (memory (now («constant_tags» .entry)) (now («constant_words» .entry))) (memory (now («register_tags» .entry)) (now («register_words» .entry))) (memory (now (data_tags .entry)) (now (data_words .entry)))) (instruction code first second third)) pt fresh r (now (psws .entry)) (now (psws .exit)) (memory (now («register_tags» .entry)) (now («register_words» .entry))) (memory (now («register_tags» .exit)) (now («register_words» .exit))) (memory (now (data_tags .entry)) (now (data_words .entry))) (memory (now (data_tags .exit)) (now (data_words .entry)))) ⌝ }
 {
     if illegal_load_d_s1(low, first, second, third) {
         return Course::IllegalInstruction;
@@ -190,7 +192,7 @@ pub fn load_indirect(
     let Lookup::Found(a) = operand::source(cb, base, end, psw, second) else {
         return Course::ProtectionViolation;
     };
-    let x = operand::cell(register_tags, register_words, constants, a);
+    let x = operand::cell(constant_words, register_tags, register_words, a);
     load_indirect_found(
         low,
         data_base,
@@ -204,6 +206,7 @@ pub fn load_indirect(
         operand::number(a),
         x.tag,
         x.word,
+        constant_tags,
         register_tags,
         register_words,
         data_tags,
@@ -239,17 +242,18 @@ fn load_indexed_found(
     b: usize,
     y: u8,
     s2: u64,
+    constant_tags: &[u8],
     register_tags: &mut [u8],
     register_words: &mut [u64],
     data_tags: &mut [u8],
     data_words: &[u64],
 ) -> Course
-    ensures { λ r. ⌜ ((row : Row) (i : Instruction) (flag fresh : ℕ) (program constants : List ℕ) (od oa ob : Operand) → Span (dataWindow row) data_base data_end → psw ≡ getD (now (psws .entry)) pt 0 → Destined row od d → Sourced row (now («register_tags» .entry)) (now («register_words» .entry)) constants second oa a x s1 → Sourced row (now («register_tags» .entry)) (now («register_words» .entry)) constants third ob b y s2 → Performs row (decideFound (LoadIndexed low) (environmentOf row psw flag program constants (memory (now («register_tags» .entry)) (now («register_words» .entry))) (memory (now (data_tags .entry)) (now (data_words .entry)))) i (allFoundAt (memory (now («register_tags» .entry)) (now («register_words» .entry))) constants (roles Destination Source Source) first second third od oa ob)) pt fresh r (now (psws .entry)) (now (psws .exit)) (memory (now («register_tags» .entry)) (now («register_words» .entry))) (memory (now («register_tags» .exit)) (now («register_words» .exit))) (memory (now (data_tags .entry)) (now (data_words .entry))) (memory (now (data_tags .exit)) (now (data_words .entry)))) ⌝ }
+    ensures { λ r. ⌜ ((row : Row) (i : Instruction) (flag fresh : ℕ) (program constantWords : List ℕ) (od oa ob : Operand) → Span (dataWindow row) data_base data_end → psw ≡ getD (now (psws .entry)) pt 0 → Destined row od d → Sourced row (now («register_tags» .entry)) (now («register_words» .entry)) (memory (now («constant_tags» .entry)) constantWords) second oa a x s1 → Sourced row (now («register_tags» .entry)) (now («register_words» .entry)) (memory (now («constant_tags» .entry)) constantWords) third ob b y s2 → Performs row (decideFound (LoadIndexed low) (environmentOf row psw flag program (memory (now («constant_tags» .entry)) constantWords) (memory (now («register_tags» .entry)) (now («register_words» .entry))) (memory (now (data_tags .entry)) (now (data_words .entry)))) i (allFoundAt (memory (now («register_tags» .entry)) (now («register_words» .entry))) (memory (now («constant_tags» .entry)) constantWords) (roles Destination Source Source) first second third od oa ob)) pt fresh r (now (psws .entry)) (now (psws .exit)) (memory (now («register_tags» .entry)) (now («register_words» .entry))) (memory (now («register_tags» .exit)) (now («register_words» .exit))) (memory (now (data_tags .entry)) (now (data_words .entry))) (memory (now (data_tags .exit)) (now (data_words .entry)))) ⌝ }
 {
     if operation_checks::waits_d_s1_s2(first, d, second, x, third, y, register_tags) {
         return Course::Waits;
     }
-    if operation_checks::masked_s1_s2(psw, x, y) {
+    if operation_checks::masked_s1_s2(psw, second, a, x, third, b, y, constant_tags) {
         return Course::DataException;
     }
     match word_place(low, data_base, data_end, indexed_address(s1, s2)) {
@@ -294,13 +298,14 @@ pub fn load_indexed(
     first: u16,
     second: u16,
     third: u16,
-    constants: &[u64],
+    constant_tags: &[u8],
+    constant_words: &[u64],
     register_tags: &mut [u8],
     register_words: &mut [u64],
     data_tags: &mut [u8],
     data_words: &[u64],
 ) -> Course
-    ensures { λ r. ⌜ ((row : Row) (code flag fresh : ℕ) (program : List ℕ) → Spans row cb base end → Span (dataWindow row) data_base data_end → psw ≡ getD (now (psws .entry)) pt 0 → Performs row (decideListed (roles Destination Source Source) (LoadIndexed low) (environmentOf row psw flag program (now (constants .entry)) (memory (now («register_tags» .entry)) (now («register_words» .entry))) (memory (now (data_tags .entry)) (now (data_words .entry)))) (instruction code first second third)) pt fresh r (now (psws .entry)) (now (psws .exit)) (memory (now («register_tags» .entry)) (now («register_words» .entry))) (memory (now («register_tags» .exit)) (now («register_words» .exit))) (memory (now (data_tags .entry)) (now (data_words .entry))) (memory (now (data_tags .exit)) (now (data_words .entry)))) ⌝ }
+    ensures { λ r. ⌜ ((row : Row) (code flag fresh : ℕ) (program : List ℕ) → Spans row cb base end → Span (dataWindow row) data_base data_end → psw ≡ getD (now (psws .entry)) pt 0 → Performs row (decideListed (roles Destination Source Source) (LoadIndexed low) (environmentOf row psw flag program (memory (now («constant_tags» .entry)) (now («constant_words» .entry))) (memory (now («register_tags» .entry)) (now («register_words» .entry))) (memory (now (data_tags .entry)) (now (data_words .entry)))) (instruction code first second third)) pt fresh r (now (psws .entry)) (now (psws .exit)) (memory (now («register_tags» .entry)) (now («register_words» .entry))) (memory (now («register_tags» .exit)) (now («register_words» .exit))) (memory (now (data_tags .entry)) (now (data_words .entry))) (memory (now (data_tags .exit)) (now (data_words .entry)))) ⌝ }
 {
     if illegal_load_three(low, first, second, third) {
         return Course::IllegalInstruction;
@@ -311,11 +316,11 @@ pub fn load_indexed(
     let Lookup::Found(a) = operand::source(cb, base, end, psw, second) else {
         return Course::ProtectionViolation;
     };
-    let x = operand::cell(register_tags, register_words, constants, a);
+    let x = operand::cell(constant_words, register_tags, register_words, a);
     let Lookup::Found(b) = operand::source(cb, base, end, psw, third) else {
         return Course::ProtectionViolation;
     };
-    let y = operand::cell(register_tags, register_words, constants, b);
+    let y = operand::cell(constant_words, register_tags, register_words, b);
     load_indexed_found(
         low,
         data_base,
@@ -333,6 +338,7 @@ pub fn load_indexed(
         operand::number(b),
         y.tag,
         y.word,
+        constant_tags,
         register_tags,
         register_words,
         data_tags,
@@ -397,17 +403,18 @@ fn store_indirect_found(
     b: usize,
     y: u8,
     s2: u64,
+    constant_tags: &[u8],
     register_tags: &mut [u8],
     register_words: &[u64],
     data_tags: &mut [u8],
     data_words: &mut [u64],
 ) -> Course
-    ensures { λ r. ⌜ ((row : Row) (i : Instruction) (flag fresh : ℕ) (program constants : List ℕ) (first : ℕ) (oa ob : Operand) → Span (dataWindow row) data_base data_end → psw ≡ getD (now (psws .entry)) pt 0 → Sourced row (now («register_tags» .entry)) (now («register_words» .entry)) constants second oa a x s1 → Sourced row (now («register_tags» .entry)) (now («register_words» .entry)) constants third ob b y s2 → Performs row (decideFound (StoreIndirect low) (environmentOf row psw flag program constants (memory (now («register_tags» .entry)) (now («register_words» .entry))) (memory (now (data_tags .entry)) (now (data_words .entry)))) i (allFoundAt (memory (now («register_tags» .entry)) (now («register_words» .entry))) constants (roles Unused Source Source) first second third Absent oa ob)) pt fresh r (now (psws .entry)) (now (psws .exit)) (memory (now («register_tags» .entry)) (now («register_words» .entry))) (memory (now («register_tags» .exit)) (now («register_words» .entry))) (memory (now (data_tags .entry)) (now (data_words .entry))) (memory (now (data_tags .exit)) (now (data_words .exit)))) ⌝ }
+    ensures { λ r. ⌜ ((row : Row) (i : Instruction) (flag fresh : ℕ) (program constantWords : List ℕ) (first : ℕ) (oa ob : Operand) → Span (dataWindow row) data_base data_end → psw ≡ getD (now (psws .entry)) pt 0 → Sourced row (now («register_tags» .entry)) (now («register_words» .entry)) (memory (now («constant_tags» .entry)) constantWords) second oa a x s1 → Sourced row (now («register_tags» .entry)) (now («register_words» .entry)) (memory (now («constant_tags» .entry)) constantWords) third ob b y s2 → Performs row (decideFound (StoreIndirect low) (environmentOf row psw flag program (memory (now («constant_tags» .entry)) constantWords) (memory (now («register_tags» .entry)) (now («register_words» .entry))) (memory (now (data_tags .entry)) (now (data_words .entry)))) i (allFoundAt (memory (now («register_tags» .entry)) (now («register_words» .entry))) (memory (now («constant_tags» .entry)) constantWords) (roles Unused Source Source) first second third Absent oa ob)) pt fresh r (now (psws .entry)) (now (psws .exit)) (memory (now («register_tags» .entry)) (now («register_words» .entry))) (memory (now («register_tags» .exit)) (now («register_words» .entry))) (memory (now (data_tags .entry)) (now (data_words .entry))) (memory (now (data_tags .exit)) (now (data_words .exit)))) ⌝ }
 {
     if operation_checks::waits_s1_s2(second, x, third, y) {
         return Course::Waits;
     }
-    if operation_checks::masked_s1_s2(psw, x, y) {
+    if operation_checks::masked_s1_s2(psw, second, a, x, third, b, y, constant_tags) {
         return Course::DataException;
     }
     match word_place(low, data_base, data_end, indirect_address(s1)) {
@@ -438,13 +445,14 @@ pub fn store_indirect(
     first: u16,
     second: u16,
     third: u16,
-    constants: &[u64],
+    constant_tags: &[u8],
+    constant_words: &[u64],
     register_tags: &mut [u8],
     register_words: &[u64],
     data_tags: &mut [u8],
     data_words: &mut [u64],
 ) -> Course
-    ensures { λ r. ⌜ ((row : Row) (code flag fresh : ℕ) (program : List ℕ) → Spans row cb base end → Span (dataWindow row) data_base data_end → psw ≡ getD (now (psws .entry)) pt 0 → Performs row (decideListed (roles Unused Source Source) (StoreIndirect low) (environmentOf row psw flag program (now (constants .entry)) (memory (now («register_tags» .entry)) (now («register_words» .entry))) (memory (now (data_tags .entry)) (now (data_words .entry)))) (instruction code first second third)) pt fresh r (now (psws .entry)) (now (psws .exit)) (memory (now («register_tags» .entry)) (now («register_words» .entry))) (memory (now («register_tags» .exit)) (now («register_words» .entry))) (memory (now (data_tags .entry)) (now (data_words .entry))) (memory (now (data_tags .exit)) (now (data_words .exit)))) ⌝ }
+    ensures { λ r. ⌜ ((row : Row) (code flag fresh : ℕ) (program : List ℕ) → Spans row cb base end → Span (dataWindow row) data_base data_end → psw ≡ getD (now (psws .entry)) pt 0 → Performs row (decideListed (roles Unused Source Source) (StoreIndirect low) (environmentOf row psw flag program (memory (now («constant_tags» .entry)) (now («constant_words» .entry))) (memory (now («register_tags» .entry)) (now («register_words» .entry))) (memory (now (data_tags .entry)) (now (data_words .entry)))) (instruction code first second third)) pt fresh r (now (psws .entry)) (now (psws .exit)) (memory (now («register_tags» .entry)) (now («register_words» .entry))) (memory (now («register_tags» .exit)) (now («register_words» .entry))) (memory (now (data_tags .entry)) (now (data_words .entry))) (memory (now (data_tags .exit)) (now (data_words .exit)))) ⌝ }
 {
     if illegal_store_pair(low, first, second, third) {
         return Course::IllegalInstruction;
@@ -452,11 +460,11 @@ pub fn store_indirect(
     let Lookup::Found(a) = operand::source(cb, base, end, psw, second) else {
         return Course::ProtectionViolation;
     };
-    let x = operand::cell(register_tags, register_words, constants, a);
+    let x = operand::cell(constant_words, register_tags, register_words, a);
     let Lookup::Found(b) = operand::source(cb, base, end, psw, third) else {
         return Course::ProtectionViolation;
     };
-    let y = operand::cell(register_tags, register_words, constants, b);
+    let y = operand::cell(constant_words, register_tags, register_words, b);
     store_indirect_found(
         low,
         data_base,
@@ -472,6 +480,7 @@ pub fn store_indirect(
         operand::number(b),
         y.tag,
         y.word,
+        constant_tags,
         register_tags,
         register_words,
         data_tags,
@@ -512,17 +521,30 @@ fn store_indexed_found(
     b: usize,
     y: u8,
     s2: u64,
+    constant_tags: &[u8],
     register_tags: &mut [u8],
     register_words: &[u64],
     data_tags: &mut [u8],
     data_words: &mut [u64],
 ) -> Course
-    ensures { λ r. ⌜ ((row : Row) (i : Instruction) (flag fresh : ℕ) (program constants : List ℕ) (oc oa ob : Operand) → Span (dataWindow row) data_base data_end → psw ≡ getD (now (psws .entry)) pt 0 → Sourced row (now («register_tags» .entry)) (now («register_words» .entry)) constants first oc c t s0 → Sourced row (now («register_tags» .entry)) (now («register_words» .entry)) constants second oa a x s1 → Sourced row (now («register_tags» .entry)) (now («register_words» .entry)) constants third ob b y s2 → Performs row (decideFound (StoreIndexed low) (environmentOf row psw flag program constants (memory (now («register_tags» .entry)) (now («register_words» .entry))) (memory (now (data_tags .entry)) (now (data_words .entry)))) i (allFoundAt (memory (now («register_tags» .entry)) (now («register_words» .entry))) constants (roles Source Source Source) first second third oc oa ob)) pt fresh r (now (psws .entry)) (now (psws .exit)) (memory (now («register_tags» .entry)) (now («register_words» .entry))) (memory (now («register_tags» .exit)) (now («register_words» .entry))) (memory (now (data_tags .entry)) (now (data_words .entry))) (memory (now (data_tags .exit)) (now (data_words .exit)))) ⌝ }
+    ensures { λ r. ⌜ ((row : Row) (i : Instruction) (flag fresh : ℕ) (program constantWords : List ℕ) (oc oa ob : Operand) → Span (dataWindow row) data_base data_end → psw ≡ getD (now (psws .entry)) pt 0 → Sourced row (now («register_tags» .entry)) (now («register_words» .entry)) (memory (now («constant_tags» .entry)) constantWords) first oc c t s0 → Sourced row (now («register_tags» .entry)) (now («register_words» .entry)) (memory (now («constant_tags» .entry)) constantWords) second oa a x s1 → Sourced row (now («register_tags» .entry)) (now («register_words» .entry)) (memory (now («constant_tags» .entry)) constantWords) third ob b y s2 → Performs row (decideFound (StoreIndexed low) (environmentOf row psw flag program (memory (now («constant_tags» .entry)) constantWords) (memory (now («register_tags» .entry)) (now («register_words» .entry))) (memory (now (data_tags .entry)) (now (data_words .entry)))) i (allFoundAt (memory (now («register_tags» .entry)) (now («register_words» .entry))) (memory (now («constant_tags» .entry)) constantWords) (roles Source Source Source) first second third oc oa ob)) pt fresh r (now (psws .entry)) (now (psws .exit)) (memory (now («register_tags» .entry)) (now («register_words» .entry))) (memory (now («register_tags» .exit)) (now («register_words» .entry))) (memory (now (data_tags .entry)) (now (data_words .entry))) (memory (now (data_tags .exit)) (now (data_words .exit)))) ⌝ }
 {
     if operation_checks::waits_s0_s1_s2(first, t, second, x, third, y) {
         return Course::Waits;
     }
-    if operation_checks::masked_s0_s1_s2(psw, t, x, y) {
+    if operation_checks::masked_s0_s1_s2(
+        psw,
+        first,
+        c,
+        t,
+        second,
+        a,
+        x,
+        third,
+        b,
+        y,
+        constant_tags,
+    ) {
         return Course::DataException;
     }
     match word_place(low, data_base, data_end, indexed_address(s1, s2)) {
@@ -564,13 +586,14 @@ pub fn store_indexed(
     first: u16,
     second: u16,
     third: u16,
-    constants: &[u64],
+    constant_tags: &[u8],
+    constant_words: &[u64],
     register_tags: &mut [u8],
     register_words: &[u64],
     data_tags: &mut [u8],
     data_words: &mut [u64],
 ) -> Course
-    ensures { λ r. ⌜ ((row : Row) (code flag fresh : ℕ) (program : List ℕ) → Spans row cb base end → Span (dataWindow row) data_base data_end → psw ≡ getD (now (psws .entry)) pt 0 → Performs row (decideListed (roles Source Source Source) (StoreIndexed low) (environmentOf row psw flag program (now (constants .entry)) (memory (now («register_tags» .entry)) (now («register_words» .entry))) (memory (now (data_tags .entry)) (now (data_words .entry)))) (instruction code first second third)) pt fresh r (now (psws .entry)) (now (psws .exit)) (memory (now («register_tags» .entry)) (now («register_words» .entry))) (memory (now («register_tags» .exit)) (now («register_words» .entry))) (memory (now (data_tags .entry)) (now (data_words .entry))) (memory (now (data_tags .exit)) (now (data_words .exit)))) ⌝ }
+    ensures { λ r. ⌜ ((row : Row) (code flag fresh : ℕ) (program : List ℕ) → Spans row cb base end → Span (dataWindow row) data_base data_end → psw ≡ getD (now (psws .entry)) pt 0 → Performs row (decideListed (roles Source Source Source) (StoreIndexed low) (environmentOf row psw flag program (memory (now («constant_tags» .entry)) (now («constant_words» .entry))) (memory (now («register_tags» .entry)) (now («register_words» .entry))) (memory (now (data_tags .entry)) (now (data_words .entry)))) (instruction code first second third)) pt fresh r (now (psws .entry)) (now (psws .exit)) (memory (now («register_tags» .entry)) (now («register_words» .entry))) (memory (now («register_tags» .exit)) (now («register_words» .entry))) (memory (now (data_tags .entry)) (now (data_words .entry))) (memory (now (data_tags .exit)) (now (data_words .exit)))) ⌝ }
 {
     if illegal_store_sources(low, first, second, third) {
         return Course::IllegalInstruction;
@@ -578,15 +601,15 @@ pub fn store_indexed(
     let Lookup::Found(c) = operand::source(cb, base, end, psw, first) else {
         return Course::ProtectionViolation;
     };
-    let t = operand::cell(register_tags, register_words, constants, c);
+    let t = operand::cell(constant_words, register_tags, register_words, c);
     let Lookup::Found(a) = operand::source(cb, base, end, psw, second) else {
         return Course::ProtectionViolation;
     };
-    let x = operand::cell(register_tags, register_words, constants, a);
+    let x = operand::cell(constant_words, register_tags, register_words, a);
     let Lookup::Found(b) = operand::source(cb, base, end, psw, third) else {
         return Course::ProtectionViolation;
     };
-    let y = operand::cell(register_tags, register_words, constants, b);
+    let y = operand::cell(constant_words, register_tags, register_words, b);
     store_indexed_found(
         low,
         data_base,
@@ -606,6 +629,7 @@ pub fn store_indexed(
         operand::number(b),
         y.tag,
         y.word,
+        constant_tags,
         register_tags,
         register_words,
         data_tags,

@@ -35,13 +35,14 @@ fn perform_other(
     first: u16,
     second: u16,
     third: u16,
-    constants: &[u64],
+    constant_tags: &[u8],
+    constant_words: &[u64],
     register_tags: &mut [u8],
     register_words: &mut [u64],
     data_tags: &mut [u8],
     data_words: &mut [u64],
 ) -> Course
-    ensures { λ r. ⌜ ((row : Row) (code : ℕ) (program : List ℕ) → 18 ≤ operationNumber op → Spans row cb base end → Span (dataWindow row) data_base data_end → psw ≡ getD (now (psws .entry)) pt 0 → Performs row (decideCode (Listed op) (environmentOf row psw flag program (now (constants .entry)) (memory (now («register_tags» .entry)) (now («register_words» .entry))) (memory (now (data_tags .entry)) (now (data_words .entry)))) (instruction code first second third)) pt fresh r (now (psws .entry)) (now (psws .exit)) (memory (now («register_tags» .entry)) (now («register_words» .entry))) (memory (now («register_tags» .exit)) (now («register_words» .exit))) (memory (now (data_tags .entry)) (now (data_words .entry))) (memory (now (data_tags .exit)) (now (data_words .exit)))) ⌝ }
+    ensures { λ r. ⌜ ((row : Row) (code : ℕ) (program : List ℕ) → 18 ≤ operationNumber op → Spans row cb base end → Span (dataWindow row) data_base data_end → psw ≡ getD (now (psws .entry)) pt 0 → Performs row (decideCode (Listed op) (environmentOf row psw flag program (memory (now («constant_tags» .entry)) (now («constant_words» .entry))) (memory (now («register_tags» .entry)) (now («register_words» .entry))) (memory (now (data_tags .entry)) (now (data_words .entry)))) (instruction code first second third)) pt fresh r (now (psws .entry)) (now (psws .exit)) (memory (now («register_tags» .entry)) (now («register_words» .entry))) (memory (now («register_tags» .exit)) (now («register_words» .exit))) (memory (now (data_tags .entry)) (now (data_words .entry))) (memory (now (data_tags .exit)) (now (data_words .exit)))) ⌝ }
 {
     match op {
         Operation::Nop => operation_control::nop(psws, pt, psw, first, second, third),
@@ -60,7 +61,8 @@ fn perform_other(
             first,
             second,
             third,
-            constants,
+            constant_tags,
+            constant_words,
             register_tags,
             register_words,
         ),
@@ -75,7 +77,8 @@ fn perform_other(
             first,
             second,
             third,
-            constants,
+            constant_tags,
+            constant_words,
             register_tags,
             register_words,
         ),
@@ -93,7 +96,8 @@ fn perform_other(
             first,
             second,
             third,
-            constants,
+            constant_tags,
+            constant_words,
             register_tags,
             register_words,
         ),
@@ -108,7 +112,8 @@ fn perform_other(
             first,
             second,
             third,
-            constants,
+            constant_tags,
+            constant_words,
             register_tags,
             register_words,
         ),
@@ -125,7 +130,8 @@ fn perform_other(
             first,
             second,
             third,
-            constants,
+            constant_tags,
+            constant_words,
             register_tags,
             register_words,
             data_tags,
@@ -144,7 +150,8 @@ fn perform_other(
             first,
             second,
             third,
-            constants,
+            constant_tags,
+            constant_words,
             register_tags,
             register_words,
             data_tags,
@@ -163,7 +170,8 @@ fn perform_other(
             first,
             second,
             third,
-            constants,
+            constant_tags,
+            constant_words,
             register_tags,
             register_words,
             data_tags,
@@ -182,7 +190,8 @@ fn perform_other(
             first,
             second,
             third,
-            constants,
+            constant_tags,
+            constant_words,
             register_tags,
             register_words,
             data_tags,
@@ -207,13 +216,14 @@ fn perform_listed(
     first: u16,
     second: u16,
     third: u16,
-    constants: &[u64],
+    constant_tags: &[u8],
+    constant_words: &[u64],
     register_tags: &mut [u8],
     register_words: &mut [u64],
     data_tags: &mut [u8],
     data_words: &mut [u64],
 ) -> Course
-    ensures { λ r. ⌜ ((row : Row) (code : ℕ) (program : List ℕ) → Spans row cb base end → Span (dataWindow row) data_base data_end → psw ≡ getD (now (psws .entry)) pt 0 → Performs row (decideCode (Listed op) (environmentOf row psw flag program (now (constants .entry)) (memory (now («register_tags» .entry)) (now («register_words» .entry))) (memory (now (data_tags .entry)) (now (data_words .entry)))) (instruction code first second third)) pt fresh r (now (psws .entry)) (now (psws .exit)) (memory (now («register_tags» .entry)) (now («register_words» .entry))) (memory (now («register_tags» .exit)) (now («register_words» .exit))) (memory (now (data_tags .entry)) (now (data_words .entry))) (memory (now (data_tags .exit)) (now (data_words .exit)))) ⌝ }
+    ensures { λ r. ⌜ ((row : Row) (code : ℕ) (program : List ℕ) → Spans row cb base end → Span (dataWindow row) data_base data_end → psw ≡ getD (now (psws .entry)) pt 0 → Performs row (decideCode (Listed op) (environmentOf row psw flag program (memory (now («constant_tags» .entry)) (now («constant_words» .entry))) (memory (now («register_tags» .entry)) (now («register_words» .entry))) (memory (now (data_tags .entry)) (now (data_words .entry)))) (instruction code first second third)) pt fresh r (now (psws .entry)) (now (psws .exit)) (memory (now («register_tags» .entry)) (now («register_words» .entry))) (memory (now («register_tags» .exit)) (now («register_words» .exit))) (memory (now (data_tags .entry)) (now (data_words .entry))) (memory (now (data_tags .exit)) (now (data_words .exit)))) ⌝ }
 {
     let k = operation_registers::operation_number(op);
     if k < 10 {
@@ -228,7 +238,8 @@ fn perform_listed(
             first,
             second,
             third,
-            constants,
+            constant_tags,
+            constant_words,
             register_tags,
             register_words,
         );
@@ -245,7 +256,8 @@ fn perform_listed(
             first,
             second,
             third,
-            constants,
+            constant_tags,
+            constant_words,
             register_tags,
             register_words,
         );
@@ -280,7 +292,8 @@ fn perform_listed(
         first,
         second,
         third,
-        constants,
+        constant_tags,
+        constant_words,
         register_tags,
         register_words,
         data_tags,
@@ -304,13 +317,14 @@ fn perform_code(
     first: u16,
     second: u16,
     third: u16,
-    constants: &[u64],
+    constant_tags: &[u8],
+    constant_words: &[u64],
     register_tags: &mut [u8],
     register_words: &mut [u64],
     data_tags: &mut [u8],
     data_words: &mut [u64],
 ) -> Course
-    ensures { λ r. ⌜ ((row : Row) (k : ℕ) (program : List ℕ) → Spans row cb base end → Span (dataWindow row) data_base data_end → psw ≡ getD (now (psws .entry)) pt 0 → Performs row (decideCode code (environmentOf row psw flag program (now (constants .entry)) (memory (now («register_tags» .entry)) (now («register_words» .entry))) (memory (now (data_tags .entry)) (now (data_words .entry)))) (instruction k first second third)) pt fresh r (now (psws .entry)) (now (psws .exit)) (memory (now («register_tags» .entry)) (now («register_words» .entry))) (memory (now («register_tags» .exit)) (now («register_words» .exit))) (memory (now (data_tags .entry)) (now (data_words .entry))) (memory (now (data_tags .exit)) (now (data_words .exit)))) ⌝ }
+    ensures { λ r. ⌜ ((row : Row) (k : ℕ) (program : List ℕ) → Spans row cb base end → Span (dataWindow row) data_base data_end → psw ≡ getD (now (psws .entry)) pt 0 → Performs row (decideCode code (environmentOf row psw flag program (memory (now («constant_tags» .entry)) (now («constant_words» .entry))) (memory (now («register_tags» .entry)) (now («register_words» .entry))) (memory (now (data_tags .entry)) (now (data_words .entry)))) (instruction k first second third)) pt fresh r (now (psws .entry)) (now (psws .exit)) (memory (now («register_tags» .entry)) (now («register_words» .entry))) (memory (now («register_tags» .exit)) (now («register_words» .exit))) (memory (now (data_tags .entry)) (now (data_words .entry))) (memory (now (data_tags .exit)) (now (data_words .exit)))) ⌝ }
 {
     match code {
         Code::Privileged => Course::PrivilegedInstruction,
@@ -331,7 +345,8 @@ fn perform_code(
             first,
             second,
             third,
-            constants,
+            constant_tags,
+            constant_words,
             register_tags,
             register_words,
             data_tags,
@@ -356,14 +371,15 @@ pub fn perform(
     psw: u64,
     flag: u8,
     fresh: usize,
-    constants: &[u64],
+    constant_tags: &[u8],
+    constant_words: &[u64],
     register_tags: &mut [u8],
     register_words: &mut [u64],
     program: &[u64],
     data_tags: &mut [u8],
     data_words: &mut [u64],
 ) -> Course
-    ensures { λ r. ⌜ ((row : Row) → Spans row cb base end → Span (programWindow row) «program_base» «program_end» → Span (dataWindow row) data_base data_end → psw ≡ getD (now (psws .entry)) pt 0 → Performs row (decide (environmentOf row psw flag (now (program .entry)) (now (constants .entry)) (memory (now («register_tags» .entry)) (now («register_words» .entry))) (memory (now (data_tags .entry)) (now (data_words .entry))))) pt fresh r (now (psws .entry)) (now (psws .exit)) (memory (now («register_tags» .entry)) (now («register_words» .entry))) (memory (now («register_tags» .exit)) (now («register_words» .exit))) (memory (now (data_tags .entry)) (now (data_words .entry))) (memory (now (data_tags .exit)) (now (data_words .exit)))) ⌝ }
+    ensures { λ r. ⌜ ((row : Row) → Spans row cb base end → Span (programWindow row) «program_base» «program_end» → Span (dataWindow row) data_base data_end → psw ≡ getD (now (psws .entry)) pt 0 → Performs row (decide (environmentOf row psw flag (now (program .entry)) (memory (now («constant_tags» .entry)) (now («constant_words» .entry))) (memory (now («register_tags» .entry)) (now («register_words» .entry))) (memory (now (data_tags .entry)) (now (data_words .entry))))) pt fresh r (now (psws .entry)) (now (psws .exit)) (memory (now («register_tags» .entry)) (now («register_words» .entry))) (memory (now («register_tags» .exit)) (now («register_words» .exit))) (memory (now (data_tags .entry)) (now (data_words .entry))) (memory (now (data_tags .exit)) (now (data_words .exit)))) ⌝ }
 {
     let Place::At(a) = window::place_below(program_base, program_end, word::pc(psw)) else {
         return Course::ProtectionViolation;
@@ -384,7 +400,8 @@ pub fn perform(
         i.first,
         i.second,
         i.third,
-        constants,
+        constant_tags,
+        constant_words,
         register_tags,
         register_words,
         data_tags,

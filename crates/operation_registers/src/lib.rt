@@ -1,5 +1,5 @@
 // Operations whose result goes to a register: bit vectors, bits, integers. Those with the same operands share a function, told apart by number. Each acts at once: the public function
-// tests the fields and looks the operands up, the function `_found` tests what stands there, then writes. The operands of the three fields are d, a, b, of S1 and S2 the tags x, y and the words s1, s2.
+// tests the fields and looks the operands up, the function `_found` tests what stands there, then writes. The operands of the three fields are d, a, b, of S1 and S2 the tags x, y (0 of a constant) and the words s1, s2.
 ghost use mathlib.Core.Path.{_≡_};
 ghost use mathlib.Core.List.{List};
 ghost use lib.ListN.{getD};
@@ -21,7 +21,6 @@ ghost use Rattle.step.specs.Code.Performs.{Performs};
 ghost use Rattle.operation_checks.specs.Code.Operands.{Destined, Sourced};
 ghost use Rattle.operation_registers.specs.Code.Numbers.{vectorNumber, bitNumber, integerNumber, operationNumber, outcomeOf, operationAt};
 use operand::Lookup;
-use operand::Role;
 use operation::Course;
 use operation::Operation;
 use word::Bit;
@@ -146,7 +145,7 @@ fn one_found(
     register_tags: &mut [u8],
     register_words: &mut [u64],
 ) -> Course
-    ensures { λ r. ⌜ ((op : Operation) (row : Row) (v : Environment) (i : Instruction) (constants : List ℕ) (n : Memory) (fresh second third : ℕ) (od : Operand) → 16 ≤ k → k < 18 → operationNumber op ≡ k → v .psw ≡ psw → psw ≡ getD (now (psws .entry)) pt 0 → Destined row od d → Performs row (decideFound op v i (allFoundAt (memory (now («register_tags» .entry)) (now («register_words» .entry))) constants (roles Destination Unused Unused) first second third od Absent Absent)) pt fresh r (now (psws .entry)) (now (psws .exit)) (memory (now («register_tags» .entry)) (now («register_words» .entry))) (memory (now («register_tags» .exit)) (now («register_words» .exit))) n n) ⌝ }
+    ensures { λ r. ⌜ ((op : Operation) (row : Row) (v : Environment) (i : Instruction) (constants n : Memory) (fresh second third : ℕ) (od : Operand) → 16 ≤ k → k < 18 → operationNumber op ≡ k → v .psw ≡ psw → psw ≡ getD (now (psws .entry)) pt 0 → Destined row od d → Performs row (decideFound op v i (allFoundAt (memory (now («register_tags» .entry)) (now («register_words» .entry))) constants (roles Destination Unused Unused) first second third od Absent Absent)) pt fresh r (now (psws .entry)) (now (psws .exit)) (memory (now («register_tags» .entry)) (now («register_words» .entry))) (memory (now («register_tags» .exit)) (now («register_words» .exit))) n n) ⌝ }
 {
     if operation_checks::waits_d(first, d, register_tags) {
         return Course::Waits;
@@ -177,7 +176,7 @@ pub fn one(
     register_tags: &mut [u8],
     register_words: &mut [u64],
 ) -> Course
-    ensures { λ r. ⌜ ((op : Operation) (row : Row) (code flag fresh cb : ℕ) (program constants : List ℕ) (n : Memory) → 16 ≤ k → k < 18 → operationNumber op ≡ k → Spans row cb base end → psw ≡ getD (now (psws .entry)) pt 0 → Performs row (decideListed (roles Destination Unused Unused) op (environmentOf row psw flag program constants (memory (now («register_tags» .entry)) (now («register_words» .entry))) n) (instruction code first second third)) pt fresh r (now (psws .entry)) (now (psws .exit)) (memory (now («register_tags» .entry)) (now («register_words» .entry))) (memory (now («register_tags» .exit)) (now («register_words» .exit))) n n) ⌝ }
+    ensures { λ r. ⌜ ((op : Operation) (row : Row) (code flag fresh cb : ℕ) (program : List ℕ) (constants n : Memory) → 16 ≤ k → k < 18 → operationNumber op ≡ k → Spans row cb base end → psw ≡ getD (now (psws .entry)) pt 0 → Performs row (decideListed (roles Destination Unused Unused) op (environmentOf row psw flag program constants (memory (now («register_tags» .entry)) (now («register_words» .entry))) n) (instruction code first second third)) pt fresh r (now (psws .entry)) (now (psws .exit)) (memory (now («register_tags» .entry)) (now («register_words» .entry))) (memory (now («register_tags» .exit)) (now («register_words» .exit))) n n) ⌝ }
 {
     if operation_checks::illegal_d(first, second, third) {
         return Course::IllegalInstruction;
@@ -208,15 +207,16 @@ fn two_found(
     a: usize,
     x: u8,
     s1: u64,
+    constant_tags: &[u8],
     register_tags: &mut [u8],
     register_words: &mut [u64],
 ) -> Course
-    ensures { λ r. ⌜ ((op : Operation) (row : Row) (v : Environment) (i : Instruction) (constants : List ℕ) (n : Memory) (fresh third : ℕ) (od oa : Operand) → 10 ≤ k → k < 16 → operationNumber op ≡ k → v .psw ≡ psw → psw ≡ getD (now (psws .entry)) pt 0 → Destined row od d → Sourced row (now («register_tags» .entry)) (now («register_words» .entry)) constants second oa a x s1 → Performs row (decideFound op v i (allFoundAt (memory (now («register_tags» .entry)) (now («register_words» .entry))) constants (roles Destination Source Unused) first second third od oa Absent)) pt fresh r (now (psws .entry)) (now (psws .exit)) (memory (now («register_tags» .entry)) (now («register_words» .entry))) (memory (now («register_tags» .exit)) (now («register_words» .exit))) n n) ⌝ }
+    ensures { λ r. ⌜ ((op : Operation) (row : Row) (v : Environment) (i : Instruction) (constantWords : List ℕ) (n : Memory) (fresh third : ℕ) (od oa : Operand) → 10 ≤ k → k < 16 → operationNumber op ≡ k → v .psw ≡ psw → psw ≡ getD (now (psws .entry)) pt 0 → Destined row od d → Sourced row (now («register_tags» .entry)) (now («register_words» .entry)) (memory (now («constant_tags» .entry)) constantWords) second oa a x s1 → Performs row (decideFound op v i (allFoundAt (memory (now («register_tags» .entry)) (now («register_words» .entry))) (memory (now («constant_tags» .entry)) constantWords) (roles Destination Source Unused) first second third od oa Absent)) pt fresh r (now (psws .entry)) (now (psws .exit)) (memory (now («register_tags» .entry)) (now («register_words» .entry))) (memory (now («register_tags» .exit)) (now («register_words» .exit))) n n) ⌝ }
 {
     if operation_checks::waits_d_s1(first, d, second, x, register_tags) {
         return Course::Waits;
     }
-    if operand::masked(Role::Source, psw, x) {
+    if operand::masked(psw, second, a, x, constant_tags) {
         return Course::DataException;
     }
     let out = result_two(k, s1);
@@ -246,11 +246,12 @@ pub fn two(
     first: u16,
     second: u16,
     third: u16,
-    constants: &[u64],
+    constant_tags: &[u8],
+    constant_words: &[u64],
     register_tags: &mut [u8],
     register_words: &mut [u64],
 ) -> Course
-    ensures { λ r. ⌜ ((op : Operation) (row : Row) (code flag fresh : ℕ) (program : List ℕ) (n : Memory) → 10 ≤ k → k < 16 → operationNumber op ≡ k → Spans row cb base end → psw ≡ getD (now (psws .entry)) pt 0 → Performs row (decideListed (roles Destination Source Unused) op (environmentOf row psw flag program (now (constants .entry)) (memory (now («register_tags» .entry)) (now («register_words» .entry))) n) (instruction code first second third)) pt fresh r (now (psws .entry)) (now (psws .exit)) (memory (now («register_tags» .entry)) (now («register_words» .entry))) (memory (now («register_tags» .exit)) (now («register_words» .exit))) n n) ⌝ }
+    ensures { λ r. ⌜ ((op : Operation) (row : Row) (code flag fresh : ℕ) (program : List ℕ) (n : Memory) → 10 ≤ k → k < 16 → operationNumber op ≡ k → Spans row cb base end → psw ≡ getD (now (psws .entry)) pt 0 → Performs row (decideListed (roles Destination Source Unused) op (environmentOf row psw flag program (memory (now («constant_tags» .entry)) (now («constant_words» .entry))) (memory (now («register_tags» .entry)) (now («register_words» .entry))) n) (instruction code first second third)) pt fresh r (now (psws .entry)) (now (psws .exit)) (memory (now («register_tags» .entry)) (now («register_words» .entry))) (memory (now («register_tags» .exit)) (now («register_words» .exit))) n n) ⌝ }
 {
     if operation_checks::illegal_d_s1(first, second, third) {
         return Course::IllegalInstruction;
@@ -261,7 +262,7 @@ pub fn two(
     let Lookup::Found(a) = operand::source(cb, base, end, psw, second) else {
         return Course::ProtectionViolation;
     };
-    let x = operand::cell(register_tags, register_words, constants, a);
+    let x = operand::cell(constant_words, register_tags, register_words, a);
     two_found(
         k,
         psws,
@@ -273,6 +274,7 @@ pub fn two(
         operand::number(a),
         x.tag,
         x.word,
+        constant_tags,
         register_tags,
         register_words,
     )
@@ -293,15 +295,16 @@ fn three_found(
     b: usize,
     y: u8,
     s2: u64,
+    constant_tags: &[u8],
     register_tags: &mut [u8],
     register_words: &mut [u64],
 ) -> Course
-    ensures { λ r. ⌜ ((op : Operation) (row : Row) (v : Environment) (i : Instruction) (constants : List ℕ) (n : Memory) (fresh : ℕ) (od oa ob : Operand) → k < 10 → operationNumber op ≡ k → v .psw ≡ psw → psw ≡ getD (now (psws .entry)) pt 0 → Destined row od d → Sourced row (now («register_tags» .entry)) (now («register_words» .entry)) constants second oa a x s1 → Sourced row (now («register_tags» .entry)) (now («register_words» .entry)) constants third ob b y s2 → Performs row (decideFound op v i (allFoundAt (memory (now («register_tags» .entry)) (now («register_words» .entry))) constants (roles Destination Source Source) first second third od oa ob)) pt fresh r (now (psws .entry)) (now (psws .exit)) (memory (now («register_tags» .entry)) (now («register_words» .entry))) (memory (now («register_tags» .exit)) (now («register_words» .exit))) n n) ⌝ }
+    ensures { λ r. ⌜ ((op : Operation) (row : Row) (v : Environment) (i : Instruction) (constantWords : List ℕ) (n : Memory) (fresh : ℕ) (od oa ob : Operand) → k < 10 → operationNumber op ≡ k → v .psw ≡ psw → psw ≡ getD (now (psws .entry)) pt 0 → Destined row od d → Sourced row (now («register_tags» .entry)) (now («register_words» .entry)) (memory (now («constant_tags» .entry)) constantWords) second oa a x s1 → Sourced row (now («register_tags» .entry)) (now («register_words» .entry)) (memory (now («constant_tags» .entry)) constantWords) third ob b y s2 → Performs row (decideFound op v i (allFoundAt (memory (now («register_tags» .entry)) (now («register_words» .entry))) (memory (now («constant_tags» .entry)) constantWords) (roles Destination Source Source) first second third od oa ob)) pt fresh r (now (psws .entry)) (now (psws .exit)) (memory (now («register_tags» .entry)) (now («register_words» .entry))) (memory (now («register_tags» .exit)) (now («register_words» .exit))) n n) ⌝ }
 {
     if operation_checks::waits_d_s1_s2(first, d, second, x, third, y, register_tags) {
         return Course::Waits;
     }
-    if operation_checks::masked_s1_s2(psw, x, y) {
+    if operation_checks::masked_s1_s2(psw, second, a, x, third, b, y, constant_tags) {
         return Course::DataException;
     }
     let out = result_three(k, s1, s2);
@@ -334,11 +337,12 @@ pub fn three(
     first: u16,
     second: u16,
     third: u16,
-    constants: &[u64],
+    constant_tags: &[u8],
+    constant_words: &[u64],
     register_tags: &mut [u8],
     register_words: &mut [u64],
 ) -> Course
-    ensures { λ r. ⌜ ((op : Operation) (row : Row) (code flag fresh : ℕ) (program : List ℕ) (n : Memory) → k < 10 → operationNumber op ≡ k → Spans row cb base end → psw ≡ getD (now (psws .entry)) pt 0 → Performs row (decideListed (roles Destination Source Source) op (environmentOf row psw flag program (now (constants .entry)) (memory (now («register_tags» .entry)) (now («register_words» .entry))) n) (instruction code first second third)) pt fresh r (now (psws .entry)) (now (psws .exit)) (memory (now («register_tags» .entry)) (now («register_words» .entry))) (memory (now («register_tags» .exit)) (now («register_words» .exit))) n n) ⌝ }
+    ensures { λ r. ⌜ ((op : Operation) (row : Row) (code flag fresh : ℕ) (program : List ℕ) (n : Memory) → k < 10 → operationNumber op ≡ k → Spans row cb base end → psw ≡ getD (now (psws .entry)) pt 0 → Performs row (decideListed (roles Destination Source Source) op (environmentOf row psw flag program (memory (now («constant_tags» .entry)) (now («constant_words» .entry))) (memory (now («register_tags» .entry)) (now («register_words» .entry))) n) (instruction code first second third)) pt fresh r (now (psws .entry)) (now (psws .exit)) (memory (now («register_tags» .entry)) (now («register_words» .entry))) (memory (now («register_tags» .exit)) (now («register_words» .exit))) n n) ⌝ }
 {
     if operation_checks::illegal_d_s1_s2(first, second, third) {
         return Course::IllegalInstruction;
@@ -349,11 +353,11 @@ pub fn three(
     let Lookup::Found(a) = operand::source(cb, base, end, psw, second) else {
         return Course::ProtectionViolation;
     };
-    let x = operand::cell(register_tags, register_words, constants, a);
+    let x = operand::cell(constant_words, register_tags, register_words, a);
     let Lookup::Found(b) = operand::source(cb, base, end, psw, third) else {
         return Course::ProtectionViolation;
     };
-    let y = operand::cell(register_tags, register_words, constants, b);
+    let y = operand::cell(constant_words, register_tags, register_words, b);
     three_found(
         k,
         psws,
@@ -369,6 +373,7 @@ pub fn three(
         operand::number(b),
         y.tag,
         y.word,
+        constant_tags,
         register_tags,
         register_words,
     )

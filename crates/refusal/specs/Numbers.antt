@@ -1,7 +1,7 @@
 -- The numbers of the refusals, in the order of document 01's table.
 use Prim.Native.Nat.{ℕ}
 use Rattle.refusal.specs.declared.Refusal.{Refusal}
-use Rattle.refusal.specs.declared.Refusal.the-variants.{InputEnds, CountOverLimit, TaskField, ProcessField, CellField, BytesLeftOver}
+use Rattle.refusal.specs.declared.Refusal.the-variants.{InputEnds, CountOverLimit, TaskField, ProcessField, ConstantField, CellField, BytesLeftOver}
 use Rattle.refusal.specs.declared.Refusal.the-variants.{WindowPastMemory, ProcessesClash, ShortBuffer, UnsoundState, ListTooLong, ItemOutOfRange, InputTooLong}
 
 unfoldable pub numberOf : Refusal → ℕ
@@ -15,6 +15,8 @@ numberOf CountOverLimit = 2
 numberOf TaskField = 3
 -- of a process, the flag with them
 numberOf ProcessField = 12
+-- the quality of a constant
+numberOf ConstantField = 14
 -- a tag or state
 numberOf CellField = 13
 -- bytes left over

@@ -7,6 +7,7 @@ use mathlib.Core.Option.{some}
 use Prim.Native.Nat.{ℕ, _+_, _-_, _*_, _^_}
 use lib.ListN.{replicate}
 use Rattle.window.specs.declared.Row.{Row}
+use Rattle.window.specs.declared.Cell.{Cell}
 use Rattle.window.specs.Memories.{cell, cellAt}
 use Rattle.window.specs.Windows.{registerWindow}
 use Rattle.operation.specs.Exclusions.{instructionWord}
@@ -84,8 +85,8 @@ creating =
     ++ (instructionWord 0x8701 0 0 0 ∷ replicate 7 0)
 
 -- the constants of both images
-unfoldable pub constants : List ℕ
-constants = 100 ∷ 5 ∷ []
+unfoldable pub constants : List Cell
+constants = cell 0 100 ∷ cell 0 5 ∷ []
 
 unfoldable pub imageA : Image
 imageA = record {

@@ -35,7 +35,7 @@ unfoldable pub machine : (live w s1 s2 : ℕ) → State
 machine live w s1 s2 = record {
   rows = trialRow ∷ [];
   table = record { psw = replicate 64 0; queues = queueOf (upTo live) ∷ replicate 6 (queueOf []); flag = 0 };
-  constants = 77 ∷ [];
+  constants = memory (0 ∷ []) (77 ∷ []);
   registers = memory (replicate 6 0 ++ (5 ∷ 0 ∷ [])) (replicate 6 0 ++ (s2 ∷ s1 ∷ []));
   program = w ∷ replicate 15 0;
   dataWords = memory (replicate 64 1) (replicate 63 0 ++ (99 ∷ []));

@@ -8,6 +8,7 @@ ghost use lib.Count.{trailingZeros};
 ghost use lib.ListN.{length, getD, set, drop};
 ghost use Rattle.operation.specs.Environment.{kindOf};
 ghost use Rattle.operation.specs.declared.Course.the-variants.{Creates};
+ghost use Rattle.window.specs.Memories.{memory};
 ghost use Rattle.step.specs.declared.Ending.the-variants.{Trapped};
 ghost use Rattle.step.specs.Queues.{turned, shifted, joined};
 ghost use Rattle.step.specs.Act.{tableOf};
@@ -285,15 +286,16 @@ fn step_task(
     psws: &mut [u64],
     flag: &mut u8,
     free: &mut u64,
-    constants: &[u64],
+    constant_tags: &[u8],
+    constant_words: &[u64],
     register_tags: &mut [u8],
     register_words: &mut [u64],
     program: &[u64],
     data_tags: &mut [u8],
     data_words: &mut [u64],
 ) -> Ending
-    requires { ⌜ (1 ≤ t) × (t ≤ tasks) × (64 ≤ length (now spans)) × (8 ≤ length (now kinds)) × (8 ≤ length (now stored)) × (ringPlaces ≤ length (now pts)) × (8 ≤ length (now heads)) × (8 ≤ length (now lens)) × Carried (now spans) (now kinds) (now stored) (now pts) (now heads) (now lens) (now psws) (now flag) (now free) (now constants) (now «register_tags») (now «register_words») (now program) (now data_tags) (now data_words) ⌝ }
-    ensures { λ r. ⌜ ((rows : List Row) → Numbers rows (now (spans .entry)) (now (kinds .entry)) (now (stored .entry)) (now (pts .entry)) (now (heads .entry)) (now (lens .entry)) (now (psws .entry)) (now (flag .entry)) (now (free .entry)) (now (constants .entry)) (now («register_tags» .entry)) (now («register_words» .entry)) (now (program .entry)) (now (data_tags .entry)) (now (data_words .entry)) → Steps t r rows (now (spans .entry)) (now (kinds .entry)) (now (stored .entry)) (now (pts .entry)) (now (heads .entry)) (now (lens .entry)) (now (psws .entry)) (now (flag .entry)) (now («register_tags» .entry)) (now («register_words» .entry)) (now (data_tags .entry)) (now (data_words .entry)) (now (kinds .exit)) (now (stored .exit)) (now (pts .exit)) (now (heads .exit)) (now (lens .exit)) (now (psws .exit)) (now (flag .exit)) (now (free .exit)) (now («register_tags» .exit)) (now («register_words» .exit)) (now (data_tags .exit)) (now (data_words .exit)) (now (constants .entry)) (now (program .entry))) ⌝ }
+    requires { ⌜ (1 ≤ t) × (t ≤ tasks) × (64 ≤ length (now spans)) × (8 ≤ length (now kinds)) × (8 ≤ length (now stored)) × (ringPlaces ≤ length (now pts)) × (8 ≤ length (now heads)) × (8 ≤ length (now lens)) × Carried (now spans) (now kinds) (now stored) (now pts) (now heads) (now lens) (now psws) (now flag) (now free) (memory (now «constant_tags») (now «constant_words»)) (now «register_tags») (now «register_words») (now program) (now data_tags) (now data_words) ⌝ }
+    ensures { λ r. ⌜ ((rows : List Row) → Numbers rows (now (spans .entry)) (now (kinds .entry)) (now (stored .entry)) (now (pts .entry)) (now (heads .entry)) (now (lens .entry)) (now (psws .entry)) (now (flag .entry)) (now (free .entry)) (memory (now («constant_tags» .entry)) (now («constant_words» .entry))) (now («register_tags» .entry)) (now («register_words» .entry)) (now (program .entry)) (now (data_tags .entry)) (now (data_words .entry)) → Steps t r rows (now (spans .entry)) (now (kinds .entry)) (now (stored .entry)) (now (pts .entry)) (now (heads .entry)) (now (lens .entry)) (now (psws .entry)) (now (flag .entry)) (now («register_tags» .entry)) (now («register_words» .entry)) (now (data_tags .entry)) (now (data_words .entry)) (now (kinds .exit)) (now (stored .exit)) (now (pts .exit)) (now (heads .exit)) (now (lens .exit)) (now (psws .exit)) (now (flag .exit)) (now (free .exit)) (now («register_tags» .exit)) (now («register_words» .exit)) (now (data_tags .exit)) (now (data_words .exit)) (memory (now («constant_tags» .entry)) (now («constant_words» .entry))) (now (program .entry))) ⌝ }
 {
     if kinds[t] != NO_TRAP {
         return Ending::Idle;
@@ -319,7 +321,8 @@ fn step_task(
         psw,
         *flag,
         fresh,
-        constants,
+        constant_tags,
+        constant_words,
         register_tags,
         register_words,
         program,
@@ -352,15 +355,16 @@ fn run_items(
     flag: u8,
     psws: &mut [u64],
     schedule: &[u8],
-    constants: &[u64],
+    constant_tags: &[u8],
+    constant_words: &[u64],
     register_tags: &mut [u8],
     register_words: &mut [u64],
     program: &[u64],
     data_tags: &mut [u8],
     data_words: &mut [u64],
 ) -> Left
-    requires { ⌜ (every itemSound (now schedule) ≡ true) × (soundIn n (stateIn rows n (tableOf (now psws) queues flag) (now constants) (now «register_tags») (now «register_words») (now program) (now data_tags) (now data_words)) ≡ true) ⌝ }
-    ensures { λ r. ⌜ (record { state = stateIn (r .rows) n (tableOf (now (psws .exit)) (r .queues) (r .flag)) (now (constants .entry)) (now («register_tags» .exit)) (now («register_words» .exit)) (now (program .entry)) (now (data_tags .exit)) (now (data_words .exit)); counts = r .counts } ≡ run (now (schedule .entry)) (stateIn rows n (tableOf (now (psws .entry)) queues flag) (now (constants .entry)) (now («register_tags» .entry)) (now («register_words» .entry)) (now (program .entry)) (now (data_tags .entry)) (now (data_words .entry)))) × (drop n (r .rows) ≡ drop n rows) ⌝ }
+    requires { ⌜ (every itemSound (now schedule) ≡ true) × (soundIn n (stateIn rows n (tableOf (now psws) queues flag) (memory (now «constant_tags») (now «constant_words»)) (now «register_tags») (now «register_words») (now program) (now data_tags) (now data_words)) ≡ true) ⌝ }
+    ensures { λ r. ⌜ (record { state = stateIn (r .rows) n (tableOf (now (psws .exit)) (r .queues) (r .flag)) (memory (now («constant_tags» .entry)) (now («constant_words» .entry))) (now («register_tags» .exit)) (now («register_words» .exit)) (now (program .entry)) (now (data_tags .exit)) (now (data_words .exit)); counts = r .counts } ≡ run (now (schedule .entry)) (stateIn rows n (tableOf (now (psws .entry)) queues flag) (memory (now («constant_tags» .entry)) (now («constant_words» .entry))) (now («register_tags» .entry)) (now («register_words» .entry)) (now (program .entry)) (now (data_tags .entry)) (now (data_words .entry)))) × (drop n (r .rows) ≡ drop n rows) ⌝ }
 {
     let laid = run_rings::rings_of(queues);
     let mut pts = laid.pts;
@@ -387,7 +391,8 @@ fn run_items(
             psws,
             &mut flag,
             &mut free,
-            constants,
+            constant_tags,
+            constant_words,
             register_tags,
             register_words,
             program,
@@ -446,7 +451,8 @@ fn refused(e: Refusal, rows: Rows, table: ProcessTable) -> AfterRun
 fn run_cut(
     rows: Rows,
     table: ProcessTable,
-    constants: &[u64],
+    constant_tags: &[u8],
+    constant_words: &[u64],
     register_tags: &mut [u8],
     register_words: &mut [u64],
     program: &[u64],
@@ -455,8 +461,8 @@ fn run_cut(
     schedule: &[u8],
     n: Sizes,
 ) -> AfterRun
-    requires { ⌜ (stateRefused n (lentBuffers (heldRows rows) table (now constants) (now «register_tags») (now «register_words») (now program) (now data_tags) (now data_words)) ≡ false) × (length (now schedule) ≤ 65535) × (every itemSound (now schedule) ≡ true) ⌝ }
-    ensures { λ r. ⌜ RunPromise n (lentBuffers (heldRows rows) table (now (constants .entry)) (now («register_tags» .entry)) (now («register_words» .entry)) (now (program .entry)) (now (data_tags .entry)) (now (data_words .entry))) (now (schedule .entry)) (r .answer) (lentBuffers (heldRows (r .rows)) (r .table) (now (constants .entry)) (now («register_tags» .exit)) (now («register_words» .exit)) (now (program .entry)) (now (data_tags .exit)) (now (data_words .exit))) × SamePlaces rows (r .rows) ⌝ }
+    requires { ⌜ (stateRefused n (lentBuffers (heldRows rows) table (now «constant_tags») (now «constant_words») (now «register_tags») (now «register_words») (now program) (now data_tags) (now data_words)) ≡ false) × (length (now schedule) ≤ 65535) × (every itemSound (now schedule) ≡ true) ⌝ }
+    ensures { λ r. ⌜ RunPromise n (lentBuffers (heldRows rows) table (now («constant_tags» .entry)) (now («constant_words» .entry)) (now («register_tags» .entry)) (now («register_words» .entry)) (now (program .entry)) (now (data_tags .entry)) (now (data_words .entry))) (now (schedule .entry)) (r .answer) (lentBuffers (heldRows (r .rows)) (r .table) (now («constant_tags» .entry)) (now («constant_words» .entry)) (now («register_tags» .exit)) (now («register_words» .exit)) (now (program .entry)) (now (data_tags .exit)) (now (data_words .exit))) × SamePlaces rows (r .rows) ⌝ }
 {
     let at = rows.at;
     let mut psw = table.psw;
@@ -472,7 +478,8 @@ fn run_cut(
         table.flag,
         &mut psw,
         schedule,
-        &constants[..constant_count],
+        &constant_tags[..constant_count],
+        &constant_words[..constant_count],
         &mut register_tags[..register_count],
         &mut register_words[..register_count],
         &program[..program_count],
@@ -497,7 +504,8 @@ fn run_cut(
 pub fn run(
     rows: Rows,
     table: ProcessTable,
-    constants: &[u64],
+    constant_tags: &[u8],
+    constant_words: &[u64],
     register_tags: &mut [u8],
     register_words: &mut [u64],
     program: &[u64],
@@ -506,12 +514,13 @@ pub fn run(
     schedule: &[u8],
     n: Sizes,
 ) -> AfterRun
-    ensures { λ r. ⌜ RunPromise n (lentBuffers (heldRows rows) table (now (constants .entry)) (now («register_tags» .entry)) (now («register_words» .entry)) (now (program .entry)) (now (data_tags .entry)) (now (data_words .entry))) (now (schedule .entry)) (r .answer) (lentBuffers (heldRows (r .rows)) (r .table) (now (constants .entry)) (now («register_tags» .exit)) (now («register_words» .exit)) (now (program .entry)) (now (data_tags .exit)) (now (data_words .exit))) × SamePlaces rows (r .rows) ⌝ }
+    ensures { λ r. ⌜ RunPromise n (lentBuffers (heldRows rows) table (now («constant_tags» .entry)) (now («constant_words» .entry)) (now («register_tags» .entry)) (now («register_words» .entry)) (now (program .entry)) (now (data_tags .entry)) (now (data_words .entry))) (now (schedule .entry)) (r .answer) (lentBuffers (heldRows (r .rows)) (r .table) (now («constant_tags» .entry)) (now («constant_words» .entry)) (now («register_tags» .exit)) (now («register_words» .exit)) (now (program .entry)) (now (data_tags .exit)) (now (data_words .exit))) × SamePlaces rows (r .rows) ⌝ }
 {
     if library_state::refused(
         rows,
         table,
-        constants,
+        constant_tags,
+        constant_words,
         register_tags,
         register_words,
         program,
@@ -530,7 +539,8 @@ pub fn run(
     run_cut(
         rows,
         table,
-        constants,
+        constant_tags,
+        constant_words,
         register_tags,
         register_words,
         program,

@@ -22,7 +22,7 @@ unfoldable pub trialState : (flag : ℕ) → (program : List ℕ) → State
 trialState flag program = record {
   rows = exclusionRow ∷ [];
   table = record { psw = replicate 64 0; queues = trialQueue (3 ∷ 5 ∷ []) 2 ∷ replicate 6 (trialQueue (0 ∷ 0 ∷ []) 0); flag = flag };
-  constants = [];
+  constants = memory [] [];
   registers = memory (replicate 8 0) (replicate 7 0 ++ (0xF8 ∷ []));
   program = program ++ replicate 14 0;
   dataWords = memory (replicate 64 0) (replicate 64 9);

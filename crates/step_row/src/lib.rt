@@ -106,14 +106,15 @@ fn perform_head(
     fresh: u8,
     flag: u8,
     psws: &mut [u64],
-    constants: &[u64],
+    constant_tags: &[u8],
+    constant_words: &[u64],
     register_tags: &mut [u8],
     register_words: &mut [u64],
     program: &[u64],
     data_tags: &mut [u8],
     data_words: &mut [u64],
 ) -> Course
-    ensures { λ r. ⌜ (Narrow row → Performs row (decide (environmentOf row (getD (now (psws .entry)) pt 0) flag (now (program .entry)) (now (constants .entry)) (memory (now («register_tags» .entry)) (now («register_words» .entry))) (memory (now (data_tags .entry)) (now (data_words .entry))))) pt fresh r (now (psws .entry)) (now (psws .exit)) (memory (now («register_tags» .entry)) (now («register_words» .entry))) (memory (now («register_tags» .exit)) (now («register_words» .exit))) (memory (now (data_tags .entry)) (now (data_words .entry))) (memory (now (data_tags .exit)) (now (data_words .exit)))) ⌝ }
+    ensures { λ r. ⌜ (Narrow row → Performs row (decide (environmentOf row (getD (now (psws .entry)) pt 0) flag (now (program .entry)) (memory (now («constant_tags» .entry)) (now («constant_words» .entry))) (memory (now («register_tags» .entry)) (now («register_words» .entry))) (memory (now (data_tags .entry)) (now (data_words .entry))))) pt fresh r (now (psws .entry)) (now (psws .exit)) (memory (now («register_tags» .entry)) (now («register_words» .entry))) (memory (now («register_tags» .exit)) (now («register_words» .exit))) (memory (now (data_tags .entry)) (now (data_words .entry))) (memory (now (data_tags .exit)) (now (data_words .exit)))) ⌝ }
 {
     let w = run_rings::span(row);
     let psw = window::word_at(psws, pt as usize);
@@ -130,7 +131,8 @@ fn perform_head(
         psw,
         flag,
         fresh as usize,
-        constants,
+        constant_tags,
+        constant_words,
         register_tags,
         register_words,
         program,
@@ -211,7 +213,8 @@ fn step_of(
     task: u8,
     row: Row,
     table: ProcessTable,
-    constants: &[u64],
+    constant_tags: &[u8],
+    constant_words: &[u64],
     register_tags: &mut [u8],
     register_words: &mut [u64],
     program: &[u64],
@@ -219,7 +222,7 @@ fn step_of(
     data_words: &mut [u64],
 ) -> SteppedRow
     requires { ⌜ (1 ≤ task) × (task ≤ tasks) ⌝ }
-    ensures { λ r. ⌜ ((rows : List Row) → StepsRow task row r (state rows table (now (constants .entry)) (memory (now («register_tags» .entry)) (now («register_words» .entry))) (now (program .entry)) (memory (now (data_tags .entry)) (now (data_words .entry)))) (memory (now («register_tags» .exit)) (now («register_words» .exit))) (memory (now (data_tags .exit)) (now (data_words .exit)))) ⌝ }
+    ensures { λ r. ⌜ ((rows : List Row) → StepsRow task row r (state rows table (memory (now («constant_tags» .entry)) (now («constant_words» .entry))) (memory (now («register_tags» .entry)) (now («register_words» .entry))) (now (program .entry)) (memory (now (data_tags .entry)) (now (data_words .entry)))) (memory (now («register_tags» .exit)) (now («register_words» .exit))) (memory (now (data_tags .exit)) (now (data_words .exit)))) ⌝ }
 {
     let mut psw = table.psw;
     let mut queues = table.queues;
@@ -240,7 +243,8 @@ fn step_of(
         fresh,
         table.flag,
         &mut psw,
-        constants,
+        constant_tags,
+        constant_words,
         register_tags,
         register_words,
         program,
@@ -278,7 +282,8 @@ pub fn step(
     rows: Rows,
     row: Row,
     table: ProcessTable,
-    constants: &[u64],
+    constant_tags: &[u8],
+    constant_words: &[u64],
     register_tags: &mut [u8],
     register_words: &mut [u64],
     program: &[u64],
@@ -287,12 +292,13 @@ pub fn step(
     n: Sizes,
     task: u8,
 ) -> AfterStep
-    ensures { λ r. ⌜ ((i : ℕ) → StandsAt task (n .rows) (heldRows rows) i row → StepPromise n (lentBuffers (heldRows rows) table (now (constants .entry)) (now («register_tags» .entry)) (now («register_words» .entry)) (now (program .entry)) (now (data_tags .entry)) (now (data_words .entry))) task (r .answer) (lentBuffers (set (heldRows rows) i (r .row)) (r .table) (now (constants .entry)) (now («register_tags» .exit)) (now («register_words» .exit)) (now (program .entry)) (now (data_tags .exit)) (now (data_words .exit)))) × (hasRow task (take (n .rows) (heldRows rows)) ≡ false → r .row ≡ row) ⌝ }
+    ensures { λ r. ⌜ ((i : ℕ) → StandsAt task (n .rows) (heldRows rows) i row → StepPromise n (lentBuffers (heldRows rows) table (now («constant_tags» .entry)) (now («constant_words» .entry)) (now («register_tags» .entry)) (now («register_words» .entry)) (now (program .entry)) (now (data_tags .entry)) (now (data_words .entry))) task (r .answer) (lentBuffers (set (heldRows rows) i (r .row)) (r .table) (now («constant_tags» .entry)) (now («constant_words» .entry)) (now («register_tags» .exit)) (now («register_words» .exit)) (now (program .entry)) (now (data_tags .exit)) (now (data_words .exit)))) × (hasRow task (take (n .rows) (heldRows rows)) ≡ false → r .row ≡ row) ⌝ }
 {
     if library_state::refused(
         rows,
         table,
-        constants,
+        constant_tags,
+        constant_words,
         register_tags,
         register_words,
         program,
@@ -313,7 +319,8 @@ pub fn step(
         task,
         row,
         table,
-        &constants[..constant_count],
+        &constant_tags[..constant_count],
+        &constant_words[..constant_count],
         &mut register_tags[..register_count],
         &mut register_words[..register_count],
         &program[..program_count],

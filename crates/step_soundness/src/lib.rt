@@ -13,11 +13,14 @@ ghost use Rattle.step.specs.Soundness.{basesSound, rowSound, rowsSound, hasRow,
 ghost use Rattle.image_bytes.specs.Code.Scanning.{tagTest};
 ghost use Rattle.step_soundness.specs.Code.Held.{stateIn, soundIn, queueSound};
 ghost use Rattle.step_soundness.specs.Code.Seen.{seenAfter};
+use image_bytes::CellKind;
 use step::PLACES;
 use step::PTS;
 use step::ProcessTable;
 use step::Queue;
 use window::MOST_CONSTANTS;
+use window::MOST_DATA;
+use window::MOST_PROGRAM;
 use window::MOST_REGISTERS;
 use window::Row;
 use window::TASKS;
@@ -248,8 +251,8 @@ fn table_sound(rows: [Row; TASKS], n: usize, table: ProcessTable) -> bool
 // ---- the memories
 
 // At most `most` tags and words, of one length. A word of 64 bits is any u64.
-fn memory_sound(register: bool, tags: &[u8], words: &[u64], most: usize) -> bool
-    ensures { λ r. ⌜ r ≡ memorySound most (tagTest register) (memory (now (tags .entry)) (now (words .entry))) ⌝ }
+fn memory_sound(kind: CellKind, tags: &[u8], words: &[u64], most: usize) -> bool
+    ensures { λ r. ⌜ r ≡ memorySound most (tagTest kind) (memory (now (tags .entry)) (now (words .entry))) ⌝ }
 {
     if tags.len() != words.len() {
         return false;
@@ -257,30 +260,41 @@ fn memory_sound(register: bool, tags: &[u8], words: &[u64], most: usize) -> bool
     if most < words.len() {
         return false;
     }
-    image_bytes::tags_ok(register, tags)
+    image_bytes::tags_ok(kind, tags)
 }
 
 // Whatever else the state holds.
 fn memories_sound(
-    constants: &[u64],
+    constant_tags: &[u8],
+    constant_words: &[u64],
     register_tags: &[u8],
     register_words: &[u64],
     program: &[u64],
     data_tags: &[u8],
     data_words: &[u64],
 ) -> bool
-    ensures { λ r. ⌜ ((all : List Row) (k : ℕ) (t : ProcessTable) → r ≡ memoriesSound (stateIn all k t (now (constants .entry)) (now («register_tags» .entry)) (now («register_words» .entry)) (now (program .entry)) (now (data_tags .entry)) (now (data_words .entry)))) ⌝ }
+    ensures { λ r. ⌜ ((all : List Row) (k : ℕ) (t : ProcessTable) → r ≡ memoriesSound (stateIn all k t (memory (now («constant_tags» .entry)) (now («constant_words» .entry))) (now («register_tags» .entry)) (now («register_words» .entry)) (now (program .entry)) (now (data_tags .entry)) (now (data_words .entry)))) ⌝ }
 {
-    if MOST_CONSTANTS < constants.len() {
+    if !memory_sound(
+        CellKind::Constant,
+        constant_tags,
+        constant_words,
+        MOST_CONSTANTS,
+    ) {
         return false;
     }
-    if !memory_sound(true, register_tags, register_words, MOST_REGISTERS) {
+    if !memory_sound(
+        CellKind::Register,
+        register_tags,
+        register_words,
+        MOST_REGISTERS,
+    ) {
         return false;
     }
-    if 0x10_0000 < program.len() {
+    if MOST_PROGRAM < program.len() {
         return false;
     }
-    memory_sound(false, data_tags, data_words, 0x10_0000)
+    memory_sound(CellKind::Data, data_tags, data_words, MOST_DATA)
 }
 
 // ---- the state
@@ -290,14 +304,15 @@ pub fn sound(
     rows: [Row; TASKS],
     n: usize,
     table: ProcessTable,
-    constants: &[u64],
+    constant_tags: &[u8],
+    constant_words: &[u64],
     register_tags: &[u8],
     register_words: &[u64],
     program: &[u64],
     data_tags: &[u8],
     data_words: &[u64],
 ) -> bool
-    ensures { λ r. ⌜ r ≡ soundIn n (stateIn rows n table (now (constants .entry)) (now («register_tags» .entry)) (now («register_words» .entry)) (now (program .entry)) (now (data_tags .entry)) (now (data_words .entry))) ⌝ }
+    ensures { λ r. ⌜ r ≡ soundIn n (stateIn rows n table (memory (now («constant_tags» .entry)) (now («constant_words» .entry))) (now («register_tags» .entry)) (now («register_words» .entry)) (now (program .entry)) (now (data_tags .entry)) (now (data_words .entry))) ⌝ }
 {
     if TASKS < n {
         return false;
@@ -309,7 +324,8 @@ pub fn sound(
         return false;
     }
     if !memories_sound(
-        constants,
+        constant_tags,
+        constant_words,
         register_tags,
         register_words,
         program,

@@ -23,7 +23,7 @@ const MARK: u8 = 0xEE;
 
 const WORD_MARK: u64 = 0xEE;
 
-// ---- the state: 3 constants, 8 registers, 16 program words, 32 data words; an image of 575 bytes
+// ---- the state: 3 constants, 8 registers, 16 program words, 32 data words; an image of 578 bytes
 
 // The windows of its one row end with the memories.
 fn trial_row() -> Row {
@@ -178,12 +178,14 @@ fn write_to(
     row: Row,
     n: usize,
     table: ProcessTable,
+    qualities: &[u8],
     tags: &[u8],
     data_tags: &[u8],
 ) {
     let written = hep::write_owned(
         rows_from(row),
         table,
+        qualities,
         &[5; 3],
         tags,
         &[6; 8],
@@ -205,85 +207,107 @@ fn write_to(
     print(b"\n");
 }
 
-// The state with this row, table and register tags, to a buffer as long as its image.
-fn write_state(row: Row, n: usize, table: ProcessTable, tags: &[u8], data_tags: &[u8]) {
-    let mut out = [MARK; 575];
-    write_to(&mut out, row, n, table, tags, data_tags);
+// The state with this row, table and tags, to a buffer as long as its image.
+fn write_state(
+    row: Row,
+    n: usize,
+    table: ProcessTable,
+    qualities: &[u8],
+    tags: &[u8],
+    data_tags: &[u8],
+) {
+    let mut out = [MARK; 578];
+    write_to(&mut out, row, n, table, qualities, tags, data_tags);
 }
 
 fn write_row(row: Row, n: usize) {
-    write_state(row, n, trial_table(), &[1; 8], &[1; 32]);
+    write_state(row, n, trial_table(), &[2; 3], &[1; 8], &[1; 32]);
 }
 
 fn write_table(table: ProcessTable) {
-    write_state(trial_row(), 1, table, &[1; 8], &[1; 32]);
+    write_state(trial_row(), 1, table, &[2; 3], &[1; 8], &[1; 32]);
 }
 
 // Likewise, to a buffer as long as an image with 64 processes.
 fn write_full(len: usize, flag: u8) {
-    let mut out = [MARK; 1195];
+    let mut out = [MARK; 1198];
     write_to(
         &mut out,
         trial_row(),
         1,
         table_full(len, flag),
+        &[2; 3],
         &[1; 8],
         &[1; 32],
     );
+}
+
+fn write_quality(quality: u8) {
+    let mut qualities = [2; 3];
+    qualities[2] = quality;
+    write_state(trial_row(), 1, trial_table(), &qualities, &[1; 8], &[1; 32]);
 }
 
 fn write_tag(tag: u8) {
     let mut tags = [1; 8];
     tags[7] = tag;
-    write_state(trial_row(), 1, trial_table(), &tags, &[1; 32]);
+    write_state(trial_row(), 1, trial_table(), &[2; 3], &tags, &[1; 32]);
 }
 
 fn write_data_tag(tag: u8) {
     let mut data_tags = [1; 32];
     data_tags[31] = tag;
-    write_state(trial_row(), 1, trial_table(), &[1; 8], &data_tags);
+    write_state(trial_row(), 1, trial_table(), &[2; 3], &[1; 8], &data_tags);
 }
 
 fn write_bounds() {
-    print(b"write to 575 bytes: ");
+    print(b"write to 578 bytes: ");
     write_to(
-        &mut [MARK; 575],
+        &mut [MARK; 578],
         trial_row(),
         1,
         trial_table(),
+        &[2; 3],
         &[1; 8],
         &[1; 32],
     );
-    print(b"write to 574 bytes: ");
+    print(b"write to 577 bytes: ");
     write_to(
-        &mut [MARK; 574],
+        &mut [MARK; 577],
         trial_row(),
         1,
         trial_table(),
+        &[2; 3],
         &[1; 8],
         &[1; 32],
     );
-    print(b"write to 576 bytes: ");
+    print(b"write to 579 bytes: ");
     write_to(
-        &mut [MARK; 576],
+        &mut [MARK; 579],
         trial_row(),
         1,
         trial_table(),
+        &[2; 3],
         &[1; 8],
         &[1; 32],
     );
-    print(b"unsound, to 574 bytes: ");
+    print(b"unsound, to 577 bytes: ");
     write_to(
-        &mut [MARK; 574],
+        &mut [MARK; 577],
         trial_row(),
         1,
         trial_table(),
+        &[2; 3],
         &[7; 8],
         &[1; 32],
     );
 }
 
 fn write_memories() {
+    print(b"constant quality 6: ");
+    write_quality(6);
+    print(b"constant quality 7: ");
+    write_quality(7);
     print(b"register tag 6: ");
     write_tag(6);
     print(b"register tag 7: ");
@@ -294,10 +318,12 @@ fn write_memories() {
     write_tag(15);
     print(b"data state 2: ");
     write_data_tag(2);
+    print(b"2 constant qualities of 3: ");
+    write_state(trial_row(), 1, trial_table(), &[2; 2], &[1; 8], &[1; 32]);
     print(b"7 register tags of 8: ");
-    write_state(trial_row(), 1, trial_table(), &[1; 7], &[1; 32]);
+    write_state(trial_row(), 1, trial_table(), &[2; 3], &[1; 7], &[1; 32]);
     print(b"31 data states of 32: ");
-    write_state(trial_row(), 1, trial_table(), &[1; 8], &[1; 31]);
+    write_state(trial_row(), 1, trial_table(), &[2; 3], &[1; 8], &[1; 31]);
 }
 
 fn write_rows() {
@@ -369,6 +395,7 @@ fn write_tables() {
 
 fn read_into(
     image: &[u8],
+    qualities: &mut [u8],
     constants: &mut [u64],
     tags: &mut [u8],
     words: &mut [u64],
@@ -379,6 +406,7 @@ fn read_into(
     let x = hep::read_owned(
         hep::no_rows(),
         hep::no_processes(),
+        qualities,
         constants,
         tags,
         words,
@@ -397,6 +425,7 @@ fn read_into(
         }
     }
     print(b", kept");
+    print_kept(marked(qualities));
     print_kept(marked_words(constants));
     print_kept(marked(tags));
     print_kept(marked_words(words));
@@ -415,6 +444,7 @@ fn least(n: usize, most: usize) -> usize
 // Reads into buffers of so many places, of which there is one more than the image needs.
 fn read_trial(
     image: &[u8],
+    qualities_room: usize,
     constants_room: usize,
     tags_room: usize,
     words_room: usize,
@@ -422,12 +452,14 @@ fn read_trial(
     data_tags_room: usize,
     data_words_room: usize,
 ) {
+    let mut qualities = [MARK; 4];
     let mut constants = [WORD_MARK; 4];
     let mut tags = [MARK; 9];
     let mut words = [WORD_MARK; 9];
     let mut program = [WORD_MARK; 17];
     let mut data_tags = [MARK; 33];
     let mut data_words = [WORD_MARK; 33];
+    let qualities_room = least(qualities_room, 4);
     let constants_room = least(constants_room, 4);
     let tags_room = least(tags_room, 9);
     let words_room = least(words_room, 9);
@@ -436,6 +468,7 @@ fn read_trial(
     let data_words_room = least(data_words_room, 33);
     read_into(
         image,
+        &mut qualities[..qualities_room],
         &mut constants[..constants_room],
         &mut tags[..tags_room],
         &mut words[..words_room],
@@ -447,28 +480,31 @@ fn read_trial(
 
 fn read_trials(image: &[u8]) {
     print(b"read: ");
-    read_trial(image, 3, 8, 8, 16, 32, 32);
+    read_trial(image, 3, 3, 8, 8, 16, 32, 32);
     print(b"read, all one longer: ");
-    read_trial(image, 4, 9, 9, 17, 33, 33);
+    read_trial(image, 4, 4, 9, 9, 17, 33, 33);
+    print(b"read, qualities short: ");
+    read_trial(image, 2, 3, 8, 8, 16, 32, 32);
     print(b"read, constants short: ");
-    read_trial(image, 2, 8, 8, 16, 32, 32);
+    read_trial(image, 3, 2, 8, 8, 16, 32, 32);
     print(b"read, tags short: ");
-    read_trial(image, 3, 7, 8, 16, 32, 32);
+    read_trial(image, 3, 3, 7, 8, 16, 32, 32);
     print(b"read, words short: ");
-    read_trial(image, 3, 8, 7, 16, 32, 32);
+    read_trial(image, 3, 3, 8, 7, 16, 32, 32);
     print(b"read, program short: ");
-    read_trial(image, 3, 8, 8, 15, 32, 32);
+    read_trial(image, 3, 3, 8, 8, 15, 32, 32);
     print(b"read, data states short: ");
-    read_trial(image, 3, 8, 8, 16, 31, 32);
+    read_trial(image, 3, 3, 8, 8, 16, 31, 32);
     print(b"read, data words short: ");
-    read_trial(image, 3, 8, 8, 16, 32, 31);
+    read_trial(image, 3, 3, 8, 8, 16, 32, 31);
 }
 
 fn read_state() {
-    let mut image = [0; 575];
+    let mut image = [0; 578];
     hep::write_owned(
         rows_from(trial_row()),
         trial_table(),
+        &[2; 3],
         &[5; 3],
         &[1; 8],
         &[6; 8],
@@ -499,6 +535,7 @@ fn run_over(schedule: &[u8], tags: &mut [u8]) {
     let x = hep::run_owned(
         rows_from(trial_row()),
         trial_table(),
+        &[2; 3],
         &[5; 3],
         tags,
         &mut [6; 8],
@@ -559,6 +596,7 @@ fn step_of(task: u8, tags: &mut [u8]) {
     let x = hep::step_owned(
         rows_from(trial_row()),
         trial_table(),
+        &[2; 3],
         &[5; 3],
         tags,
         &mut [6; 8],

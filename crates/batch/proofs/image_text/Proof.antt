@@ -35,6 +35,9 @@ slice-aggregate-read-owned-5 c = search needs
 slice-aggregate-read-owned-6 : tie.Need-slice-aggregate-read-owned-6
 slice-aggregate-read-owned-6 c = search needs
 
+slice-aggregate-read-owned-7 : tie.Need-slice-aggregate-read-owned-7
+slice-aggregate-read-owned-7 c = search needs
+
 read-owned-requires : tie.Need-read-owned-requires
 read-owned-requires c κs = search needs
 
@@ -65,20 +68,19 @@ slice-aggregate-run-text-5 c = search needs
 slice-aggregate-run-text-6 : tie.Need-slice-aggregate-run-text-6
 slice-aggregate-run-text-6 c = search needs
 
+slice-aggregate-run-text-7 : tie.Need-slice-aggregate-run-text-7
+slice-aggregate-run-text-7 c = search needs
+
 run-text-requires : tie.Need-run-text-requires
 run-text-requires c κs = search needs
 
 returns : tie.Need-returns
 unfolding noRows
-returns c =
-    let k = length-replicate {A = ℕ} 8192 0 in
-    c .refusal-text .ensures ∙ read-refused _ (c .before .before .before .before .before .before .before .before .before .before .before .before .before .before .before .before .before .before .before .before .before .before .before .pre) _ _ (record { rows = ap length (c .before .before .before .before .before .before .before .before .before .before .before .before .before .before .before .before .before .before .before .before .no-rows .ensures); constants = k; registerTags = k; registerWords = k; program = k; dataTags = k; dataWords = k }) _ (c .before .before .before .before .before .before .before .before .before .before .before .before .read-owned .ensures .0) _ _ (c .before .before .answer .given .1)
+returns c = let k = length-replicate {A = ℕ} 8192 0 in c .refusal-text .ensures ∙ read-refused _ (c .before .before .before .before .before .before .before .before .before .before .before .before .before .before .before .before .before .before .before .before .before .before .before .before .before .pre) _ _ (record { rows = ap length (c .before .before .before .before .before .before .before .before .before .before .before .before .before .before .before .before .before .before .before .before .before .before .no-rows .ensures); constantTags = k; constantWords = k; registerTags = k; registerWords = k; program = k; dataTags = k; dataWords = k }) _ (c .before .before .before .before .before .before .before .before .before .before .before .before .before .read-owned .ensures .0) _ _ (c .before .before .answer .given .1)
 
 returns-2 : tie.Need-returns-2
 unfolding noRows
-returns-2 c =
-    let k = length-replicate {A = ℕ} 8192 0 in
-    c .before .before .before .before .run-text .ensures ∙ read-text _ (c .before .before .before .before .before .before .before .before .before .before .before .before .before .before .before .before .before .before .before .before .before .before .before .before .before .before .before .before .before .before .before .before .before .pre) _ _ (record { rows = ap length (c .before .before .before .before .before .before .before .before .before .before .before .before .before .before .before .before .before .before .before .before .before .before .before .before .before .before .before .before .before .before .no-rows .ensures); constants = k; registerTags = k; registerWords = k; program = k; dataTags = k; dataWords = k }) _ (c .before .before .before .before .before .before .before .before .before .before .before .before .before .before .before .before .before .before .before .before .before .before .read-owned .ensures .0) _ _ (all-bytes _ (λ i. omega (arith, c .before .before .before .before .before .before .before .before .before .before .before .before .before .before .before .before .before .before .before .before .before .before .before .before .before .before .before .before .before .before .before .shared-slice-known2 .given i))) (c .before .before .before .before .before .before .before .before .before .before .before .before .answer2 .given .1)
+returns-2 c = let k = length-replicate {A = ℕ} 8192 0 in c .before .before .before .before .run-text .ensures ∙ read-text _ (c .before .before .before .before .before .before .before .before .before .before .before .before .before .before .before .before .before .before .before .before .before .before .before .before .before .before .before .before .before .before .before .before .before .before .before .before .pre) _ _ (record { rows = ap length (c .before .before .before .before .before .before .before .before .before .before .before .before .before .before .before .before .before .before .before .before .before .before .before .before .before .before .before .before .before .before .before .before .before .no-rows .ensures); constantTags = k; constantWords = k; registerTags = k; registerWords = k; program = k; dataTags = k; dataWords = k }) _ (c .before .before .before .before .before .before .before .before .before .before .before .before .before .before .before .before .before .before .before .before .before .before .before .before .read-owned .ensures .0) _ _ (all-bytes _ (λ i. omega (arith, c .before .before .before .before .before .before .before .before .before .before .before .before .before .before .before .before .before .before .before .before .before .before .before .before .before .before .before .before .before .before .before .before .before .before .shared-slice-known2 .given i))) (c .before .before .before .before .before .before .before .before .before .before .before .before .before .answer2 .given .1)
 
 pub image-text-spec : {M : Type 1} → statement M
 image-text-spec =
@@ -92,6 +94,7 @@ image-text-spec =
     slice-aggregate-read-owned-4
     slice-aggregate-read-owned-5
     slice-aggregate-read-owned-6
+    slice-aggregate-read-owned-7
     read-owned-requires
     enum-known-answer
     refusal-text-requires
@@ -102,6 +105,7 @@ image-text-spec =
     slice-aggregate-run-text-4
     slice-aggregate-run-text-5
     slice-aggregate-run-text-6
+    slice-aggregate-run-text-7
     run-text-requires
     returns
     returns-2)

@@ -30,10 +30,11 @@ use Rattle.report.specs.Report.{refusalLine, outputRun, outputRead}
 use Rattle.batch.specs.Output.{runText}
 use Rattle.batch.specs.Laws.Room.{room-kept}
 
--- seven rows, and six buffers of 8,192 places
+-- seven rows, and seven buffers of 8,192 places
 pub record Roomy (b : Buffers) : Type 0 where
   pub rows : length (b .rows) ≡ 7
-  pub constants : length (b .constants) ≡ 8192
+  pub constantTags : length (b .constantTags) ≡ 8192
+  pub constantWords : length (b .constantWords) ≡ 8192
   pub registerTags : length (b .registerTags) ≡ 8192
   pub registerWords : length (b .registerWords) ≡ 8192
   pub program : length (b .program) ≡ 8192
@@ -46,11 +47,12 @@ unfolding fits roomOf endPlace dataPlace programPlace registersPlace constantsPl
 few-fit z s b f h r =
     let e = f .ends in
     also (le-leb (z .rows) _ (omega (arith, found-few z s f .0, r .rows)))
-    (also (le-leb (z .constants) _ (omega (arith, e, r .constants)))
+    (also (le-leb (z .constants) _ (omega (arith, e, r .constantTags)))
+    (also (le-leb (z .constants) _ (omega (arith, e, r .constantWords)))
     (also (le-leb (z .registers) _ (omega (arith, e, r .registerTags)))
     (also (le-leb (z .registers) _ (omega (arith, e, r .registerWords)))
     (also (le-leb (z .program) _ (omega (arith, e, r .program)))
-    (also (le-leb (z .data_words) _ (omega (arith, e, r .dataTags))) (le-leb (z .data_words) _ (omega (arith, e, r .dataWords))))))))
+    (also (le-leb (z .data_words) _ (omega (arith, e, r .dataTags))) (le-leb (z .data_words) _ (omega (arith, e, r .dataWords)))))))))
 
 text-of-image : (l : List ℕ) (x : Option Refusal) (i : Image) → runText x (run l (stateOf i)) ≡ outputRun x l i
 unfolding runText outputRun

@@ -22,7 +22,8 @@ room-kept n s b z e =
     let f = fitting n (roomOf b) e in
     rw (
       over-length (n .rows) (s .rows) (b .rows) (z .rows) (f .rows),
-      over-length (n .constants) (s .constants) (b .constants) (z .constants) (f .constants),
+      over-length (n .constants) (s .constants .tags) (b .constantTags) (z .constantTags) (f .constantTags),
+      over-length (n .constants) (s .constants .words) (b .constantWords) (z .constantWords) (f .constantWords),
       over-length (n .registers) (s .registers .tags) (b .registerTags) (z .registerTags) (f .registerTags),
       over-length (n .registers) (s .registers .words) (b .registerWords) (z .registerWords) (f .registerWords),
       over-length (n .program) (s .program) (b .program) (z .program) (f .program),

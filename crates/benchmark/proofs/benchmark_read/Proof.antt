@@ -40,14 +40,11 @@ same-length-5 c = search needs
 same-length-6 : tie.Need-same-length-6
 same-length-6 c = search needs
 
+same-length-7 : tie.Need-same-length-7
+same-length-7 c = search needs
+
 returns : tie.Need-returns
-returns c =
-    let a = c .before .before .before .before .before .before .before .before .before .before .before .before .before .before .before .before .before .before .before .before .before .before .before .before .before .before .before .before .before .args in
-    let o = own (a .constants .now) (a .register-tags .now) (a .register-words .now) (a .program .now) (a .data-tags .now) (a .data-words .now) (c .before .before .before .before .before .before .before .before .before .before .before .before .before .before .before .before .before .before .before .before .before .no-rows .ensures) (c .before .before .before .before .before .before .before .before .before .before .before .before .before .before .before .before .before .before .before .before .no-processes .ensures) in
-    let p = c .before .before .before .before .before .before .before .before .before .before .before .before .before .read .ensures .0 in (
-      c .is-read .ensures ∙ ap isRead (p .answer ∙ ap (λ (b : Buffers). readAnswered (readAnswer (roomOf b) (a .image .now))) o),
-      beside _ _ _ _ _ _ (p .leaves ∙ ap (λ (b : Buffers). readLeaves b (a .image .now)) o),
-    )
+returns c = let a = c .before .before .before .before .before .before .before .before .before .before .before .before .before .before .before .before .before .before .before .before .before .before .before .before .before .before .before .before .before .before .before .before .before .args in let o = own (a .constant-tags .now) (a .constant-words .now) (a .register-tags .now) (a .register-words .now) (a .program .now) (a .data-tags .now) (a .data-words .now) (c .before .before .before .before .before .before .before .before .before .before .before .before .before .before .before .before .before .before .before .before .before .before .before .before .no-rows .ensures) (c .before .before .before .before .before .before .before .before .before .before .before .before .before .before .before .before .before .before .before .before .before .before .before .no-processes .ensures) in let p = c .before .before .before .before .before .before .before .before .before .before .before .before .before .before .before .read .ensures .0 in (c .is-read .ensures ∙ ap isRead (p .answer ∙ ap (λ (b : Buffers). readAnswered (readAnswer (roomOf b) (a .image .now))) o), beside _ _ _ _ _ _ _ (p .leaves ∙ ap (λ (b : Buffers). readLeaves b (a .image .now)) o))
 
 pub benchmark-read-spec : {M : Type 1} → statement M
 benchmark-read-spec =
@@ -63,4 +60,5 @@ benchmark-read-spec =
     same-length-4
     same-length-5
     same-length-6
+    same-length-7
     returns)

@@ -29,14 +29,7 @@ same-length c = search needs
 
 returns : tie.Need-returns
 unfolding memorySizes
-returns c =
-    let a = c .before .before .before .before .before .before .before .before .before .before .before .before .before .before .args in
-    let o = own (a .constants .now) (a .register-tags .now) (a .register-words .now) (a .program .now) (a .data-tags .now) (a .data-words .now) (c .before .before .before .before .before .before .no-rows .ensures) (c .before .before .before .before .before .no-processes .ensures) in
-    let n = memorySizes (length (a .constants .now)) (length (a .register-words .now)) (length (a .program .now)) (length (a .data-words .now)) in
-    let p = c .before .before .before .write .ensures in (
-      c .length-written .ensures ∙ ap lengthWritten (p .answer ∙ ap (λ (b : Buffers). writeAnswered (writeAnswer n b (length (a .output .now)))) o),
-      p .leaves ∙ ap (λ (b : Buffers). writeLeaves n b (a .output .now)) o,
-    )
+returns c = let a = c .before .before .before .before .before .before .before .before .before .before .before .before .before .before .before .args in let o = own (a .constant-tags .now) (a .constant-words .now) (a .register-tags .now) (a .register-words .now) (a .program .now) (a .data-tags .now) (a .data-words .now) (c .before .before .before .before .before .before .no-rows .ensures) (c .before .before .before .before .before .no-processes .ensures) in let n = memorySizes (length (a .constant-words .now)) (length (a .register-words .now)) (length (a .program .now)) (length (a .data-words .now)) in let p = c .before .before .before .write .ensures in (c .length-written .ensures ∙ ap lengthWritten (p .answer ∙ ap (λ (b : Buffers). writeAnswered (writeAnswer n b (length (a .output .now)))) o), p .leaves ∙ ap (λ (b : Buffers). writeLeaves n b (a .output .now)) o)
 
 pub benchmark-write-spec : {M : Type 1} → statement M
 benchmark-write-spec =

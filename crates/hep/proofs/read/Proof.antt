@@ -108,7 +108,7 @@ parts : (r : AfterRead) (w : Val) → Is O.the-row r (w ∷ []) → Parts r
 parts r w is = LL.owed O.the-type O′.the-laws r _ is
 
 abbrev stayed : Stays (read′.ended .signature .params) (read′.ended .kept)
-stayed = (gave-slice (0 ∷ []) tt (plain (λ _. T.the-row)), (stay-ref (1 ∷ []) tt (plain (λ _. B.the-row)), (gave-slice (2 ∷ []) tt (plain (λ _. u64)), (gave-slice (3 ∷ []) tt (plain (λ _. u8)), (gave-slice (4 ∷ []) tt (plain (λ _. u64)), (gave-slice (5 ∷ []) tt (plain (λ _. u64)), (gave-slice (6 ∷ []) tt (plain (λ _. u8)), (gave-slice (7 ∷ []) tt (plain (λ _. u64)), (stay-dropped (shrSliceOf (8 ∷ []) tt (plain (λ _. u8))) yes, tt)))))))))
+stayed = (gave-slice (0 ∷ []) tt (plain (λ _. T.the-row)), (stay-ref (1 ∷ []) tt (plain (λ _. B.the-row)), (gave-slice (2 ∷ []) tt (plain (λ _. u8)), (gave-slice (3 ∷ []) tt (plain (λ _. u64)), (gave-slice (4 ∷ []) tt (plain (λ _. u8)), (gave-slice (5 ∷ []) tt (plain (λ _. u64)), (gave-slice (6 ∷ []) tt (plain (λ _. u64)), (gave-slice (7 ∷ []) tt (plain (λ _. u8)), (gave-slice (8 ∷ []) tt (plain (λ _. u64)), (stay-dropped (shrSliceOf (9 ∷ []) tt (plain (λ _. u8))) yes, tt))))))))))
 
 module _ {M : Type 1} (𝓤 : URA M) (H : Heap 𝓤) (A : Atoms 𝓤) (at-mem : Memory → SProp 𝓤) (run : Routine → Fun 𝓤) where
   -- the contracts that the proof cites
@@ -122,9 +122,9 @@ module _ {M : Type 1} (𝓤 : URA M) (H : Heap 𝓤) (A : Atoms 𝓤) (at-mem : 
   Store = tripleOf 𝓤 H A store-fn.signature (store-fn.spec 𝓤 H A at-mem run)
 
 module _ {M : Type 1} (𝓤 : URA M) (H : Heap 𝓤) (A : Atoms 𝓤) (W : Given 𝓤 H A) (at-mem : Memory → SProp 𝓤) (run : Routine → Fun 𝓤)
-    (κ₀ κ₁ κ₂ κ₃ κ₄ κ₅ κ₆ κ₇ κ₈ : Lft) (q₀ q₁ q₂ q₃ q₄ q₅ q₆ q₇ q₈ : Share)
-    (b₀ o₀ : ℕ) (γ₀ : GName) (x₀ : List Row) (b₁ o₁ : ℕ) (γ₁ : GName) (x₁ : ProcessTable) (b₂ o₂ : ℕ) (γ₂ : GName) (x₂ : List ℕ) (b₃ o₃ : ℕ) (γ₃ : GName) (x₃ : List ℕ) (b₄ o₄ : ℕ) (γ₄ : GName) (x₄ : List ℕ) (b₅ o₅ : ℕ) (γ₅ : GName) (x₅ : List ℕ) (b₆ o₆ : ℕ) (γ₆ : GName) (x₆ : List ℕ) (b₇ o₇ : ℕ) (γ₇ : GName) (x₇ : List ℕ) (b₈ o₈ : ℕ) (γ₈ : GName) (x₈ : List ℕ)
-    (room₀ : Room T.the-row (length x₀)) (room₂ : Room u64 (length x₂)) (room₃ : Room u8 (length x₃)) (room₄ : Room u64 (length x₄)) (room₅ : Room u64 (length x₅)) (room₆ : Room u8 (length x₆)) (room₇ : Room u64 (length x₇)) (room₈ : Room u8 (length x₈)) where
+    (κ₀ κ₁ κ₂ κ₃ κ₄ κ₅ κ₆ κ₇ κ₈ κ₉ : Lft) (q₀ q₁ q₂ q₃ q₄ q₅ q₆ q₇ q₈ q₉ : Share)
+    (b₀ o₀ : ℕ) (γ₀ : GName) (x₀ : List Row) (b₁ o₁ : ℕ) (γ₁ : GName) (x₁ : ProcessTable) (b₂ o₂ : ℕ) (γ₂ : GName) (x₂ : List ℕ) (b₃ o₃ : ℕ) (γ₃ : GName) (x₃ : List ℕ) (b₄ o₄ : ℕ) (γ₄ : GName) (x₄ : List ℕ) (b₅ o₅ : ℕ) (γ₅ : GName) (x₅ : List ℕ) (b₆ o₆ : ℕ) (γ₆ : GName) (x₆ : List ℕ) (b₇ o₇ : ℕ) (γ₇ : GName) (x₇ : List ℕ) (b₈ o₈ : ℕ) (γ₈ : GName) (x₈ : List ℕ) (b₉ o₉ : ℕ) (γ₉ : GName) (x₉ : List ℕ)
+    (room₀ : Room T.the-row (length x₀)) (room₂ : Room u8 (length x₂)) (room₃ : Room u64 (length x₃)) (room₄ : Room u8 (length x₄)) (room₅ : Room u64 (length x₅)) (room₆ : Room u64 (length x₆)) (room₇ : Room u8 (length x₇)) (room₈ : Room u64 (length x₈)) (room₉ : Room u8 (length x₉)) where
   -- the parameters, and their machine values
   abbrev y₀ : RefT (List Row)
   y₀ = record { ptr = (b₀, o₀); name = γ₀; now = x₀ }
@@ -180,14 +180,20 @@ module _ {M : Type 1} (𝓤 : URA M) (H : Heap 𝓤) (A : Atoms 𝓤) (W : Given
   abbrev s₈ : Val
   s₈ = sliceVal (b₈, o₈) (length x₈)
 
-  abbrev a : (RefT (List Row) × (RefT ProcessTable × (RefT (List ℕ) × (RefT (List ℕ) × (RefT (List ℕ) × (RefT (List ℕ) × (RefT (List ℕ) × (RefT (List ℕ) × (RefT (List ℕ) × Unit {0})))))))))
-  a = (y₀, (y₁, (y₂, (y₃, (y₄, (y₅, (y₆, (y₇, (y₈, tt)))))))))
+  abbrev y₉ : RefT (List ℕ)
+  y₉ = record { ptr = (b₉, o₉); name = γ₉; now = x₉ }
 
-  abbrev vals : (List Val × (List Val × (List Val × (List Val × (List Val × (List Val × (List Val × (List Val × (List Val × Unit {0})))))))))
-  vals = (s₀ ∷ [], (s₁ ∷ [], (s₂ ∷ [], (s₃ ∷ [], (s₄ ∷ [], (s₅ ∷ [], (s₆ ∷ [], (s₇ ∷ [], (s₈ ∷ [], tt)))))))))
+  abbrev s₉ : Val
+  s₉ = sliceVal (b₉, o₉) (length x₉)
+
+  abbrev a : (RefT (List Row) × (RefT ProcessTable × (RefT (List ℕ) × (RefT (List ℕ) × (RefT (List ℕ) × (RefT (List ℕ) × (RefT (List ℕ) × (RefT (List ℕ) × (RefT (List ℕ) × (RefT (List ℕ) × Unit {0}))))))))))
+  a = (y₀, (y₁, (y₂, (y₃, (y₄, (y₅, (y₆, (y₇, (y₈, (y₉, tt))))))))))
+
+  abbrev vals : (List Val × (List Val × (List Val × (List Val × (List Val × (List Val × (List Val × (List Val × (List Val × (List Val × Unit {0}))))))))))
+  vals = (s₀ ∷ [], (s₁ ∷ [], (s₂ ∷ [], (s₃ ∷ [], (s₄ ∷ [], (s₅ ∷ [], (s₆ ∷ [], (s₇ ∷ [], (s₈ ∷ [], (s₉ ∷ [], tt))))))))))
 
   abbrev bound : walkOf 𝓤 H A read′.ended stayed (read′.clauses 𝓤 H A at-mem run) .Ghost
-  bound = (((κ₀, (κ₁, (κ₂, (κ₃, (κ₄, (κ₅, (κ₆, (κ₇, (κ₈, tt))))))))), (q₀, (q₁, (q₂, (q₃, (q₄, (q₅, (q₆, (q₇, (q₈, tt))))))))), tt, a, vals), tt)
+  bound = (((κ₀, (κ₁, (κ₂, (κ₃, (κ₄, (κ₅, (κ₆, (κ₇, (κ₈, (κ₉, tt)))))))))), (q₀, (q₁, (q₂, (q₃, (q₄, (q₅, (q₆, (q₇, (q₈, (q₉, tt)))))))))), tt, a, vals), tt)
 
   abbrev Post : Val → SProp 𝓤
   Post = walkOf 𝓤 H A read′.ended stayed (read′.clauses 𝓤 H A at-mem run) .post bound
@@ -196,14 +202,14 @@ module _ {M : Type 1} (𝓤 : URA M) (H : Heap 𝓤) (A : Atoms 𝓤) (W : Given
   abbrev lent : GName → RefT (List Row)
   lent δ = record { ptr = (b₀, o₀); name = δ; now = x₀ }
 
-  exits : (v : Rows) (r : AfterRead) (z₀ : List Row) (z₂ : List ℕ) (z₃ : List ℕ) (z₄ : List ℕ) (z₅ : List ℕ) (z₆ : List ℕ) (z₇ : List ℕ) → Parts r → v ≡ loadedRows x₀ → ReadPromise (lentBuffers (heldRows v) x₁ x₂ x₃ x₄ x₅ x₆ x₇) x₈ (r .answer) (lentBuffers (heldRows (r .rows)) (r .table) z₂ z₃ z₄ z₅ z₆ z₇) × SamePlaces v (r .rows) → z₀ ≡ storedRows x₀ (r .rows) → length z₀ ≡ length x₀ → length z₂ ≡ length x₂ → length z₃ ≡ length x₃ → length z₄ ≡ length x₄ → length z₅ ≡ length x₅ → length z₆ ≡ length x₆ → length z₇ ≡ length x₇
-      → ent 𝓤 (⋆ 𝓤 H A (‵ (flft κ₀ q₀) ∷ ‵ (flft κ₁ q₁) ∷ (‵ (flft κ₂ q₂) ⊛ (‵ (flft κ₃ q₃) ⊛ (‵ (flft κ₄ q₄) ⊛ (‵ (flft κ₅ q₅) ⊛ (‵ (flft κ₆ q₆) ⊛ (‵ (flft κ₇ q₇) ⊛ (‵ (flft κ₈ q₈) ⊛ ‵ ftrue))))))) ∷ ‵ (fobs γ₁ (B.the-row .coded .code (r .table))) ∷ ‵ (fbor κ₁ (Body (mem B.the-row) b₁ o₁ γ₁)) ∷ ‵ (finally T.the-row γ₀ z₀) ∷ ‵ (finally u64 γ₂ z₂) ∷ ‵ (finally u8 γ₃ z₃) ∷ ‵ (finally u64 γ₄ z₄) ∷ ‵ (finally u64 γ₅ z₅) ∷ ‵ (finally u8 γ₆ z₆) ∷ ‵ (finally u64 γ₇ z₇) ∷ [])) (Post (val-N (r .answer)))
-  exits v r z₀ z₂ z₃ z₄ z₅ z₆ z₇ os e₀ e₁ e₂ n₀ n₂ n₃ n₄ n₅ n₆ n₇ =
-      qed W (‵ (flft κ₀ q₀) ∷ ‵ (flft κ₁ q₁) ∷ (‵ (flft κ₂ q₂) ⊛ (‵ (flft κ₃ q₃) ⊛ (‵ (flft κ₄ q₄) ⊛ (‵ (flft κ₅ q₅) ⊛ (‵ (flft κ₆ q₆) ⊛ (‵ (flft κ₇ q₇) ⊛ (‵ (flft κ₈ q₈) ⊛ ‵ ftrue))))))) ∷ ‵ (fobs γ₁ (B.the-row .coded .code (r .table))) ∷ ‵ (fbor κ₁ (Body (mem B.the-row) b₁ o₁ γ₁)) ∷ ‵ (finally T.the-row γ₀ z₀) ∷ ‵ (finally u64 γ₂ z₂) ∷ ‵ (finally u8 γ₃ z₃) ∷ ‵ (finally u64 γ₄ z₄) ∷ ‵ (finally u64 γ₅ z₅) ∷ ‵ (finally u8 γ₆ z₆) ∷ ‵ (finally u64 γ₇ z₇) ∷ []) ∵
-      suffices ! _ (ends-at 𝓤 H A read′.ended stayed (read′.clauses 𝓤 H A at-mem run) W bound (val-N (r .answer)) (r .answer) (z₀, (r .table, (z₂, (z₃, (z₄, (z₅, (z₆, (z₇, (tt, tt))))))))) (n₀, (tt, (n₂, (n₃, (n₄, (n₅, (n₆, (n₇, (tt, tt)))))))))) $
-      says ! (read-lent (lentBuffers x₀ x₁ x₂ x₃ x₄ x₅ x₆ x₇) x₈ (r .answer) v (r .rows) z₀ (lentBuffers z₀ (r .table) z₂ z₃ z₄ z₅ z₆ z₇) e₀ e₁ e₂) $
-      move ! (1 ∷ 2 ∷ []) $ join ! $ move ! (1 ∷ 0 ∷ []) $ join ! $ frame ! $ feqI ! (List Val) (s₁ ∷ []) (s₁ ∷ []) refl $ fjoin3 ! $ nothing ! $ nothing ! $ fjoin ! $ move ! (8 ∷ 0 ∷ []) $ fjoin ! $ move ! (7 ∷ 0 ∷ []) $ fjoin ! $
-      move ! (6 ∷ 0 ∷ []) $ fjoin ! $ move ! (5 ∷ 0 ∷ []) $ fjoin ! $ move ! (4 ∷ 0 ∷ []) $ fjoin ! $ move ! (3 ∷ 0 ∷ []) $ fjoin ! $ move ! (1 ∷ 0 ∷ []) $ fjoin ! $ move ! (1 ∷ 0 ∷ []) $ fjoin ! $
+  exits : (v : Rows) (r : AfterRead) (z₀ : List Row) (z₂ : List ℕ) (z₃ : List ℕ) (z₄ : List ℕ) (z₅ : List ℕ) (z₆ : List ℕ) (z₇ : List ℕ) (z₈ : List ℕ) → Parts r → v ≡ loadedRows x₀ → ReadPromise (lentBuffers (heldRows v) x₁ x₂ x₃ x₄ x₅ x₆ x₇ x₈) x₉ (r .answer) (lentBuffers (heldRows (r .rows)) (r .table) z₂ z₃ z₄ z₅ z₆ z₇ z₈) × SamePlaces v (r .rows) → z₀ ≡ storedRows x₀ (r .rows) → length z₀ ≡ length x₀ → length z₂ ≡ length x₂ → length z₃ ≡ length x₃ → length z₄ ≡ length x₄ → length z₅ ≡ length x₅ → length z₆ ≡ length x₆ → length z₇ ≡ length x₇ → length z₈ ≡ length x₈
+      → ent 𝓤 (⋆ 𝓤 H A (‵ (flft κ₀ q₀) ∷ ‵ (flft κ₁ q₁) ∷ (‵ (flft κ₂ q₂) ⊛ (‵ (flft κ₃ q₃) ⊛ (‵ (flft κ₄ q₄) ⊛ (‵ (flft κ₅ q₅) ⊛ (‵ (flft κ₆ q₆) ⊛ (‵ (flft κ₇ q₇) ⊛ (‵ (flft κ₈ q₈) ⊛ (‵ (flft κ₉ q₉) ⊛ ‵ ftrue)))))))) ∷ ‵ (fobs γ₁ (B.the-row .coded .code (r .table))) ∷ ‵ (fbor κ₁ (Body (mem B.the-row) b₁ o₁ γ₁)) ∷ ‵ (finally T.the-row γ₀ z₀) ∷ ‵ (finally u8 γ₂ z₂) ∷ ‵ (finally u64 γ₃ z₃) ∷ ‵ (finally u8 γ₄ z₄) ∷ ‵ (finally u64 γ₅ z₅) ∷ ‵ (finally u64 γ₆ z₆) ∷ ‵ (finally u8 γ₇ z₇) ∷ ‵ (finally u64 γ₈ z₈) ∷ [])) (Post (val-N (r .answer)))
+  exits v r z₀ z₂ z₃ z₄ z₅ z₆ z₇ z₈ os e₀ e₁ e₂ n₀ n₂ n₃ n₄ n₅ n₆ n₇ n₈ =
+      qed W (‵ (flft κ₀ q₀) ∷ ‵ (flft κ₁ q₁) ∷ (‵ (flft κ₂ q₂) ⊛ (‵ (flft κ₃ q₃) ⊛ (‵ (flft κ₄ q₄) ⊛ (‵ (flft κ₅ q₅) ⊛ (‵ (flft κ₆ q₆) ⊛ (‵ (flft κ₇ q₇) ⊛ (‵ (flft κ₈ q₈) ⊛ (‵ (flft κ₉ q₉) ⊛ ‵ ftrue)))))))) ∷ ‵ (fobs γ₁ (B.the-row .coded .code (r .table))) ∷ ‵ (fbor κ₁ (Body (mem B.the-row) b₁ o₁ γ₁)) ∷ ‵ (finally T.the-row γ₀ z₀) ∷ ‵ (finally u8 γ₂ z₂) ∷ ‵ (finally u64 γ₃ z₃) ∷ ‵ (finally u8 γ₄ z₄) ∷ ‵ (finally u64 γ₅ z₅) ∷ ‵ (finally u64 γ₆ z₆) ∷ ‵ (finally u8 γ₇ z₇) ∷ ‵ (finally u64 γ₈ z₈) ∷ []) ∵
+      suffices ! _ (ends-at 𝓤 H A read′.ended stayed (read′.clauses 𝓤 H A at-mem run) W bound (val-N (r .answer)) (r .answer) (z₀, (r .table, (z₂, (z₃, (z₄, (z₅, (z₆, (z₇, (z₈, (tt, tt)))))))))) (n₀, (tt, (n₂, (n₃, (n₄, (n₅, (n₆, (n₇, (n₈, (tt, tt))))))))))) $
+      says ! (read-lent (lentBuffers x₀ x₁ x₂ x₃ x₄ x₅ x₆ x₇ x₈) x₉ (r .answer) v (r .rows) z₀ (lentBuffers z₀ (r .table) z₂ z₃ z₄ z₅ z₆ z₇ z₈) e₀ e₁ e₂) $
+      move ! (1 ∷ 2 ∷ []) $ join ! $ move ! (1 ∷ 0 ∷ []) $ join ! $ frame ! $ feqI ! (List Val) (s₁ ∷ []) (s₁ ∷ []) refl $ fjoin3 ! $ nothing ! $ nothing ! $ fjoin ! $ move ! (9 ∷ 0 ∷ []) $ fjoin ! $ move ! (8 ∷ 0 ∷ []) $ fjoin ! $
+      move ! (7 ∷ 0 ∷ []) $ fjoin ! $ move ! (6 ∷ 0 ∷ []) $ fjoin ! $ move ! (5 ∷ 0 ∷ []) $ fjoin ! $ move ! (4 ∷ 0 ∷ []) $ fjoin ! $ move ! (3 ∷ 0 ∷ []) $ fjoin ! $ move ! (1 ∷ 0 ∷ []) $ fjoin ! $ move ! (1 ∷ 0 ∷ []) $ fjoin ! $
       owned ! N.the-row (Is N.the-row) (EL.makes N.the-type N′.the-plain 𝓤 H A) (r .answer) _ (os .1 .1 .0) $ move ! (1 ∷ 0 ∷ []) $ done !
 
   -- what the callees' triples bind outside, and that the caller has what they ask
@@ -216,14 +222,14 @@ module _ {M : Type 1} (𝓤 : URA M) (H : Heap 𝓤) (A : Atoms 𝓤) (W : Given
   goes-load : (α₀ : ℕ) (δ₀ : GName) → ent 𝓤 (⋆ 𝓤 H A ((‵ (flft (α₀ ∷ []) fullShare) ⊛ ‵ ftrue) ∷ ‵ (owns (ShrSlice (named 0) (α₀ ∷ []) T.the-row ∷ []) (args-load α₀ δ₀) (s₀ ∷ [], tt)) ∷ [])) (Load 𝓤 H A at-mem run .pre (to-load α₀ δ₀))
   goes-load α₀ δ₀ = qed W ((‵ (flft (α₀ ∷ []) fullShare) ⊛ ‵ ftrue) ∷ ‵ (owns (ShrSlice (named 0) (α₀ ∷ []) T.the-row ∷ []) (args-load α₀ δ₀) (s₀ ∷ [], tt)) ∷ []) ∵ join ! $ frame ! $ done !
 
-  abbrev args-core : Rows → (Rows × (ProcessTable × (RefT (List ℕ) × (RefT (List ℕ) × (RefT (List ℕ) × (RefT (List ℕ) × (RefT (List ℕ) × (RefT (List ℕ) × (RefT (List ℕ) × Unit {0})))))))))
-  args-core v = (v, (x₁, (y₂, (y₃, (y₄, (y₅, (y₆, (y₇, (y₈, tt)))))))))
+  abbrev args-core : Rows → (Rows × (ProcessTable × (RefT (List ℕ) × (RefT (List ℕ) × (RefT (List ℕ) × (RefT (List ℕ) × (RefT (List ℕ) × (RefT (List ℕ) × (RefT (List ℕ) × (RefT (List ℕ) × Unit {0}))))))))))
+  args-core v = (v, (x₁, (y₂, (y₃, (y₄, (y₅, (y₆, (y₇, (y₈, (y₉, tt))))))))))
 
   abbrev to-core : Rows → Core 𝓤 H A at-mem run .Ghost
-  to-core v = (((κ₂, (κ₃, (κ₄, (κ₅, (κ₆, (κ₇, (κ₈, tt))))))), (q₂, (q₃, (q₄, (q₅, (q₆, (q₇, (q₈, tt))))))), tt, (args-core v), (val-S v ∷ [], (val-B x₁ ∷ [], (s₂ ∷ [], (s₃ ∷ [], (s₄ ∷ [], (s₅ ∷ [], (s₆ ∷ [], (s₇ ∷ [], (s₈ ∷ [], tt)))))))))), tt)
+  to-core v = (((κ₂, (κ₃, (κ₄, (κ₅, (κ₆, (κ₇, (κ₈, (κ₉, tt)))))))), (q₂, (q₃, (q₄, (q₅, (q₆, (q₇, (q₈, (q₉, tt)))))))), tt, (args-core v), (val-S v ∷ [], (val-B x₁ ∷ [], (s₂ ∷ [], (s₃ ∷ [], (s₄ ∷ [], (s₅ ∷ [], (s₆ ∷ [], (s₇ ∷ [], (s₈ ∷ [], (s₉ ∷ [], tt))))))))))), tt)
 
-  goes-core : (v : Rows) → ent 𝓤 (⋆ 𝓤 H A ((‵ (flft κ₂ q₂) ⊛ (‵ (flft κ₃ q₃) ⊛ (‵ (flft κ₄ q₄) ⊛ (‵ (flft κ₅ q₅) ⊛ (‵ (flft κ₆ q₆) ⊛ (‵ (flft κ₇ q₇) ⊛ (‵ (flft κ₈ q₈) ⊛ ‵ ftrue))))))) ∷ ‵ (owns (S.the-row ∷ B.the-row ∷ MutSlice (named 2) κ₂ u64 ∷ MutSlice (named 3) κ₃ u8 ∷ MutSlice (named 4) κ₄ u64 ∷ MutSlice (named 5) κ₅ u64 ∷ MutSlice (named 6) κ₆ u8 ∷ MutSlice (named 7) κ₇ u64 ∷ ShrSlice (named 8) κ₈ u8 ∷ []) (args-core v) (val-S v ∷ [], (val-B x₁ ∷ [], (s₂ ∷ [], (s₃ ∷ [], (s₄ ∷ [], (s₅ ∷ [], (s₆ ∷ [], (s₇ ∷ [], (s₈ ∷ [], tt)))))))))) ∷ [])) (Core 𝓤 H A at-mem run .pre (to-core v))
-  goes-core v = qed W ((‵ (flft κ₂ q₂) ⊛ (‵ (flft κ₃ q₃) ⊛ (‵ (flft κ₄ q₄) ⊛ (‵ (flft κ₅ q₅) ⊛ (‵ (flft κ₆ q₆) ⊛ (‵ (flft κ₇ q₇) ⊛ (‵ (flft κ₈ q₈) ⊛ ‵ ftrue))))))) ∷ ‵ (owns (S.the-row ∷ B.the-row ∷ MutSlice (named 2) κ₂ u64 ∷ MutSlice (named 3) κ₃ u8 ∷ MutSlice (named 4) κ₄ u64 ∷ MutSlice (named 5) κ₅ u64 ∷ MutSlice (named 6) κ₆ u8 ∷ MutSlice (named 7) κ₇ u64 ∷ ShrSlice (named 8) κ₈ u8 ∷ []) (args-core v) (val-S v ∷ [], (val-B x₁ ∷ [], (s₂ ∷ [], (s₃ ∷ [], (s₄ ∷ [], (s₅ ∷ [], (s₆ ∷ [], (s₇ ∷ [], (s₈ ∷ [], tt)))))))))) ∷ []) ∵ join ! $ frame ! $ done !
+  goes-core : (v : Rows) → ent 𝓤 (⋆ 𝓤 H A ((‵ (flft κ₂ q₂) ⊛ (‵ (flft κ₃ q₃) ⊛ (‵ (flft κ₄ q₄) ⊛ (‵ (flft κ₅ q₅) ⊛ (‵ (flft κ₆ q₆) ⊛ (‵ (flft κ₇ q₇) ⊛ (‵ (flft κ₈ q₈) ⊛ (‵ (flft κ₉ q₉) ⊛ ‵ ftrue)))))))) ∷ ‵ (owns (S.the-row ∷ B.the-row ∷ MutSlice (named 2) κ₂ u8 ∷ MutSlice (named 3) κ₃ u64 ∷ MutSlice (named 4) κ₄ u8 ∷ MutSlice (named 5) κ₅ u64 ∷ MutSlice (named 6) κ₆ u64 ∷ MutSlice (named 7) κ₇ u8 ∷ MutSlice (named 8) κ₈ u64 ∷ ShrSlice (named 9) κ₉ u8 ∷ []) (args-core v) (val-S v ∷ [], (val-B x₁ ∷ [], (s₂ ∷ [], (s₃ ∷ [], (s₄ ∷ [], (s₅ ∷ [], (s₆ ∷ [], (s₇ ∷ [], (s₈ ∷ [], (s₉ ∷ [], tt))))))))))) ∷ [])) (Core 𝓤 H A at-mem run .pre (to-core v))
+  goes-core v = qed W ((‵ (flft κ₂ q₂) ⊛ (‵ (flft κ₃ q₃) ⊛ (‵ (flft κ₄ q₄) ⊛ (‵ (flft κ₅ q₅) ⊛ (‵ (flft κ₆ q₆) ⊛ (‵ (flft κ₇ q₇) ⊛ (‵ (flft κ₈ q₈) ⊛ (‵ (flft κ₉ q₉) ⊛ ‵ ftrue)))))))) ∷ ‵ (owns (S.the-row ∷ B.the-row ∷ MutSlice (named 2) κ₂ u8 ∷ MutSlice (named 3) κ₃ u64 ∷ MutSlice (named 4) κ₄ u8 ∷ MutSlice (named 5) κ₅ u64 ∷ MutSlice (named 6) κ₆ u64 ∷ MutSlice (named 7) κ₇ u8 ∷ MutSlice (named 8) κ₈ u64 ∷ ShrSlice (named 9) κ₉ u8 ∷ []) (args-core v) (val-S v ∷ [], (val-B x₁ ∷ [], (s₂ ∷ [], (s₃ ∷ [], (s₄ ∷ [], (s₅ ∷ [], (s₆ ∷ [], (s₇ ∷ [], (s₈ ∷ [], (s₉ ∷ [], tt))))))))))) ∷ []) ∵ join ! $ frame ! $ done !
 
   abbrev args-store : AfterRead → (RefT (List Row) × (Rows × Unit {0}))
   args-store r = (y₀, ((r .rows), tt))
@@ -235,101 +241,105 @@ module _ {M : Type 1} (𝓤 : URA M) (H : Heap 𝓤) (A : Atoms 𝓤) (W : Given
   goes-store r = qed W ((‵ (flft κ₀ q₀) ⊛ ‵ ftrue) ∷ ‵ (owns (MutSlice (named 0) κ₀ T.the-row ∷ S.the-row ∷ []) (args-store r) (s₀ ∷ [], (val-S (r .rows) ∷ [], tt))) ∷ []) ∵ join ! $ frame ! $ done !
 
   module _ (C : Calls 𝓤 H) (Λ : Loops 𝓤 H) (fm : FmC 𝓤 H (W .laws) C) (known-load : Triple 𝓤 (C #hep·load-rows) (Load 𝓤 H A at-mem run)) (known-core : Triple 𝓤 (C #image-read·read) (Core 𝓤 H A at-mem run)) (known-store : Triple 𝓤 (C #hep·store-rows) (Store 𝓤 H A at-mem run)) where
-    walk : ent 𝓤 (onEntry 𝓤 H A read′.signature (κ₀, (κ₁, (κ₂, (κ₃, (κ₄, (κ₅, (κ₆, (κ₇, (κ₈, tt))))))))) (q₀, (q₁, (q₂, (q₃, (q₄, (q₅, (q₆, (q₇, (q₈, tt))))))))) a vals) (WpFn 𝓤 H C Λ code.function (s₀ ∷ s₁ ∷ s₂ ∷ s₃ ∷ s₄ ∷ s₅ ∷ s₆ ∷ s₇ ∷ s₈ ∷ []) Post)
+    walk : ent 𝓤 (onEntry 𝓤 H A read′.signature (κ₀, (κ₁, (κ₂, (κ₃, (κ₄, (κ₅, (κ₆, (κ₇, (κ₈, (κ₉, tt)))))))))) (q₀, (q₁, (q₂, (q₃, (q₄, (q₅, (q₆, (q₇, (q₈, (q₉, tt)))))))))) a vals) (WpFn 𝓤 H C Λ code.function (s₀ ∷ s₁ ∷ s₂ ∷ s₃ ∷ s₄ ∷ s₅ ∷ s₆ ∷ s₇ ∷ s₈ ∷ s₉ ∷ []) Post)
     walk =
-        qed W ((‵ (flft κ₀ q₀) ⊛ (‵ (flft κ₁ q₁) ⊛ (‵ (flft κ₂ q₂) ⊛ (‵ (flft κ₃ q₃) ⊛ (‵ (flft κ₄ q₄) ⊛ (‵ (flft κ₅ q₅) ⊛ (‵ (flft κ₆ q₆) ⊛ (‵ (flft κ₇ q₇) ⊛ (‵ (flft κ₈ q₈) ⊛ ‵ ftrue))))))))) ∷ ‵ (owns (MutSlice (named 0) κ₀ T.the-row ∷ MutRef (named 1) κ₁ B.the-row ∷ MutSlice (named 2) κ₂ u64 ∷ MutSlice (named 3) κ₃ u8 ∷ MutSlice (named 4) κ₄ u64 ∷ MutSlice (named 5) κ₅ u64 ∷ MutSlice (named 6) κ₆ u8 ∷ MutSlice (named 7) κ₇ u64 ∷ ShrSlice (named 8) κ₈ u8 ∷ []) a vals) ∷ []) ∵
+        qed W ((‵ (flft κ₀ q₀) ⊛ (‵ (flft κ₁ q₁) ⊛ (‵ (flft κ₂ q₂) ⊛ (‵ (flft κ₃ q₃) ⊛ (‵ (flft κ₄ q₄) ⊛ (‵ (flft κ₅ q₅) ⊛ (‵ (flft κ₆ q₆) ⊛ (‵ (flft κ₇ q₇) ⊛ (‵ (flft κ₈ q₈) ⊛ (‵ (flft κ₉ q₉) ⊛ ‵ ftrue)))))))))) ∷ ‵ (owns (MutSlice (named 0) κ₀ T.the-row ∷ MutRef (named 1) κ₁ B.the-row ∷ MutSlice (named 2) κ₂ u8 ∷ MutSlice (named 3) κ₃ u64 ∷ MutSlice (named 4) κ₄ u8 ∷ MutSlice (named 5) κ₅ u64 ∷ MutSlice (named 6) κ₆ u64 ∷ MutSlice (named 7) κ₇ u8 ∷ MutSlice (named 8) κ₈ u64 ∷ ShrSlice (named 9) κ₉ u8 ∷ []) a vals) ∷ []) ∵
         split ! $ move ! (1 ∷ []) $ split ! $ move ! (3 ∷ []) $ fsplit ! $ move ! (1 ∷ []) $ fsplit ! $ move ! (1 ∷ []) $ fsplit ! $ move ! (1 ∷ []) $ fsplit ! $ move ! (1 ∷ []) $ fsplit ! $ move ! (1 ∷ []) $ fsplit ! $ move ! (1 ∷ []) $
-        fsplit ! $ move ! (1 ∷ []) $ fsplit ! $ move ! (1 ∷ []) $ fsplit ! $ move ! (1 ∷ []) $ drop ! $ move ! (8 ∷ []) $ fsplit ! $ drop ! $ fsplit ! $ move ! (9 ∷ []) $ fsplit3 ! $ drop ! $
-        enter ! C Λ code.function (s₀ ∷ s₁ ∷ s₂ ∷ s₃ ∷ s₄ ∷ s₅ ∷ s₆ ∷ s₇ ∷ s₈ ∷ []) _ $ alloc1 ! (λ l₀. alloc1 ! (λ l₁. alloc1 ! (λ l₂. alloc1 ! (λ l₃. alloc1 ! (λ l₄. alloc1 ! (λ l₅. alloc1 ! (λ l₆. alloc1 ! (λ l₇. alloc1 ! (λ l₈.
+        fsplit ! $ move ! (1 ∷ []) $ fsplit ! $ move ! (1 ∷ []) $ fsplit ! $ move ! (1 ∷ []) $ fsplit ! $ move ! (1 ∷ []) $ drop ! $ move ! (9 ∷ []) $ fsplit ! $ drop ! $ fsplit ! $ move ! (10 ∷ []) $ fsplit3 ! $ drop ! $
+        enter ! C Λ code.function (s₀ ∷ s₁ ∷ s₂ ∷ s₃ ∷ s₄ ∷ s₅ ∷ s₆ ∷ s₇ ∷ s₈ ∷ s₉ ∷ []) _ $ alloc1 ! (λ l₀. alloc1 ! (λ l₁. alloc1 ! (λ l₂. alloc1 ! (λ l₃. alloc1 ! (λ l₄. alloc1 ! (λ l₅. alloc1 ! (λ l₆. alloc1 ! (λ l₇. alloc1 ! (λ l₈.
         alloc1 ! (λ l₉. alloc1 ! (λ l₁₀. alloc1 ! (λ l₁₁. alloc1 ! (λ l₁₂. alloc1 ! (λ l₁₃. alloc1 ! (λ l₁₄. alloc1 ! (λ l₁₅. alloc1 ! (λ l₁₆. alloc1 ! (λ l₁₇. alloc1 ! (λ l₁₈. alloc1 ! (λ l₁₉. alloc1 ! (λ l₂₀. alloc1 ! (λ l₂₁.
-        alloc1 ! (λ l₂₂. alloc1 ! (λ l₂₃. alloc1 ! (λ l₂₄. alloc1 ! (λ l₂₅. alloc1 ! (λ l₂₆. alloc1 ! (λ l₂₇. alloc1 ! (λ l₂₈. alloc1 ! (λ l₂₉. alloc0 ! $ params1 ! $ pass1 ! (init ! 56 refl (tt, (tt, (record { fits = room₀ .0 }, tt)))) $
-        pass1 ! (init ! 54 refl (tt, tt)) $ pass1 ! (init ! 52 refl (tt, (tt, (record { fits = room₂ .0 }, tt)))) $ pass1 ! (init ! 50 refl (tt, (tt, (record { fits = room₃ .0 }, tt)))) $
-        pass1 ! (init ! 48 refl (tt, (tt, (record { fits = room₄ .0 }, tt)))) $ pass1 ! (init ! 46 refl (tt, (tt, (record { fits = room₅ .0 }, tt)))) $ pass1 ! (init ! 44 refl (tt, (tt, (record { fits = room₆ .0 }, tt)))) $
-        pass1 ! (init ! 42 refl (tt, (tt, (record { fits = room₇ .0 }, tt)))) $ pass1 ! (init ! 40 refl (tt, (tt, (record { fits = room₈ .0 }, tt)))) $ pass0 ! $
+        alloc1 ! (λ l₂₂. alloc1 ! (λ l₂₃. alloc1 ! (λ l₂₄. alloc1 ! (λ l₂₅. alloc1 ! (λ l₂₆. alloc1 ! (λ l₂₇. alloc1 ! (λ l₂₈. alloc1 ! (λ l₂₉. alloc1 ! (λ l₃₀. alloc1 ! (λ l₃₁. alloc1 ! (λ l₃₂. alloc0 ! $ params1 ! $
+        pass1 ! (init ! 62 refl (tt, (tt, (record { fits = room₀ .0 }, tt)))) $ pass1 ! (init ! 60 refl (tt, tt)) $ pass1 ! (init ! 58 refl (tt, (tt, (record { fits = room₂ .0 }, tt)))) $
+        pass1 ! (init ! 56 refl (tt, (tt, (record { fits = room₃ .0 }, tt)))) $ pass1 ! (init ! 54 refl (tt, (tt, (record { fits = room₄ .0 }, tt)))) $ pass1 ! (init ! 52 refl (tt, (tt, (record { fits = room₅ .0 }, tt)))) $
+        pass1 ! (init ! 50 refl (tt, (tt, (record { fits = room₆ .0 }, tt)))) $ pass1 ! (init ! 48 refl (tt, (tt, (record { fits = room₇ .0 }, tt)))) $ pass1 ! (init ! 46 refl (tt, (tt, (record { fits = room₈ .0 }, tt)))) $
+        pass1 ! (init ! 44 refl (tt, (tt, (record { fits = room₉ .0 }, tt)))) $ pass0 ! $
         -- the rows are lent as `&`, for a lifetime of each call that looks at them
-        assigns ! (addr ! (from ! (fld ! refl (hop ! (look-in ! 56 (sub ! 0 refl (whole !))) (stop !))))) (from ! (stop !)) (init ! 34 refl (tt, tt)) $
-        assigns ! (agg ! (and-then ! (load ! (from ! (stop !)) (look ! 34 refl)) (and-then ! (load ! (from ! (fld ! refl (stop !))) (look-in ! 56 (sub ! 1 refl (whole !)))) (no-more !)))) (from ! (stop !)) (init ! 32 refl (tt, (tt, (record { fits = room₀ .0 }, tt)))) $
-        move ! (62 ∷ 63 ∷ 73 ∷ []) $ opens-slice ! tt T.the-row x₀ b₀ o₀ $ feqI ! ℕ (length x₀) (length x₀) refl $ fjoin ! $ lft-new ! tt (λ α₀. move ! (1 ∷ []) $
+        assigns ! (addr ! (from ! (fld ! refl (hop ! (look-in ! 62 (sub ! 0 refl (whole !))) (stop !))))) (from ! (stop !)) (init ! 38 refl (tt, tt)) $
+        assigns ! (agg ! (and-then ! (load ! (from ! (stop !)) (look ! 38 refl)) (and-then ! (load ! (from ! (fld ! refl (stop !))) (look-in ! 62 (sub ! 1 refl (whole !)))) (no-more !)))) (from ! (stop !)) (init ! 36 refl (tt, (tt, (record { fits = room₀ .0 }, tt)))) $
+        move ! (68 ∷ 69 ∷ 80 ∷ []) $ opens-slice ! tt T.the-row x₀ b₀ o₀ $ feqI ! ℕ (length x₀) (length x₀) refl $ fjoin ! $ lft-new ! tt (λ α₀. move ! (1 ∷ []) $
         use1 W (later (some (λ (δ₀ : GName). ‵ (ShrSlice (named 0) (α₀ ∷ []) T.the-row .own (lent δ₀) (s₀ ∷ [])) ⊛ ‵ (flent (α₀ ∷ []) (arr-parts (shares T.the-row) (length x₀) .part fullShare x₀ b₀ o₀))))) (lends-shr-slice 𝓤 H A W T.the-row (named 0) (α₀ ∷ []) fullShare x₀ b₀ o₀ room₀) $ await ! tt $ pick ! (λ δ₀.
         split ! $ nothing ! $ move ! (3 ∷ 0 ∷ []) $ join ! $ nothing ! $ move ! (2 ∷ 0 ∷ []) $ fjoin ! $ move ! (1 ∷ 0 ∷ []) $ use2 W (raw (Load 𝓤 H A at-mem run .pre (to-load α₀ δ₀))) (goes-load α₀ δ₀) $
-        calls-at ! fm (Load 𝓤 H A at-mem run) known-load (to-load α₀ δ₀) (and-then ! (load ! (from ! (stop !)) (look ! 37 refl)) (no-more !)) (λ w₀.
+        calls-at ! fm (Load 𝓤 H A at-mem run) known-load (to-load α₀ δ₀) (and-then ! (load ! (from ! (stop !)) (look ! 41 refl)) (no-more !)) (λ w₀.
         use1 W (later (some (λ (v : Rows). ((‵ (flft (α₀ ∷ []) fullShare) ⊛ ‵ ftrue) ⊛ ‵ (S.the-row .own v (w₀ ∷ []))) ⊛ raw (ensured 𝓤 H A load-fn.ended (load-fn.clauses 𝓤 H A at-mem run) ((α₀ ∷ []), tt) (args-load α₀ δ₀) tt v)))) (id⊢ 𝓤 _) $ await ! tt $ pick ! (λ v.
         split ! $ move ! (1 ∷ []) $
         use1 W (some (λ (ws₀ : Lasts load-fn.ended ((α₀ ∷ []), tt) (args-load α₀ δ₀)). ‵ (lasts load-fn.ended ((α₀ ∷ []), tt) (args-load α₀ δ₀) ws₀) ⊛ raw (fact 𝓤 (v ≡ loadedRows x₀)))) (id⊢ 𝓤 _) $ pick ! (λ ws₀. split ! $
         move ! (1 ∷ []) $ heard ! (v ≡ loadedRows x₀) (λ e₀. fsplit ! $ drop ! $ drop ! $ split ! $ move ! (1 ∷ []) $ peeks ! S.the-row (Is S.the-row) (shows 𝓤 H A S.the-row) v (w₀ ∷ []) (λ is₀.
-        land ! (from ! (stop !)) (init ! 44 refl (LL.lawful S.the-type S′.the-laws 𝓤 H A W .typed v _ is₀ .0)) $ drop ! $
-        rewrite ! 43 (λ (z : Val). ‵ (fat fullShare (spell mirs.table (pointee (S.the-row .written))) l₁₀ 0 z)) (ap only (LL.tells S.the-type S′.the-laws v _ is₀)) refl $ split ! $ move ! (1 ∷ []) $ drop ! $ lft-end ! tt $ lent-back ! tt $
+        land ! (from ! (stop !)) (init ! 48 refl (LL.lawful S.the-type S′.the-laws 𝓤 H A W .typed v _ is₀ .0)) $ drop ! $
+        rewrite ! 47 (λ (z : Val). ‵ (fat fullShare (spell mirs.table (pointee (S.the-row .written))) l₁₁ 0 z)) (ap only (LL.tells S.the-type S′.the-laws v _ is₀)) refl $ split ! $ move ! (1 ∷ []) $ drop ! $ lft-end ! tt $ lent-back ! tt $
         fsplit ! $ drop ! $ closes-slice ! tt T.the-row x₀ x₀ refl b₀ o₀ $
         -- the table is copied out
-        move ! (63 ∷ 64 ∷ 72 ∷ []) $ opens ! tt B.the-row {h = x₁} b₁ o₁ (λ vs. spelt ! B.the-row (Is B.the-row) (shows 𝓤 H A B.the-row) (LL.vals B.the-type B′.the-laws) (LL.tells B.the-type B′.the-laws) fullShare x₁ vs b₁ o₁ $
+        move ! (69 ∷ 70 ∷ 79 ∷ []) $ opens ! tt B.the-row {h = x₁} b₁ o₁ (λ vs. spelt ! B.the-row (Is B.the-row) (shows 𝓤 H A B.the-row) (LL.vals B.the-type B′.the-laws) (LL.tells B.the-type B′.the-laws) fullShare x₁ vs b₁ o₁ $
         move ! (1 ∷ []) $ peeks ! B.the-row (Is B.the-row) (shows 𝓤 H A B.the-row) x₁ (val-B x₁ ∷ []) (λ g₁. drop ! $
-        assigns ! (of-opd ! (load ! (from ! (hop ! (look ! 61 refl) (stop !))) (look-raw ! 0 refl))) (from ! (stop !)) (init ! 37 refl (LL.lawful B.the-type B′.the-laws 𝓤 H A W .typed x₁ _ g₁ .0)) $
-        assigns ! (addr ! (from ! (fld ! refl (hop ! (look-in ! 59 (sub ! 0 refl (whole !))) (stop !))))) (from ! (stop !)) (init ! 35 refl (tt, tt)) $
-        assigns ! (agg ! (and-then ! (load ! (from ! (stop !)) (look ! 35 refl)) (and-then ! (load ! (from ! (fld ! refl (stop !))) (look-in ! 59 (sub ! 1 refl (whole !)))) (no-more !)))) (from ! (stop !)) (init ! 33 refl (tt, (tt, (record { fits = room₂ .0 }, tt)))) $
-        assigns ! (addr ! (from ! (fld ! refl (hop ! (look-in ! 57 (sub ! 0 refl (whole !))) (stop !))))) (from ! (stop !)) (init ! 31 refl (tt, tt)) $
-        assigns ! (agg ! (and-then ! (load ! (from ! (stop !)) (look ! 31 refl)) (and-then ! (load ! (from ! (fld ! refl (stop !))) (look-in ! 57 (sub ! 1 refl (whole !)))) (no-more !)))) (from ! (stop !)) (init ! 29 refl (tt, (tt, (record { fits = room₃ .0 }, tt)))) $
-        assigns ! (addr ! (from ! (fld ! refl (hop ! (look-in ! 55 (sub ! 0 refl (whole !))) (stop !))))) (from ! (stop !)) (init ! 27 refl (tt, tt)) $
-        assigns ! (agg ! (and-then ! (load ! (from ! (stop !)) (look ! 27 refl)) (and-then ! (load ! (from ! (fld ! refl (stop !))) (look-in ! 55 (sub ! 1 refl (whole !)))) (no-more !)))) (from ! (stop !)) (init ! 25 refl (tt, (tt, (record { fits = room₄ .0 }, tt)))) $
-        assigns ! (addr ! (from ! (fld ! refl (hop ! (look-in ! 53 (sub ! 0 refl (whole !))) (stop !))))) (from ! (stop !)) (init ! 23 refl (tt, tt)) $
-        assigns ! (agg ! (and-then ! (load ! (from ! (stop !)) (look ! 23 refl)) (and-then ! (load ! (from ! (fld ! refl (stop !))) (look-in ! 53 (sub ! 1 refl (whole !)))) (no-more !)))) (from ! (stop !)) (init ! 21 refl (tt, (tt, (record { fits = room₅ .0 }, tt)))) $
-        assigns ! (addr ! (from ! (fld ! refl (hop ! (look-in ! 51 (sub ! 0 refl (whole !))) (stop !))))) (from ! (stop !)) (init ! 19 refl (tt, tt)) $
-        assigns ! (agg ! (and-then ! (load ! (from ! (stop !)) (look ! 19 refl)) (and-then ! (load ! (from ! (fld ! refl (stop !))) (look-in ! 51 (sub ! 1 refl (whole !)))) (no-more !)))) (from ! (stop !)) (init ! 17 refl (tt, (tt, (record { fits = room₆ .0 }, tt)))) $
-        assigns ! (addr ! (from ! (fld ! refl (hop ! (look-in ! 49 (sub ! 0 refl (whole !))) (stop !))))) (from ! (stop !)) (init ! 15 refl (tt, tt)) $
-        assigns ! (agg ! (and-then ! (load ! (from ! (stop !)) (look ! 15 refl)) (and-then ! (load ! (from ! (fld ! refl (stop !))) (look-in ! 49 (sub ! 1 refl (whole !)))) (no-more !)))) (from ! (stop !)) (init ! 13 refl (tt, (tt, (record { fits = room₇ .0 }, tt)))) $
+        assigns ! (of-opd ! (load ! (from ! (hop ! (look ! 67 refl) (stop !))) (look-raw ! 0 refl))) (from ! (stop !)) (init ! 41 refl (LL.lawful B.the-type B′.the-laws 𝓤 H A W .typed x₁ _ g₁ .0)) $
+        assigns ! (addr ! (from ! (fld ! refl (hop ! (look-in ! 65 (sub ! 0 refl (whole !))) (stop !))))) (from ! (stop !)) (init ! 39 refl (tt, tt)) $
+        assigns ! (agg ! (and-then ! (load ! (from ! (stop !)) (look ! 39 refl)) (and-then ! (load ! (from ! (fld ! refl (stop !))) (look-in ! 65 (sub ! 1 refl (whole !)))) (no-more !)))) (from ! (stop !)) (init ! 37 refl (tt, (tt, (record { fits = room₂ .0 }, tt)))) $
+        assigns ! (addr ! (from ! (fld ! refl (hop ! (look-in ! 63 (sub ! 0 refl (whole !))) (stop !))))) (from ! (stop !)) (init ! 35 refl (tt, tt)) $
+        assigns ! (agg ! (and-then ! (load ! (from ! (stop !)) (look ! 35 refl)) (and-then ! (load ! (from ! (fld ! refl (stop !))) (look-in ! 63 (sub ! 1 refl (whole !)))) (no-more !)))) (from ! (stop !)) (init ! 33 refl (tt, (tt, (record { fits = room₃ .0 }, tt)))) $
+        assigns ! (addr ! (from ! (fld ! refl (hop ! (look-in ! 61 (sub ! 0 refl (whole !))) (stop !))))) (from ! (stop !)) (init ! 31 refl (tt, tt)) $
+        assigns ! (agg ! (and-then ! (load ! (from ! (stop !)) (look ! 31 refl)) (and-then ! (load ! (from ! (fld ! refl (stop !))) (look-in ! 61 (sub ! 1 refl (whole !)))) (no-more !)))) (from ! (stop !)) (init ! 29 refl (tt, (tt, (record { fits = room₄ .0 }, tt)))) $
+        assigns ! (addr ! (from ! (fld ! refl (hop ! (look-in ! 59 (sub ! 0 refl (whole !))) (stop !))))) (from ! (stop !)) (init ! 27 refl (tt, tt)) $
+        assigns ! (agg ! (and-then ! (load ! (from ! (stop !)) (look ! 27 refl)) (and-then ! (load ! (from ! (fld ! refl (stop !))) (look-in ! 59 (sub ! 1 refl (whole !)))) (no-more !)))) (from ! (stop !)) (init ! 25 refl (tt, (tt, (record { fits = room₅ .0 }, tt)))) $
+        assigns ! (addr ! (from ! (fld ! refl (hop ! (look-in ! 57 (sub ! 0 refl (whole !))) (stop !))))) (from ! (stop !)) (init ! 23 refl (tt, tt)) $
+        assigns ! (agg ! (and-then ! (load ! (from ! (stop !)) (look ! 23 refl)) (and-then ! (load ! (from ! (fld ! refl (stop !))) (look-in ! 57 (sub ! 1 refl (whole !)))) (no-more !)))) (from ! (stop !)) (init ! 21 refl (tt, (tt, (record { fits = room₆ .0 }, tt)))) $
+        assigns ! (addr ! (from ! (fld ! refl (hop ! (look-in ! 55 (sub ! 0 refl (whole !))) (stop !))))) (from ! (stop !)) (init ! 19 refl (tt, tt)) $
+        assigns ! (agg ! (and-then ! (load ! (from ! (stop !)) (look ! 19 refl)) (and-then ! (load ! (from ! (fld ! refl (stop !))) (look-in ! 55 (sub ! 1 refl (whole !)))) (no-more !)))) (from ! (stop !)) (init ! 17 refl (tt, (tt, (record { fits = room₇ .0 }, tt)))) $
+        assigns ! (addr ! (from ! (fld ! refl (hop ! (look-in ! 53 (sub ! 0 refl (whole !))) (stop !))))) (from ! (stop !)) (init ! 15 refl (tt, tt)) $
+        assigns ! (agg ! (and-then ! (load ! (from ! (stop !)) (look ! 15 refl)) (and-then ! (load ! (from ! (fld ! refl (stop !))) (look-in ! 53 (sub ! 1 refl (whole !)))) (no-more !)))) (from ! (stop !)) (init ! 13 refl (tt, (tt, (record { fits = room₈ .0 }, tt)))) $
         -- the call with rows and table by value
-        nothing ! $ move ! (68 ∷ 0 ∷ []) $ fjoin ! $ move ! (68 ∷ 0 ∷ []) $ fjoin ! $ move ! (68 ∷ 0 ∷ []) $ fjoin ! $ move ! (68 ∷ 0 ∷ []) $ fjoin ! $ move ! (68 ∷ 0 ∷ []) $ fjoin ! $ move ! (68 ∷ 0 ∷ []) $ fjoin ! $
-        move ! (68 ∷ 0 ∷ []) $ fjoin ! $ owned ! B.the-row (Is B.the-row) (LL.makes B.the-type B′.the-plain 𝓤 H A) x₁ _ g₁ $ fjoin ! $ owned ! S.the-row (Is S.the-row) (LL.makes S.the-type S′.the-plain 𝓤 H A) v _ (spelled-S v w₀ is₀) $
-        fjoin ! $ move ! (68 ∷ 0 ∷ []) $ use2 W (raw (Core 𝓤 H A at-mem run .pre (to-core v))) (goes-core v) $
-        calls-at ! fm (Core 𝓤 H A at-mem run) known-core (to-core v) (and-then ! (load ! (from ! (stop !)) (look ! 46 refl)) (and-then ! (load ! (from ! (stop !)) (look ! 38 refl)) (and-then ! (load ! (from ! (stop !)) (look ! 34 refl)) (and-then ! (load ! (from ! (stop !)) (look ! 30 refl)) (and-then ! (load ! (from ! (stop !)) (look ! 26 refl)) (and-then ! (load ! (from ! (stop !)) (look ! 22 refl)) (and-then ! (load ! (from ! (stop !)) (look ! 18 refl)) (and-then ! (load ! (from ! (stop !)) (look ! 14 refl)) (and-then ! (load ! (from ! (stop !)) (look ! 48 refl)) (no-more !)))))))))) (λ w₁.
-        use1 W (later (some (λ (r : AfterRead). ((‵ (flft κ₂ q₂) ⊛ (‵ (flft κ₃ q₃) ⊛ (‵ (flft κ₄ q₄) ⊛ (‵ (flft κ₅ q₅) ⊛ (‵ (flft κ₆ q₆) ⊛ (‵ (flft κ₇ q₇) ⊛ (‵ (flft κ₈ q₈) ⊛ ‵ ftrue))))))) ⊛ ‵ (O.the-row .own r (w₁ ∷ []))) ⊛ raw (ensured 𝓤 H A core-fn.ended (core-fn.clauses 𝓤 H A at-mem run) (κ₂, (κ₃, (κ₄, (κ₅, (κ₆, (κ₇, (κ₈, tt))))))) (args-core v) tt r)))) (id⊢ 𝓤 _) $ await ! tt $ pick ! (λ r.
+        nothing ! $ move ! (74 ∷ 0 ∷ []) $ fjoin ! $ move ! (74 ∷ 0 ∷ []) $ fjoin ! $ move ! (74 ∷ 0 ∷ []) $ fjoin ! $ move ! (74 ∷ 0 ∷ []) $ fjoin ! $ move ! (74 ∷ 0 ∷ []) $ fjoin ! $ move ! (74 ∷ 0 ∷ []) $ fjoin ! $
+        move ! (74 ∷ 0 ∷ []) $ fjoin ! $ move ! (74 ∷ 0 ∷ []) $ fjoin ! $ owned ! B.the-row (Is B.the-row) (LL.makes B.the-type B′.the-plain 𝓤 H A) x₁ _ g₁ $ fjoin ! $
+        owned ! S.the-row (Is S.the-row) (LL.makes S.the-type S′.the-plain 𝓤 H A) v _ (spelled-S v w₀ is₀) $ fjoin ! $ move ! (74 ∷ 0 ∷ []) $ use2 W (raw (Core 𝓤 H A at-mem run .pre (to-core v))) (goes-core v) $
+        calls-at ! fm (Core 𝓤 H A at-mem run) known-core (to-core v) (and-then ! (load ! (from ! (stop !)) (look ! 50 refl)) (and-then ! (load ! (from ! (stop !)) (look ! 42 refl)) (and-then ! (load ! (from ! (stop !)) (look ! 38 refl)) (and-then ! (load ! (from ! (stop !)) (look ! 34 refl)) (and-then ! (load ! (from ! (stop !)) (look ! 30 refl)) (and-then ! (load ! (from ! (stop !)) (look ! 26 refl)) (and-then ! (load ! (from ! (stop !)) (look ! 22 refl)) (and-then ! (load ! (from ! (stop !)) (look ! 18 refl)) (and-then ! (load ! (from ! (stop !)) (look ! 14 refl)) (and-then ! (load ! (from ! (stop !)) (look ! 52 refl)) (no-more !))))))))))) (λ w₁.
+        use1 W (later (some (λ (r : AfterRead). ((‵ (flft κ₂ q₂) ⊛ (‵ (flft κ₃ q₃) ⊛ (‵ (flft κ₄ q₄) ⊛ (‵ (flft κ₅ q₅) ⊛ (‵ (flft κ₆ q₆) ⊛ (‵ (flft κ₇ q₇) ⊛ (‵ (flft κ₈ q₈) ⊛ (‵ (flft κ₉ q₉) ⊛ ‵ ftrue)))))))) ⊛ ‵ (O.the-row .own r (w₁ ∷ []))) ⊛ raw (ensured 𝓤 H A core-fn.ended (core-fn.clauses 𝓤 H A at-mem run) (κ₂, (κ₃, (κ₄, (κ₅, (κ₆, (κ₇, (κ₈, (κ₉, tt)))))))) (args-core v) tt r)))) (id⊢ 𝓤 _) $ await ! tt $ pick ! (λ r.
         split ! $ move ! (1 ∷ []) $
-        use1 W (some (λ (ws₁ : Lasts core-fn.ended (κ₂, (κ₃, (κ₄, (κ₅, (κ₆, (κ₇, (κ₈, tt))))))) (args-core v)). ‵ (lasts core-fn.ended (κ₂, (κ₃, (κ₄, (κ₅, (κ₆, (κ₇, (κ₈, tt))))))) (args-core v) ws₁) ⊛ raw (fact 𝓤 (ReadPromise (lentBuffers (heldRows v) x₁ x₂ x₃ x₄ x₅ x₆ x₇) x₈ (r .answer) (lentBuffers (heldRows (r .rows)) (r .table) (ws₁ .1 .1 .0) (ws₁ .1 .1 .1 .0) (ws₁ .1 .1 .1 .1 .0) (ws₁ .1 .1 .1 .1 .1 .0) (ws₁ .1 .1 .1 .1 .1 .1 .0) (ws₁ .1 .1 .1 .1 .1 .1 .1 .0)) × SamePlaces v (r .rows))))) (id⊢ 𝓤 _) $ pick ! (λ ws₁.
+        use1 W (some (λ (ws₁ : Lasts core-fn.ended (κ₂, (κ₃, (κ₄, (κ₅, (κ₆, (κ₇, (κ₈, (κ₉, tt)))))))) (args-core v)). ‵ (lasts core-fn.ended (κ₂, (κ₃, (κ₄, (κ₅, (κ₆, (κ₇, (κ₈, (κ₉, tt)))))))) (args-core v) ws₁) ⊛ raw (fact 𝓤 (ReadPromise (lentBuffers (heldRows v) x₁ x₂ x₃ x₄ x₅ x₆ x₇ x₈) x₉ (r .answer) (lentBuffers (heldRows (r .rows)) (r .table) (ws₁ .1 .1 .0) (ws₁ .1 .1 .1 .0) (ws₁ .1 .1 .1 .1 .0) (ws₁ .1 .1 .1 .1 .1 .0) (ws₁ .1 .1 .1 .1 .1 .1 .0) (ws₁ .1 .1 .1 .1 .1 .1 .1 .0) (ws₁ .1 .1 .1 .1 .1 .1 .1 .1 .0)) × SamePlaces v (r .rows))))) (id⊢ 𝓤 _) $ pick ! (λ ws₁.
         split ! $ move ! (1 ∷ []) $
-        heard ! (ReadPromise (lentBuffers (heldRows v) x₁ x₂ x₃ x₄ x₅ x₆ x₇) x₈ (r .answer) (lentBuffers (heldRows (r .rows)) (r .table) (ws₁ .1 .1 .0) (ws₁ .1 .1 .1 .0) (ws₁ .1 .1 .1 .1 .0) (ws₁ .1 .1 .1 .1 .1 .0) (ws₁ .1 .1 .1 .1 .1 .1 .0) (ws₁ .1 .1 .1 .1 .1 .1 .1 .0)) × SamePlaces v (r .rows)) (λ e₁.
+        heard ! (ReadPromise (lentBuffers (heldRows v) x₁ x₂ x₃ x₄ x₅ x₆ x₇ x₈) x₉ (r .answer) (lentBuffers (heldRows (r .rows)) (r .table) (ws₁ .1 .1 .0) (ws₁ .1 .1 .1 .0) (ws₁ .1 .1 .1 .1 .0) (ws₁ .1 .1 .1 .1 .1 .0) (ws₁ .1 .1 .1 .1 .1 .1 .0) (ws₁ .1 .1 .1 .1 .1 .1 .1 .0) (ws₁ .1 .1 .1 .1 .1 .1 .1 .1 .0)) × SamePlaces v (r .rows)) (λ e₁.
         fsplit ! $ drop ! $ fsplit ! $ drop ! $ fsplit ! $ fsplit ! $ move ! (1 ∷ []) $ feqL ! (λ n₁·2. move ! (1 ∷ []) $ fsplit ! $ fsplit ! $ move ! (1 ∷ []) $ feqL ! (λ n₁·3. move ! (1 ∷ []) $ fsplit ! $ fsplit ! $ move ! (1 ∷ []) $
         feqL ! (λ n₁·4. move ! (1 ∷ []) $ fsplit ! $ fsplit ! $ move ! (1 ∷ []) $ feqL ! (λ n₁·5. move ! (1 ∷ []) $ fsplit ! $ fsplit ! $ move ! (1 ∷ []) $ feqL ! (λ n₁·6. move ! (1 ∷ []) $ fsplit ! $ fsplit ! $ move ! (1 ∷ []) $
-        feqL ! (λ n₁·7. move ! (1 ∷ []) $ fsplit ! $ drop ! $ drop ! $ move ! (6 ∷ []) $ split ! $ move ! (1 ∷ []) $ peeks ! O.the-row (Is O.the-row) (shows 𝓤 H A O.the-row) r (w₁ ∷ []) (λ is₁.
-        land ! (from ! (stop !)) (init ! 51 refl (LL.lawful O.the-type O′.the-laws 𝓤 H A W .typed r _ is₁ .0)) $ drop ! $
-        rewrite ! 50 (λ (z : Val). ‵ (fat fullShare (spell mirs.table (pointee (O.the-row .written))) l₁₁ 0 z)) (ap only (LL.tells O.the-type O′.the-laws r _ is₁)) refl $
+        feqL ! (λ n₁·7. move ! (1 ∷ []) $ fsplit ! $ fsplit ! $ move ! (1 ∷ []) $ feqL ! (λ n₁·8. move ! (1 ∷ []) $ fsplit ! $ drop ! $ drop ! $ move ! (7 ∷ []) $ split ! $ move ! (1 ∷ []) $
+        peeks ! O.the-row (Is O.the-row) (shows 𝓤 H A O.the-row) r (w₁ ∷ []) (λ is₁. land ! (from ! (stop !)) (init ! 56 refl (LL.lawful O.the-type O′.the-laws 𝓤 H A W .typed r _ is₁ .0)) $ drop ! $
+        rewrite ! 55 (λ (z : Val). ‵ (fat fullShare (spell mirs.table (pointee (O.the-row .written))) l₁₂ 0 z)) (ap only (LL.tells O.the-type O′.the-laws r _ is₁)) refl $
         -- the table is stored back
-        assigns ! (of-opd ! (load ! (from ! (fld ! refl (stop !))) (look-in ! 50 (sub ! 1 refl (whole !))))) (from ! (hop ! (look ! 68 refl) (stop !))) (store-raw ! 7 refl (LL.lawful B.the-type B′.the-laws 𝓤 H A W .typed (r .table) _ (parts r w₁ is₁ .1 .0) .0)) $
-        owned ! B.the-row (Is B.the-row) (LL.makes B.the-type B′.the-plain 𝓤 H A) (r .table) _ (parts r w₁ is₁ .1 .0) $ move ! (8 ∷ 0 ∷ 9 ∷ 10 ∷ 11 ∷ []) $ closes ! tt B.the-row (r .table) (val-B (r .table) ∷ []) b₁ o₁ $
+        assigns ! (of-opd ! (load ! (from ! (fld ! refl (stop !))) (look-in ! 55 (sub ! 1 refl (whole !))))) (from ! (hop ! (look ! 75 refl) (stop !))) (store-raw ! 8 refl (LL.lawful B.the-type B′.the-laws 𝓤 H A W .typed (r .table) _ (parts r w₁ is₁ .1 .0) .0)) $
+        owned ! B.the-row (Is B.the-row) (LL.makes B.the-type B′.the-plain 𝓤 H A) (r .table) _ (parts r w₁ is₁ .1 .0) $ move ! (9 ∷ 0 ∷ 10 ∷ 11 ∷ 12 ∷ []) $ closes ! tt B.the-row (r .table) (val-B (r .table) ∷ []) b₁ o₁ $
         -- the rows are stored back
-        assigns ! (addr ! (from ! (fld ! refl (hop ! (look-in ! 69 (sub ! 0 refl (whole !))) (stop !))))) (from ! (stop !)) (init ! 15 refl (tt, tt)) $
-        assigns ! (agg ! (and-then ! (load ! (from ! (stop !)) (look ! 15 refl)) (and-then ! (load ! (from ! (fld ! refl (stop !))) (look-in ! 69 (sub ! 1 refl (whole !)))) (no-more !)))) (from ! (stop !)) (init ! 13 refl (tt, (tt, (record { fits = room₀ .0 }, tt)))) $
-        move ! (10 ∷ 11 ∷ []) $ fjoin ! $ pureI ! (at-slice T.the-row y₀ (s₀ ∷ [])) (tt, (tt, tt)) (refl, room₀) $ fjoin ! $ nothing ! $ move ! (12 ∷ 0 ∷ []) $ join ! $ nothing ! $
+        assigns ! (addr ! (from ! (fld ! refl (hop ! (look-in ! 76 (sub ! 0 refl (whole !))) (stop !))))) (from ! (stop !)) (init ! 16 refl (tt, tt)) $
+        assigns ! (agg ! (and-then ! (load ! (from ! (stop !)) (look ! 16 refl)) (and-then ! (load ! (from ! (fld ! refl (stop !))) (look-in ! 76 (sub ! 1 refl (whole !)))) (no-more !)))) (from ! (stop !)) (init ! 14 refl (tt, (tt, (record { fits = room₀ .0 }, tt)))) $
+        move ! (11 ∷ 12 ∷ []) $ fjoin ! $ pureI ! (at-slice T.the-row y₀ (s₀ ∷ [])) (tt, (tt, tt)) (refl, room₀) $ fjoin ! $ nothing ! $ move ! (13 ∷ 0 ∷ []) $ join ! $ nothing ! $
         owned ! S.the-row (Is S.the-row) (LL.makes S.the-type S′.the-plain 𝓤 H A) (r .rows) _ (parts r w₁ is₁ .0) $ fjoin ! $ move ! (2 ∷ 0 ∷ []) $ fjoin ! $ move ! (1 ∷ 0 ∷ []) $
         use2 W (raw (Store 𝓤 H A at-mem run .pre (to-store r))) (goes-store r) $
-        calls-at ! fm (Store 𝓤 H A at-mem run) known-store (to-store r) (and-then ! (load ! (from ! (stop !)) (look ! 11 refl)) (and-then ! (load ! (from ! (fld ! refl (stop !))) (look-in ! 47 (sub ! 0 refl (whole !)))) (no-more !))) (λ w₂.
+        calls-at ! fm (Store 𝓤 H A at-mem run) known-store (to-store r) (and-then ! (load ! (from ! (stop !)) (look ! 12 refl)) (and-then ! (load ! (from ! (fld ! refl (stop !))) (look-in ! 52 (sub ! 0 refl (whole !)))) (no-more !))) (λ w₂.
         use1 W (later (some (λ (u : Unit {0}). ((‵ (flft κ₀ q₀) ⊛ ‵ ftrue) ⊛ ‵ (Nothing .own u (w₂ ∷ []))) ⊛ raw (ensured 𝓤 H A store-fn.ended (store-fn.clauses 𝓤 H A at-mem run) (κ₀, tt) (args-store r) tt u)))) (id⊢ 𝓤 _) $ await ! tt $ pick ! (λ u.
         split ! $ move ! (1 ∷ []) $ use1 W (some (λ (ws₂ : Lasts store-fn.ended (κ₀, tt) (args-store r)). ‵ (lasts store-fn.ended (κ₀, tt) (args-store r) ws₂) ⊛ raw (fact 𝓤 ((ws₂ .0) ≡ storedRows x₀ (r .rows))))) (id⊢ 𝓤 _) $ pick ! (λ ws₂.
         split ! $ move ! (1 ∷ []) $ heard ! ((ws₂ .0) ≡ storedRows x₀ (r .rows)) (λ e₂. fsplit ! $ fsplit ! $ move ! (1 ∷ []) $ feqL ! (λ n₂·0. move ! (1 ∷ []) $ fsplit ! $ drop ! $ drop ! $ move ! (1 ∷ []) $ split ! $ move ! (1 ∷ []) $
-        peeks ! Nothing (Is Nothing) (shows 𝓤 H A Nothing) u (w₂ ∷ []) (λ is₂. land ! (from ! (stop !)) (init ! 17 refl (nothing-lawful 𝓤 H A W .typed u _ is₂ .0)) $ drop ! $ split ! $ move ! (1 ∷ []) $ drop ! $
-        assigns ! (of-opd ! (load ! (from ! (fld ! refl (stop !))) (look-in ! 48 (sub ! 2 refl (whole !))))) (from ! (stop !)) (init ! 70 refl (EL.lawful N.the-type N′.the-laws 𝓤 H A W tt .typed (r .answer) _ (parts r w₁ is₁ .1 .1 .0) .0)) $
-        returns ! (look ! 70 refl) $ forget ! 12 refl $ forget ! 14 refl $ forget ! 16 refl $ forget ! 18 refl $ forget ! 20 refl $ forget ! 22 refl $ forget ! 24 refl $ forget ! 26 refl $ forget ! 28 refl $ forget ! 30 refl $
-        forget ! 32 refl $ forget ! 34 refl $ forget ! 36 refl $ forget ! 38 refl $ forget ! 40 refl $ forget ! 42 refl $ forget ! 44 refl $ forget ! 46 refl $ forget ! 48 refl $ forget ! 50 refl $ forget ! 52 refl $ forget ! 54 refl $
-        forget ! 56 refl $ forget ! 58 refl $ forget ! 60 refl $ forget ! 62 refl $ forget ! 64 refl $ forget ! 66 refl $ forget ! 68 refl $ forget ! 70 refl $ move ! (70 ∷ 71 ∷ []) $ free1 ! $ move ! (68 ∷ 69 ∷ []) $ free1 ! $
-        move ! (66 ∷ 67 ∷ []) $ free1 ! $ move ! (64 ∷ 65 ∷ []) $ free1 ! $ move ! (62 ∷ 63 ∷ []) $ free1 ! $ move ! (60 ∷ 61 ∷ []) $ free1 ! $ move ! (58 ∷ 59 ∷ []) $ free1 ! $ move ! (56 ∷ 57 ∷ []) $ free1 ! $ move ! (54 ∷ 55 ∷ []) $
-        free1 ! $ move ! (52 ∷ 53 ∷ []) $ free1 ! $ move ! (50 ∷ 51 ∷ []) $ free1 ! $ move ! (48 ∷ 49 ∷ []) $ free1 ! $ move ! (46 ∷ 47 ∷ []) $ free1 ! $ move ! (44 ∷ 45 ∷ []) $ free1 ! $ move ! (42 ∷ 43 ∷ []) $ free1 ! $
-        move ! (40 ∷ 41 ∷ []) $ free1 ! $ move ! (38 ∷ 39 ∷ []) $ free1 ! $ move ! (36 ∷ 37 ∷ []) $ free1 ! $ move ! (34 ∷ 35 ∷ []) $ free1 ! $ move ! (32 ∷ 33 ∷ []) $ free1 ! $ move ! (30 ∷ 31 ∷ []) $ free1 ! $ move ! (28 ∷ 29 ∷ []) $
-        free1 ! $ move ! (26 ∷ 27 ∷ []) $ free1 ! $ move ! (24 ∷ 25 ∷ []) $ free1 ! $ move ! (22 ∷ 23 ∷ []) $ free1 ! $ move ! (20 ∷ 21 ∷ []) $ free1 ! $ move ! (18 ∷ 19 ∷ []) $ free1 ! $ move ! (16 ∷ 17 ∷ []) $ free1 ! $
-        move ! (14 ∷ 15 ∷ []) $ free1 ! $ move ! (12 ∷ 13 ∷ []) $ free1 ! $ free0 ! $ keep ! (0 ∷ 4 ∷ 5 ∷ 2 ∷ 3 ∷ 1 ∷ 11 ∷ 10 ∷ 9 ∷ 8 ∷ 7 ∷ 6 ∷ []) $
-        by ! (exits v r (ws₂ .0) (ws₁ .1 .1 .0) (ws₁ .1 .1 .1 .0) (ws₁ .1 .1 .1 .1 .0) (ws₁ .1 .1 .1 .1 .1 .0) (ws₁ .1 .1 .1 .1 .1 .1 .0) (ws₁ .1 .1 .1 .1 .1 .1 .1 .0) (parts r w₁ is₁) e₀ e₁ e₂ n₂·0 n₁·2 n₁·3 n₁·4 n₁·5 n₁·6 n₁·7)))))))))))))))))))))))))))))))))))))))))))))))))))))))))
+        peeks ! Nothing (Is Nothing) (shows 𝓤 H A Nothing) u (w₂ ∷ []) (λ is₂. land ! (from ! (stop !)) (init ! 18 refl (nothing-lawful 𝓤 H A W .typed u _ is₂ .0)) $ drop ! $ split ! $ move ! (1 ∷ []) $ drop ! $
+        assigns ! (of-opd ! (load ! (from ! (fld ! refl (stop !))) (look-in ! 53 (sub ! 2 refl (whole !))))) (from ! (stop !)) (init ! 77 refl (EL.lawful N.the-type N′.the-laws 𝓤 H A W tt .typed (r .answer) _ (parts r w₁ is₁ .1 .1 .0) .0)) $
+        returns ! (look ! 77 refl) $ forget ! 13 refl $ forget ! 15 refl $ forget ! 17 refl $ forget ! 19 refl $ forget ! 21 refl $ forget ! 23 refl $ forget ! 25 refl $ forget ! 27 refl $ forget ! 29 refl $ forget ! 31 refl $
+        forget ! 33 refl $ forget ! 35 refl $ forget ! 37 refl $ forget ! 39 refl $ forget ! 41 refl $ forget ! 43 refl $ forget ! 45 refl $ forget ! 47 refl $ forget ! 49 refl $ forget ! 51 refl $ forget ! 53 refl $ forget ! 55 refl $
+        forget ! 57 refl $ forget ! 59 refl $ forget ! 61 refl $ forget ! 63 refl $ forget ! 65 refl $ forget ! 67 refl $ forget ! 69 refl $ forget ! 71 refl $ forget ! 73 refl $ forget ! 75 refl $ forget ! 77 refl $
+        move ! (77 ∷ 78 ∷ []) $ free1 ! $ move ! (75 ∷ 76 ∷ []) $ free1 ! $ move ! (73 ∷ 74 ∷ []) $ free1 ! $ move ! (71 ∷ 72 ∷ []) $ free1 ! $ move ! (69 ∷ 70 ∷ []) $ free1 ! $ move ! (67 ∷ 68 ∷ []) $ free1 ! $ move ! (65 ∷ 66 ∷ []) $
+        free1 ! $ move ! (63 ∷ 64 ∷ []) $ free1 ! $ move ! (61 ∷ 62 ∷ []) $ free1 ! $ move ! (59 ∷ 60 ∷ []) $ free1 ! $ move ! (57 ∷ 58 ∷ []) $ free1 ! $ move ! (55 ∷ 56 ∷ []) $ free1 ! $ move ! (53 ∷ 54 ∷ []) $ free1 ! $
+        move ! (51 ∷ 52 ∷ []) $ free1 ! $ move ! (49 ∷ 50 ∷ []) $ free1 ! $ move ! (47 ∷ 48 ∷ []) $ free1 ! $ move ! (45 ∷ 46 ∷ []) $ free1 ! $ move ! (43 ∷ 44 ∷ []) $ free1 ! $ move ! (41 ∷ 42 ∷ []) $ free1 ! $ move ! (39 ∷ 40 ∷ []) $
+        free1 ! $ move ! (37 ∷ 38 ∷ []) $ free1 ! $ move ! (35 ∷ 36 ∷ []) $ free1 ! $ move ! (33 ∷ 34 ∷ []) $ free1 ! $ move ! (31 ∷ 32 ∷ []) $ free1 ! $ move ! (29 ∷ 30 ∷ []) $ free1 ! $ move ! (27 ∷ 28 ∷ []) $ free1 ! $
+        move ! (25 ∷ 26 ∷ []) $ free1 ! $ move ! (23 ∷ 24 ∷ []) $ free1 ! $ move ! (21 ∷ 22 ∷ []) $ free1 ! $ move ! (19 ∷ 20 ∷ []) $ free1 ! $ move ! (17 ∷ 18 ∷ []) $ free1 ! $ move ! (15 ∷ 16 ∷ []) $ free1 ! $ move ! (13 ∷ 14 ∷ []) $
+        free1 ! $ free0 ! $ keep ! (0 ∷ 4 ∷ 5 ∷ 2 ∷ 3 ∷ 1 ∷ 12 ∷ 11 ∷ 10 ∷ 9 ∷ 8 ∷ 7 ∷ 6 ∷ []) $
+        by ! (exits v r (ws₂ .0) (ws₁ .1 .1 .0) (ws₁ .1 .1 .1 .0) (ws₁ .1 .1 .1 .1 .0) (ws₁ .1 .1 .1 .1 .1 .0) (ws₁ .1 .1 .1 .1 .1 .1 .0) (ws₁ .1 .1 .1 .1 .1 .1 .1 .0) (ws₁ .1 .1 .1 .1 .1 .1 .1 .1 .0) (parts r w₁ is₁) e₀ e₁ e₂ n₂·0 n₁·2 n₁·3 n₁·4 n₁·5 n₁·6 n₁·7 n₁·8)))))))))))))))))))))))))))))))))))))))))))))))))))))))))))))
 
 module _ {M : Type 1} (𝓤 : URA M) (H : Heap 𝓤) (A : Atoms 𝓤) (W : Given 𝓤 H A) (at-mem : Memory → SProp 𝓤) (run : Routine → Fun 𝓤) where
   read-walks : (C : Calls 𝓤 H) (Λ : Loops 𝓤 H) → FmC 𝓤 H (W .laws) C → Triple 𝓤 (C #hep·load-rows) (Load 𝓤 H A at-mem run) → Triple 𝓤 (C #image-read·read) (Core 𝓤 H A at-mem run) → Triple 𝓤 (C #hep·store-rows) (Store 𝓤 H A at-mem run) → Walks 𝓤 H A read′.ended stayed (WpFn 𝓤 H C Λ code.function) (read′.clauses 𝓤 H A at-mem run)
   read-walks C Λ fm known-load known-core known-store = walked 𝓤 H A read′.ended stayed (read′.clauses 𝓤 H A at-mem run) (WpFn 𝓤 H C Λ code.function)
-      (λ κs. (slice-vals, (ptr-vals, (slice-vals, (slice-vals, (slice-vals, (slice-vals, (slice-vals, (slice-vals, (slice-vals, tt))))))))))
-      (λ κs. (mut-slice-tells (named 0) (κs .0) T.the-row, (mut-tells (named 1) (κs .1 .0) B.the-row, (mut-slice-tells (named 2) (κs .1 .1 .0) u64, (mut-slice-tells (named 3) (κs .1 .1 .1 .0) u8, (mut-slice-tells (named 4) (κs .1 .1 .1 .1 .0) u64, (mut-slice-tells (named 5) (κs .1 .1 .1 .1 .1 .0) u64, (mut-slice-tells (named 6) (κs .1 .1 .1 .1 .1 .1 .0) u8, (mut-slice-tells (named 7) (κs .1 .1 .1 .1 .1 .1 .1 .0) u64, (shr-slice-tells (named 8) (κs .1 .1 .1 .1 .1 .1 .1 .1 .0) u8, tt))))))))))
-      (λ κs qs bounds a _ are. via 𝓤 _ (fst∗ 𝓤 _ (emp 𝓤)) (walk 𝓤 H A W at-mem run (κs .0) (κs .1 .0) (κs .1 .1 .0) (κs .1 .1 .1 .0) (κs .1 .1 .1 .1 .0) (κs .1 .1 .1 .1 .1 .0) (κs .1 .1 .1 .1 .1 .1 .0) (κs .1 .1 .1 .1 .1 .1 .1 .0) (κs .1 .1 .1 .1 .1 .1 .1 .1 .0) (qs .0) (qs .1 .0) (qs .1 .1 .0) (qs .1 .1 .1 .0) (qs .1 .1 .1 .1 .0) (qs .1 .1 .1 .1 .1 .0) (qs .1 .1 .1 .1 .1 .1 .0) (qs .1 .1 .1 .1 .1 .1 .1 .0) (qs .1 .1 .1 .1 .1 .1 .1 .1 .0)
-      (a .0 .ptr .0) (a .0 .ptr .1) (a .0 .name) (a .0 .now) (a .1 .0 .ptr .0) (a .1 .0 .ptr .1) (a .1 .0 .name) (a .1 .0 .now) (a .1 .1 .0 .ptr .0) (a .1 .1 .0 .ptr .1) (a .1 .1 .0 .name) (a .1 .1 .0 .now) (a .1 .1 .1 .0 .ptr .0) (a .1 .1 .1 .0 .ptr .1) (a .1 .1 .1 .0 .name) (a .1 .1 .1 .0 .now) (a .1 .1 .1 .1 .0 .ptr .0) (a .1 .1 .1 .1 .0 .ptr .1) (a .1 .1 .1 .1 .0 .name) (a .1 .1 .1 .1 .0 .now) (a .1 .1 .1 .1 .1 .0 .ptr .0) (a .1 .1 .1 .1 .1 .0 .ptr .1) (a .1 .1 .1 .1 .1 .0 .name) (a .1 .1 .1 .1 .1 .0 .now) (a .1 .1 .1 .1 .1 .1 .0 .ptr .0) (a .1 .1 .1 .1 .1 .1 .0 .ptr .1) (a .1 .1 .1 .1 .1 .1 .0 .name) (a .1 .1 .1 .1 .1 .1 .0 .now) (a .1 .1 .1 .1 .1 .1 .1 .0 .ptr .0) (a .1 .1 .1 .1 .1 .1 .1 .0 .ptr .1) (a .1 .1 .1 .1 .1 .1 .1 .0 .name) (a .1 .1 .1 .1 .1 .1 .1 .0 .now) (a .1 .1 .1 .1 .1 .1 .1 .1 .0 .ptr .0) (a .1 .1 .1 .1 .1 .1 .1 .1 .0 .ptr .1) (a .1 .1 .1 .1 .1 .1 .1 .1 .0 .name) (a .1 .1 .1 .1 .1 .1 .1 .1 .0 .now)
-      (are .0 .0 .1) (are .1 .1 .0 .0 .1) (are .1 .1 .1 .0 .0 .1) (are .1 .1 .1 .1 .0 .0 .1) (are .1 .1 .1 .1 .1 .0 .0 .1) (are .1 .1 .1 .1 .1 .1 .0 .0 .1) (are .1 .1 .1 .1 .1 .1 .1 .0 .0 .1) (are .1 .1 .1 .1 .1 .1 .1 .1 .0 .0 .1) C Λ fm known-load known-core known-store))
+      (λ κs. (slice-vals, (ptr-vals, (slice-vals, (slice-vals, (slice-vals, (slice-vals, (slice-vals, (slice-vals, (slice-vals, (slice-vals, tt)))))))))))
+      (λ κs. (mut-slice-tells (named 0) (κs .0) T.the-row, (mut-tells (named 1) (κs .1 .0) B.the-row, (mut-slice-tells (named 2) (κs .1 .1 .0) u8, (mut-slice-tells (named 3) (κs .1 .1 .1 .0) u64, (mut-slice-tells (named 4) (κs .1 .1 .1 .1 .0) u8, (mut-slice-tells (named 5) (κs .1 .1 .1 .1 .1 .0) u64, (mut-slice-tells (named 6) (κs .1 .1 .1 .1 .1 .1 .0) u64, (mut-slice-tells (named 7) (κs .1 .1 .1 .1 .1 .1 .1 .0) u8, (mut-slice-tells (named 8) (κs .1 .1 .1 .1 .1 .1 .1 .1 .0) u64, (shr-slice-tells (named 9) (κs .1 .1 .1 .1 .1 .1 .1 .1 .1 .0) u8, tt)))))))))))
+      (λ κs qs bounds a _ are. via 𝓤 _ (fst∗ 𝓤 _ (emp 𝓤)) (walk 𝓤 H A W at-mem run (κs .0) (κs .1 .0) (κs .1 .1 .0) (κs .1 .1 .1 .0) (κs .1 .1 .1 .1 .0) (κs .1 .1 .1 .1 .1 .0) (κs .1 .1 .1 .1 .1 .1 .0) (κs .1 .1 .1 .1 .1 .1 .1 .0) (κs .1 .1 .1 .1 .1 .1 .1 .1 .0) (κs .1 .1 .1 .1 .1 .1 .1 .1 .1 .0) (qs .0) (qs .1 .0) (qs .1 .1 .0) (qs .1 .1 .1 .0) (qs .1 .1 .1 .1 .0) (qs .1 .1 .1 .1 .1 .0) (qs .1 .1 .1 .1 .1 .1 .0) (qs .1 .1 .1 .1 .1 .1 .1 .0) (qs .1 .1 .1 .1 .1 .1 .1 .1 .0) (qs .1 .1 .1 .1 .1 .1 .1 .1 .1 .0)
+      (a .0 .ptr .0) (a .0 .ptr .1) (a .0 .name) (a .0 .now) (a .1 .0 .ptr .0) (a .1 .0 .ptr .1) (a .1 .0 .name) (a .1 .0 .now) (a .1 .1 .0 .ptr .0) (a .1 .1 .0 .ptr .1) (a .1 .1 .0 .name) (a .1 .1 .0 .now) (a .1 .1 .1 .0 .ptr .0) (a .1 .1 .1 .0 .ptr .1) (a .1 .1 .1 .0 .name) (a .1 .1 .1 .0 .now) (a .1 .1 .1 .1 .0 .ptr .0) (a .1 .1 .1 .1 .0 .ptr .1) (a .1 .1 .1 .1 .0 .name) (a .1 .1 .1 .1 .0 .now) (a .1 .1 .1 .1 .1 .0 .ptr .0) (a .1 .1 .1 .1 .1 .0 .ptr .1) (a .1 .1 .1 .1 .1 .0 .name) (a .1 .1 .1 .1 .1 .0 .now) (a .1 .1 .1 .1 .1 .1 .0 .ptr .0) (a .1 .1 .1 .1 .1 .1 .0 .ptr .1) (a .1 .1 .1 .1 .1 .1 .0 .name) (a .1 .1 .1 .1 .1 .1 .0 .now) (a .1 .1 .1 .1 .1 .1 .1 .0 .ptr .0) (a .1 .1 .1 .1 .1 .1 .1 .0 .ptr .1) (a .1 .1 .1 .1 .1 .1 .1 .0 .name) (a .1 .1 .1 .1 .1 .1 .1 .0 .now) (a .1 .1 .1 .1 .1 .1 .1 .1 .0 .ptr .0) (a .1 .1 .1 .1 .1 .1 .1 .1 .0 .ptr .1) (a .1 .1 .1 .1 .1 .1 .1 .1 .0 .name) (a .1 .1 .1 .1 .1 .1 .1 .1 .0 .now) (a .1 .1 .1 .1 .1 .1 .1 .1 .1 .0 .ptr .0) (a .1 .1 .1 .1 .1 .1 .1 .1 .1 .0 .ptr .1) (a .1 .1 .1 .1 .1 .1 .1 .1 .1 .0 .name) (a .1 .1 .1 .1 .1 .1 .1 .1 .1 .0 .now)
+      (are .0 .0 .1) (are .1 .1 .0 .0 .1) (are .1 .1 .1 .0 .0 .1) (are .1 .1 .1 .1 .0 .0 .1) (are .1 .1 .1 .1 .1 .0 .0 .1) (are .1 .1 .1 .1 .1 .1 .0 .0 .1) (are .1 .1 .1 .1 .1 .1 .1 .0 .0 .1) (are .1 .1 .1 .1 .1 .1 .1 .1 .0 .0 .1) (are .1 .1 .1 .1 .1 .1 .1 .1 .1 .0 .0 .1) C Λ fm known-load known-core known-store))
 
 read-meets : {M : Type 1} (𝓤 : URA M) (H : Heap 𝓤) (A : Atoms 𝓤) → Given 𝓤 H A → (at-mem : Memory → SProp 𝓤) (run : Routine → Fun 𝓤) (𝓣 : Tables 𝓤 H) → Triple 𝓤 (𝓣 .C #hep·load-rows) (Load 𝓤 H A at-mem run) → Triple 𝓤 (𝓣 .C #image-read·read) (Core 𝓤 H A at-mem run) → Triple 𝓤 (𝓣 .C #hep·store-rows) (Store 𝓤 H A at-mem run)
     → Meets 𝓤 H A read′.signature (WpFn 𝓤 H (𝓣 .C) (𝓣 .Λ) code.function) (read′.spec 𝓤 H A at-mem run)
 read-meets 𝓤 H A W at-mem run 𝓣 known-load known-core known-store =
     walk-meets 𝓤 H A read′.ended stayed W
-    (goes-gave-slice 𝓤 H A W 9 0 tt (plain (λ _. T.the-row)), (goes-ref 𝓤 H A W 9 1 tt (plain (λ _. B.the-row)), (goes-gave-slice 𝓤 H A W 9 2 tt (plain (λ _. u64)), (goes-gave-slice 𝓤 H A W 9 3 tt (plain (λ _. u8)), (goes-gave-slice 𝓤 H A W 9 4 tt (plain (λ _. u64)), (goes-gave-slice 𝓤 H A W 9 5 tt (plain (λ _. u64)), (goes-gave-slice 𝓤 H A W 9 6 tt (plain (λ _. u8)), (goes-gave-slice 𝓤 H A W 9 7 tt (plain (λ _. u64)), (goes-dropped 𝓤 H A W 9 (shrSliceOf (8 ∷ []) tt (plain (λ _. u8))) yes (λ κs x f. refl), tt))))))))) (read′.clauses 𝓤 H A at-mem run)
+    (goes-gave-slice 𝓤 H A W 10 0 tt (plain (λ _. T.the-row)), (goes-ref 𝓤 H A W 10 1 tt (plain (λ _. B.the-row)), (goes-gave-slice 𝓤 H A W 10 2 tt (plain (λ _. u8)), (goes-gave-slice 𝓤 H A W 10 3 tt (plain (λ _. u64)), (goes-gave-slice 𝓤 H A W 10 4 tt (plain (λ _. u8)), (goes-gave-slice 𝓤 H A W 10 5 tt (plain (λ _. u64)), (goes-gave-slice 𝓤 H A W 10 6 tt (plain (λ _. u64)), (goes-gave-slice 𝓤 H A W 10 7 tt (plain (λ _. u8)), (goes-gave-slice 𝓤 H A W 10 8 tt (plain (λ _. u64)), (goes-dropped 𝓤 H A W 10 (shrSliceOf (9 ∷ []) tt (plain (λ _. u8))) yes (λ κs x f. refl), tt)))))))))) (read′.clauses 𝓤 H A at-mem run)
     (WpFn 𝓤 H (𝓣 .C) (𝓣 .Λ) code.function) (WpFn-mono 𝓤 H (W .laws) 𝓣 code.function) (read-walks 𝓤 H A W at-mem run (𝓣 .C) (𝓣 .Λ) (fmOf 𝓤 H (W .laws) 𝓣) known-load known-core known-store)
 
 pub read-spec : {M : Type 1} → stated.statement M

@@ -137,7 +137,7 @@ module _ {M : Type 1} (𝓤 : URA M) (H : Heap 𝓤) (A : Atoms 𝓤) (W : Given
       move ! (1 ∷ []) $ peeks ! B.the-row (Is B.the-row) (shows 𝓤 H A B.the-row) x (val-B x ∷ []) (λ g. drop ! $ use1 W (‵ (fat fullShare table-ty l 0 (val-B x))) (W .laws .raw-at fullShare table-ty l 0 (val-B x)) $ check ! g $ done !))
 
 abbrev stayed : Stays (read-owned′.ended .signature .params) (read-owned′.ended .kept)
-stayed = (stay-dropped (plain (λ _. Seven)) yes, (stay-dropped (plain (λ _. B.the-row)) yes, (gave-slice (0 ∷ []) tt (plain (λ _. u64)), (gave-slice (1 ∷ []) tt (plain (λ _. u8)), (gave-slice (2 ∷ []) tt (plain (λ _. u64)), (gave-slice (3 ∷ []) tt (plain (λ _. u64)), (gave-slice (4 ∷ []) tt (plain (λ _. u8)), (gave-slice (5 ∷ []) tt (plain (λ _. u64)), (stay-dropped (shrSliceOf (6 ∷ []) tt (plain (λ _. u8))) yes, tt)))))))))
+stayed = (stay-dropped (plain (λ _. Seven)) yes, (stay-dropped (plain (λ _. B.the-row)) yes, (gave-slice (0 ∷ []) tt (plain (λ _. u8)), (gave-slice (1 ∷ []) tt (plain (λ _. u64)), (gave-slice (2 ∷ []) tt (plain (λ _. u8)), (gave-slice (3 ∷ []) tt (plain (λ _. u64)), (gave-slice (4 ∷ []) tt (plain (λ _. u64)), (gave-slice (5 ∷ []) tt (plain (λ _. u8)), (gave-slice (6 ∷ []) tt (plain (λ _. u64)), (stay-dropped (shrSliceOf (7 ∷ []) tt (plain (λ _. u8))) yes, tt))))))))))
 
 module _ {M : Type 1} (𝓤 : URA M) (H : Heap 𝓤) (A : Atoms 𝓤) (at-mem : Memory → SProp 𝓤) (run : Routine → Fun 𝓤) where
   -- the contracts that the proof cites
@@ -148,10 +148,10 @@ module _ {M : Type 1} (𝓤 : URA M) (H : Heap 𝓤) (A : Atoms 𝓤) (at-mem : 
   Again = tripleOf 𝓤 H A again-fn.signature (again-fn.spec 𝓤 H A at-mem run)
 
 module _ {M : Type 1} (𝓤 : URA M) (H : Heap 𝓤) (A : Atoms 𝓤) (W : Given 𝓤 H A) (at-mem : Memory → SProp 𝓤) (run : Routine → Fun 𝓤)
-    (κ₂ κ₃ κ₄ κ₅ κ₆ κ₇ κ₈ : Lft) (q₂ q₃ q₄ q₅ q₆ q₇ q₈ : Share)
-    (b₂ o₂ : ℕ) (γ₂ : GName) (x₂ : List ℕ) (b₃ o₃ : ℕ) (γ₃ : GName) (x₃ : List ℕ) (b₄ o₄ : ℕ) (γ₄ : GName) (x₄ : List ℕ) (b₅ o₅ : ℕ) (γ₅ : GName) (x₅ : List ℕ) (b₆ o₆ : ℕ) (γ₆ : GName) (x₆ : List ℕ) (b₇ o₇ : ℕ) (γ₇ : GName) (x₇ : List ℕ) (b₈ o₈ : ℕ) (γ₈ : GName) (x₈ : List ℕ)
+    (κ₂ κ₃ κ₄ κ₅ κ₆ κ₇ κ₈ κ₉ : Lft) (q₂ q₃ q₄ q₅ q₆ q₇ q₈ q₉ : Share)
+    (b₂ o₂ : ℕ) (γ₂ : GName) (x₂ : List ℕ) (b₃ o₃ : ℕ) (γ₃ : GName) (x₃ : List ℕ) (b₄ o₄ : ℕ) (γ₄ : GName) (x₄ : List ℕ) (b₅ o₅ : ℕ) (γ₅ : GName) (x₅ : List ℕ) (b₆ o₆ : ℕ) (γ₆ : GName) (x₆ : List ℕ) (b₇ o₇ : ℕ) (γ₇ : GName) (x₇ : List ℕ) (b₈ o₈ : ℕ) (γ₈ : GName) (x₈ : List ℕ) (b₉ o₉ : ℕ) (γ₉ : GName) (x₉ : List ℕ)
     (x₀ : List Row) (x₁ : ProcessTable) (g₀ : Is Seven x₀ (array-vals (LL.vals T.the-type T′.the-laws) x₀)) (g₁ : Is B.the-row x₁ (val-B x₁ ∷ []))
-    (room₂ : Room u64 (length x₂)) (room₃ : Room u8 (length x₃)) (room₄ : Room u64 (length x₄)) (room₅ : Room u64 (length x₅)) (room₆ : Room u8 (length x₆)) (room₇ : Room u64 (length x₇)) (room₈ : Room u8 (length x₈)) where
+    (room₂ : Room u8 (length x₂)) (room₃ : Room u64 (length x₃)) (room₄ : Room u8 (length x₄)) (room₅ : Room u64 (length x₅)) (room₆ : Room u64 (length x₆)) (room₇ : Room u8 (length x₇)) (room₈ : Room u64 (length x₈)) (room₉ : Room u8 (length x₉)) where
   -- the parameters, and their machine values
   abbrev y₂ : RefT (List ℕ)
   y₂ = record { ptr = (b₂, o₂); name = γ₂; now = x₂ }
@@ -195,14 +195,20 @@ module _ {M : Type 1} (𝓤 : URA M) (H : Heap 𝓤) (A : Atoms 𝓤) (W : Given
   abbrev s₈ : Val
   s₈ = sliceVal (b₈, o₈) (length x₈)
 
-  abbrev a : (List Row × (ProcessTable × (RefT (List ℕ) × (RefT (List ℕ) × (RefT (List ℕ) × (RefT (List ℕ) × (RefT (List ℕ) × (RefT (List ℕ) × (RefT (List ℕ) × Unit {0})))))))))
-  a = (x₀, (x₁, (y₂, (y₃, (y₄, (y₅, (y₆, (y₇, (y₈, tt)))))))))
+  abbrev y₉ : RefT (List ℕ)
+  y₉ = record { ptr = (b₉, o₉); name = γ₉; now = x₉ }
 
-  abbrev vals : (List Val × (List Val × (List Val × (List Val × (List Val × (List Val × (List Val × (List Val × (List Val × Unit {0})))))))))
-  vals = (array-vals (LL.vals T.the-type T′.the-laws) x₀, (val-B x₁ ∷ [], (s₂ ∷ [], (s₃ ∷ [], (s₄ ∷ [], (s₅ ∷ [], (s₆ ∷ [], (s₇ ∷ [], (s₈ ∷ [], tt)))))))))
+  abbrev s₉ : Val
+  s₉ = sliceVal (b₉, o₉) (length x₉)
+
+  abbrev a : (List Row × (ProcessTable × (RefT (List ℕ) × (RefT (List ℕ) × (RefT (List ℕ) × (RefT (List ℕ) × (RefT (List ℕ) × (RefT (List ℕ) × (RefT (List ℕ) × (RefT (List ℕ) × Unit {0}))))))))))
+  a = (x₀, (x₁, (y₂, (y₃, (y₄, (y₅, (y₆, (y₇, (y₈, (y₉, tt))))))))))
+
+  abbrev vals : (List Val × (List Val × (List Val × (List Val × (List Val × (List Val × (List Val × (List Val × (List Val × (List Val × Unit {0}))))))))))
+  vals = (array-vals (LL.vals T.the-type T′.the-laws) x₀, (val-B x₁ ∷ [], (s₂ ∷ [], (s₃ ∷ [], (s₄ ∷ [], (s₅ ∷ [], (s₆ ∷ [], (s₇ ∷ [], (s₈ ∷ [], (s₉ ∷ [], tt))))))))))
 
   abbrev bound : walkOf 𝓤 H A read-owned′.ended stayed (read-owned′.clauses 𝓤 H A at-mem run) .Ghost
-  bound = (((κ₂, (κ₃, (κ₄, (κ₅, (κ₆, (κ₇, (κ₈, tt))))))), (q₂, (q₃, (q₄, (q₅, (q₆, (q₇, (q₈, tt))))))), tt, a, vals), tt)
+  bound = (((κ₂, (κ₃, (κ₄, (κ₅, (κ₆, (κ₇, (κ₈, (κ₉, tt)))))))), (q₂, (q₃, (q₄, (q₅, (q₆, (q₇, (q₈, (q₉, tt)))))))), tt, a, vals), tt)
 
   abbrev Post : Val → SProp 𝓤
   Post = walkOf 𝓤 H A read-owned′.ended stayed (read-owned′.clauses 𝓤 H A at-mem run) .post bound
@@ -221,24 +227,24 @@ module _ {M : Type 1} (𝓤 : URA M) (H : Heap 𝓤) (A : Atoms 𝓤) (W : Given
   abbrev lent-table : ℕ → GName → RefT ProcessTable
   lent-table l δ = record { ptr = (l, 0); name = δ; now = x₁ }
 
-  exits : (r : ReadAnswer) (o : AfterRead) (w : Val) (z₀ : List Row) (z₁ : ProcessTable) (z₂ : List ℕ) (z₃ : List ℕ) (z₄ : List ℕ) (z₅ : List ℕ) (z₆ : List ℕ) (z₇ : List ℕ) → ReadPromise (lentBuffers x₀ x₁ x₂ x₃ x₄ x₅ x₆ x₇) x₈ r (lentBuffers z₀ z₁ z₂ z₃ z₄ z₅ z₆ z₇) → o ≡ record { rows = record { at = z₀; n = 7 }; table = z₁; answer = r } → length z₂ ≡ length x₂ → length z₃ ≡ length x₃ → length z₄ ≡ length x₄ → length z₅ ≡ length x₅ → length z₆ ≡ length x₆ → length z₇ ≡ length x₇
-      → ent 𝓤 (⋆ 𝓤 H A ((‵ (flft κ₂ q₂) ⊛ (‵ (flft κ₃ q₃) ⊛ (‵ (flft κ₄ q₄) ⊛ (‵ (flft κ₅ q₅) ⊛ (‵ (flft κ₆ q₆) ⊛ (‵ (flft κ₇ q₇) ⊛ (‵ (flft κ₈ q₈) ⊛ ‵ ftrue))))))) ∷ ‵ (O.the-row .own o (w ∷ [])) ∷ ‵ (finally u64 γ₂ z₂) ∷ ‵ (finally u8 γ₃ z₃) ∷ ‵ (finally u64 γ₄ z₄) ∷ ‵ (finally u64 γ₅ z₅) ∷ ‵ (finally u8 γ₆ z₆) ∷ ‵ (finally u64 γ₇ z₇) ∷ [])) (Post (w))
-  exits r o w z₀ z₁ z₂ z₃ z₄ z₅ z₆ z₇ e₁ e₂ n₂ n₃ n₄ n₅ n₆ n₇ =
-      qed W ((‵ (flft κ₂ q₂) ⊛ (‵ (flft κ₃ q₃) ⊛ (‵ (flft κ₄ q₄) ⊛ (‵ (flft κ₅ q₅) ⊛ (‵ (flft κ₆ q₆) ⊛ (‵ (flft κ₇ q₇) ⊛ (‵ (flft κ₈ q₈) ⊛ ‵ ftrue))))))) ∷ ‵ (O.the-row .own o (w ∷ [])) ∷ ‵ (finally u64 γ₂ z₂) ∷ ‵ (finally u8 γ₃ z₃) ∷ ‵ (finally u64 γ₄ z₄) ∷ ‵ (finally u64 γ₅ z₅) ∷ ‵ (finally u8 γ₆ z₆) ∷ ‵ (finally u64 γ₇ z₇) ∷ []) ∵
-      suffices ! _ (ends-at 𝓤 H A read-owned′.ended stayed (read-owned′.clauses 𝓤 H A at-mem run) W bound (w) (o) (tt, (tt, (z₂, (z₃, (z₄, (z₅, (z₆, (z₇, (tt, tt))))))))) (tt, (tt, (n₂, (n₃, (n₄, (n₅, (n₆, (n₇, (tt, tt)))))))))) $
-      says ! (subst (λ (y : AfterRead). ReadPromise (lentBuffers x₀ x₁ x₂ x₃ x₄ x₅ x₆ x₇) x₈ (y .answer) (lentBuffers (y .rows .at) (y .table) z₂ z₃ z₄ z₅ z₆ z₇) × (y .rows .n ≡ 7)) (sym e₂) (e₁, refl)) $
-      frame ! $ nothing ! $ nothing ! $ fjoin ! $ move ! (7 ∷ 0 ∷ []) $ fjoin ! $ move ! (6 ∷ 0 ∷ []) $ fjoin ! $ move ! (5 ∷ 0 ∷ []) $ fjoin ! $ move ! (4 ∷ 0 ∷ []) $ fjoin ! $ move ! (3 ∷ 0 ∷ []) $ fjoin ! $ move ! (2 ∷ 0 ∷ []) $
-      fjoin ! $ nothing ! $ fjoin ! $ nothing ! $ fjoin ! $ done !
+  exits : (r : ReadAnswer) (o : AfterRead) (w : Val) (z₀ : List Row) (z₁ : ProcessTable) (z₂ : List ℕ) (z₃ : List ℕ) (z₄ : List ℕ) (z₅ : List ℕ) (z₆ : List ℕ) (z₇ : List ℕ) (z₈ : List ℕ) → ReadPromise (lentBuffers x₀ x₁ x₂ x₃ x₄ x₅ x₆ x₇ x₈) x₉ r (lentBuffers z₀ z₁ z₂ z₃ z₄ z₅ z₆ z₇ z₈) → o ≡ record { rows = record { at = z₀; n = 7 }; table = z₁; answer = r } → length z₂ ≡ length x₂ → length z₃ ≡ length x₃ → length z₄ ≡ length x₄ → length z₅ ≡ length x₅ → length z₆ ≡ length x₆ → length z₇ ≡ length x₇ → length z₈ ≡ length x₈
+      → ent 𝓤 (⋆ 𝓤 H A ((‵ (flft κ₂ q₂) ⊛ (‵ (flft κ₃ q₃) ⊛ (‵ (flft κ₄ q₄) ⊛ (‵ (flft κ₅ q₅) ⊛ (‵ (flft κ₆ q₆) ⊛ (‵ (flft κ₇ q₇) ⊛ (‵ (flft κ₈ q₈) ⊛ (‵ (flft κ₉ q₉) ⊛ ‵ ftrue)))))))) ∷ ‵ (O.the-row .own o (w ∷ [])) ∷ ‵ (finally u8 γ₂ z₂) ∷ ‵ (finally u64 γ₃ z₃) ∷ ‵ (finally u8 γ₄ z₄) ∷ ‵ (finally u64 γ₅ z₅) ∷ ‵ (finally u64 γ₆ z₆) ∷ ‵ (finally u8 γ₇ z₇) ∷ ‵ (finally u64 γ₈ z₈) ∷ [])) (Post (w))
+  exits r o w z₀ z₁ z₂ z₃ z₄ z₅ z₆ z₇ z₈ e₁ e₂ n₂ n₃ n₄ n₅ n₆ n₇ n₈ =
+      qed W ((‵ (flft κ₂ q₂) ⊛ (‵ (flft κ₃ q₃) ⊛ (‵ (flft κ₄ q₄) ⊛ (‵ (flft κ₅ q₅) ⊛ (‵ (flft κ₆ q₆) ⊛ (‵ (flft κ₇ q₇) ⊛ (‵ (flft κ₈ q₈) ⊛ (‵ (flft κ₉ q₉) ⊛ ‵ ftrue)))))))) ∷ ‵ (O.the-row .own o (w ∷ [])) ∷ ‵ (finally u8 γ₂ z₂) ∷ ‵ (finally u64 γ₃ z₃) ∷ ‵ (finally u8 γ₄ z₄) ∷ ‵ (finally u64 γ₅ z₅) ∷ ‵ (finally u64 γ₆ z₆) ∷ ‵ (finally u8 γ₇ z₇) ∷ ‵ (finally u64 γ₈ z₈) ∷ []) ∵
+      suffices ! _ (ends-at 𝓤 H A read-owned′.ended stayed (read-owned′.clauses 𝓤 H A at-mem run) W bound (w) (o) (tt, (tt, (z₂, (z₃, (z₄, (z₅, (z₆, (z₇, (z₈, (tt, tt)))))))))) (tt, (tt, (n₂, (n₃, (n₄, (n₅, (n₆, (n₇, (n₈, (tt, tt))))))))))) $
+      says ! (subst (λ (y : AfterRead). ReadPromise (lentBuffers x₀ x₁ x₂ x₃ x₄ x₅ x₆ x₇ x₈) x₉ (y .answer) (lentBuffers (y .rows .at) (y .table) z₂ z₃ z₄ z₅ z₆ z₇ z₈) × (y .rows .n ≡ 7)) (sym e₂) (e₁, refl)) $
+      frame ! $ nothing ! $ nothing ! $ fjoin ! $ move ! (8 ∷ 0 ∷ []) $ fjoin ! $ move ! (7 ∷ 0 ∷ []) $ fjoin ! $ move ! (6 ∷ 0 ∷ []) $ fjoin ! $ move ! (5 ∷ 0 ∷ []) $ fjoin ! $ move ! (4 ∷ 0 ∷ []) $ fjoin ! $ move ! (3 ∷ 0 ∷ []) $
+      fjoin ! $ move ! (2 ∷ 0 ∷ []) $ fjoin ! $ nothing ! $ fjoin ! $ nothing ! $ fjoin ! $ done !
 
   -- what the callees' triples bind outside, and that the caller has what they ask
-  abbrev args-lent : ℕ → ℕ → ℕ → ℕ → GName → GName → (RefT (List Row) × (RefT ProcessTable × (RefT (List ℕ) × (RefT (List ℕ) × (RefT (List ℕ) × (RefT (List ℕ) × (RefT (List ℕ) × (RefT (List ℕ) × (RefT (List ℕ) × Unit {0})))))))))
-  args-lent l m α β γ δ = ((lent-rows l γ), ((lent-table m δ), (y₂, (y₃, (y₄, (y₅, (y₆, (y₇, (y₈, tt)))))))))
+  abbrev args-lent : ℕ → ℕ → ℕ → ℕ → GName → GName → (RefT (List Row) × (RefT ProcessTable × (RefT (List ℕ) × (RefT (List ℕ) × (RefT (List ℕ) × (RefT (List ℕ) × (RefT (List ℕ) × (RefT (List ℕ) × (RefT (List ℕ) × (RefT (List ℕ) × Unit {0}))))))))))
+  args-lent l m α β γ δ = ((lent-rows l γ), ((lent-table m δ), (y₂, (y₃, (y₄, (y₅, (y₆, (y₇, (y₈, (y₉, tt))))))))))
 
   abbrev to-lent : ℕ → ℕ → ℕ → ℕ → GName → GName → Lent 𝓤 H A at-mem run .Ghost
-  to-lent l m α β γ δ = ((((α ∷ []), ((β ∷ []), (κ₂, (κ₃, (κ₄, (κ₅, (κ₆, (κ₇, (κ₈, tt))))))))), (fullShare, (fullShare, (q₂, (q₃, (q₄, (q₅, (q₆, (q₇, (q₈, tt))))))))), tt, (args-lent l m α β γ δ), (sliceVal (l, 0) (length x₀) ∷ [], (vptr m 0 ∷ [], (s₂ ∷ [], (s₃ ∷ [], (s₄ ∷ [], (s₅ ∷ [], (s₆ ∷ [], (s₇ ∷ [], (s₈ ∷ [], tt)))))))))), tt)
+  to-lent l m α β γ δ = ((((α ∷ []), ((β ∷ []), (κ₂, (κ₃, (κ₄, (κ₅, (κ₆, (κ₇, (κ₈, (κ₉, tt)))))))))), (fullShare, (fullShare, (q₂, (q₃, (q₄, (q₅, (q₆, (q₇, (q₈, (q₉, tt)))))))))), tt, (args-lent l m α β γ δ), (sliceVal (l, 0) (length x₀) ∷ [], (vptr m 0 ∷ [], (s₂ ∷ [], (s₃ ∷ [], (s₄ ∷ [], (s₅ ∷ [], (s₆ ∷ [], (s₇ ∷ [], (s₈ ∷ [], (s₉ ∷ [], tt))))))))))), tt)
 
-  goes-lent : (l : ℕ) (m : ℕ) (α : ℕ) (β : ℕ) (γ : GName) (δ : GName) → ent 𝓤 (⋆ 𝓤 H A ((‵ (flft (α ∷ []) fullShare) ⊛ (‵ (flft (β ∷ []) fullShare) ⊛ (‵ (flft κ₂ q₂) ⊛ (‵ (flft κ₃ q₃) ⊛ (‵ (flft κ₄ q₄) ⊛ (‵ (flft κ₅ q₅) ⊛ (‵ (flft κ₆ q₆) ⊛ (‵ (flft κ₇ q₇) ⊛ (‵ (flft κ₈ q₈) ⊛ ‵ ftrue))))))))) ∷ ‵ (owns (MutSlice (named 0) (α ∷ []) T.the-row ∷ MutRef (named 1) (β ∷ []) B.the-row ∷ MutSlice (named 0) κ₂ u64 ∷ MutSlice (named 1) κ₃ u8 ∷ MutSlice (named 2) κ₄ u64 ∷ MutSlice (named 3) κ₅ u64 ∷ MutSlice (named 4) κ₆ u8 ∷ MutSlice (named 5) κ₇ u64 ∷ ShrSlice (named 6) κ₈ u8 ∷ []) (args-lent l m α β γ δ) (sliceVal (l, 0) (length x₀) ∷ [], (vptr m 0 ∷ [], (s₂ ∷ [], (s₃ ∷ [], (s₄ ∷ [], (s₅ ∷ [], (s₆ ∷ [], (s₇ ∷ [], (s₈ ∷ [], tt)))))))))) ∷ [])) (Lent 𝓤 H A at-mem run .pre (to-lent l m α β γ δ))
-  goes-lent l m α β γ δ = qed W ((‵ (flft (α ∷ []) fullShare) ⊛ (‵ (flft (β ∷ []) fullShare) ⊛ (‵ (flft κ₂ q₂) ⊛ (‵ (flft κ₃ q₃) ⊛ (‵ (flft κ₄ q₄) ⊛ (‵ (flft κ₅ q₅) ⊛ (‵ (flft κ₆ q₆) ⊛ (‵ (flft κ₇ q₇) ⊛ (‵ (flft κ₈ q₈) ⊛ ‵ ftrue))))))))) ∷ ‵ (owns (MutSlice (named 0) (α ∷ []) T.the-row ∷ MutRef (named 1) (β ∷ []) B.the-row ∷ MutSlice (named 0) κ₂ u64 ∷ MutSlice (named 1) κ₃ u8 ∷ MutSlice (named 2) κ₄ u64 ∷ MutSlice (named 3) κ₅ u64 ∷ MutSlice (named 4) κ₆ u8 ∷ MutSlice (named 5) κ₇ u64 ∷ ShrSlice (named 6) κ₈ u8 ∷ []) (args-lent l m α β γ δ) (sliceVal (l, 0) (length x₀) ∷ [], (vptr m 0 ∷ [], (s₂ ∷ [], (s₃ ∷ [], (s₄ ∷ [], (s₅ ∷ [], (s₆ ∷ [], (s₇ ∷ [], (s₈ ∷ [], tt)))))))))) ∷ []) ∵ join ! $ frame ! $ done !
+  goes-lent : (l : ℕ) (m : ℕ) (α : ℕ) (β : ℕ) (γ : GName) (δ : GName) → ent 𝓤 (⋆ 𝓤 H A ((‵ (flft (α ∷ []) fullShare) ⊛ (‵ (flft (β ∷ []) fullShare) ⊛ (‵ (flft κ₂ q₂) ⊛ (‵ (flft κ₃ q₃) ⊛ (‵ (flft κ₄ q₄) ⊛ (‵ (flft κ₅ q₅) ⊛ (‵ (flft κ₆ q₆) ⊛ (‵ (flft κ₇ q₇) ⊛ (‵ (flft κ₈ q₈) ⊛ (‵ (flft κ₉ q₉) ⊛ ‵ ftrue)))))))))) ∷ ‵ (owns (MutSlice (named 0) (α ∷ []) T.the-row ∷ MutRef (named 1) (β ∷ []) B.the-row ∷ MutSlice (named 0) κ₂ u8 ∷ MutSlice (named 1) κ₃ u64 ∷ MutSlice (named 2) κ₄ u8 ∷ MutSlice (named 3) κ₅ u64 ∷ MutSlice (named 4) κ₆ u64 ∷ MutSlice (named 5) κ₇ u8 ∷ MutSlice (named 6) κ₈ u64 ∷ ShrSlice (named 7) κ₉ u8 ∷ []) (args-lent l m α β γ δ) (sliceVal (l, 0) (length x₀) ∷ [], (vptr m 0 ∷ [], (s₂ ∷ [], (s₃ ∷ [], (s₄ ∷ [], (s₅ ∷ [], (s₆ ∷ [], (s₇ ∷ [], (s₈ ∷ [], (s₉ ∷ [], tt))))))))))) ∷ [])) (Lent 𝓤 H A at-mem run .pre (to-lent l m α β γ δ))
+  goes-lent l m α β γ δ = qed W ((‵ (flft (α ∷ []) fullShare) ⊛ (‵ (flft (β ∷ []) fullShare) ⊛ (‵ (flft κ₂ q₂) ⊛ (‵ (flft κ₃ q₃) ⊛ (‵ (flft κ₄ q₄) ⊛ (‵ (flft κ₅ q₅) ⊛ (‵ (flft κ₆ q₆) ⊛ (‵ (flft κ₇ q₇) ⊛ (‵ (flft κ₈ q₈) ⊛ (‵ (flft κ₉ q₉) ⊛ ‵ ftrue)))))))))) ∷ ‵ (owns (MutSlice (named 0) (α ∷ []) T.the-row ∷ MutRef (named 1) (β ∷ []) B.the-row ∷ MutSlice (named 0) κ₂ u8 ∷ MutSlice (named 1) κ₃ u64 ∷ MutSlice (named 2) κ₄ u8 ∷ MutSlice (named 3) κ₅ u64 ∷ MutSlice (named 4) κ₆ u64 ∷ MutSlice (named 5) κ₇ u8 ∷ MutSlice (named 6) κ₈ u64 ∷ ShrSlice (named 7) κ₉ u8 ∷ []) (args-lent l m α β γ δ) (sliceVal (l, 0) (length x₀) ∷ [], (vptr m 0 ∷ [], (s₂ ∷ [], (s₃ ∷ [], (s₄ ∷ [], (s₅ ∷ [], (s₆ ∷ [], (s₇ ∷ [], (s₈ ∷ [], (s₉ ∷ [], tt))))))))))) ∷ []) ∵ join ! $ frame ! $ done !
 
   abbrev args-again : List Row → ProcessTable → ReadAnswer → (List Row × (ProcessTable × (ReadAnswer × Unit {0})))
   args-again z₀ z₁ r = (z₀, (z₁, (r, tt)))
@@ -250,101 +256,104 @@ module _ {M : Type 1} (𝓤 : URA M) (H : Heap 𝓤) (A : Atoms 𝓤) (W : Given
   goes-again z₀ z₁ r = qed W (‵ ftrue ∷ ‵ (owns (Seven ∷ B.the-row ∷ N.the-row ∷ []) (args-again z₀ z₁ r) (array-vals (LL.vals T.the-type T′.the-laws) z₀, (val-B z₁ ∷ [], (val-N r ∷ [], tt)))) ∷ []) ∵ join ! $ frame ! $ done !
 
   module _ (C : Calls 𝓤 H) (Λ : Loops 𝓤 H) (fm : FmC 𝓤 H (W .laws) C) (known-lent : Triple 𝓤 (C #hep·read) (Lent 𝓤 H A at-mem run)) (known-again : Triple 𝓤 (C #hep·after-read) (Again 𝓤 H A at-mem run)) where
-    walk : ent 𝓤 (onEntry 𝓤 H A read-owned′.signature (κ₂, (κ₃, (κ₄, (κ₅, (κ₆, (κ₇, (κ₈, tt))))))) (q₂, (q₃, (q₄, (q₅, (q₆, (q₇, (q₈, tt))))))) a vals) (WpFn 𝓤 H C Λ code.function (only (array-vals (LL.vals T.the-type T′.the-laws) x₀) ∷ val-B x₁ ∷ s₂ ∷ s₃ ∷ s₄ ∷ s₅ ∷ s₆ ∷ s₇ ∷ s₈ ∷ []) Post)
+    walk : ent 𝓤 (onEntry 𝓤 H A read-owned′.signature (κ₂, (κ₃, (κ₄, (κ₅, (κ₆, (κ₇, (κ₈, (κ₉, tt)))))))) (q₂, (q₃, (q₄, (q₅, (q₆, (q₇, (q₈, (q₉, tt)))))))) a vals) (WpFn 𝓤 H C Λ code.function (only (array-vals (LL.vals T.the-type T′.the-laws) x₀) ∷ val-B x₁ ∷ s₂ ∷ s₃ ∷ s₄ ∷ s₅ ∷ s₆ ∷ s₇ ∷ s₈ ∷ s₉ ∷ []) Post)
     walk =
-        qed W ((‵ (flft κ₂ q₂) ⊛ (‵ (flft κ₃ q₃) ⊛ (‵ (flft κ₄ q₄) ⊛ (‵ (flft κ₅ q₅) ⊛ (‵ (flft κ₆ q₆) ⊛ (‵ (flft κ₇ q₇) ⊛ (‵ (flft κ₈ q₈) ⊛ ‵ ftrue))))))) ∷ ‵ (owns (Seven ∷ B.the-row ∷ MutSlice (named 0) κ₂ u64 ∷ MutSlice (named 1) κ₃ u8 ∷ MutSlice (named 2) κ₄ u64 ∷ MutSlice (named 3) κ₅ u64 ∷ MutSlice (named 4) κ₆ u8 ∷ MutSlice (named 5) κ₇ u64 ∷ ShrSlice (named 6) κ₈ u8 ∷ []) a vals) ∷ []) ∵
+        qed W ((‵ (flft κ₂ q₂) ⊛ (‵ (flft κ₃ q₃) ⊛ (‵ (flft κ₄ q₄) ⊛ (‵ (flft κ₅ q₅) ⊛ (‵ (flft κ₆ q₆) ⊛ (‵ (flft κ₇ q₇) ⊛ (‵ (flft κ₈ q₈) ⊛ (‵ (flft κ₉ q₉) ⊛ ‵ ftrue)))))))) ∷ ‵ (owns (Seven ∷ B.the-row ∷ MutSlice (named 0) κ₂ u8 ∷ MutSlice (named 1) κ₃ u64 ∷ MutSlice (named 2) κ₄ u8 ∷ MutSlice (named 3) κ₅ u64 ∷ MutSlice (named 4) κ₆ u64 ∷ MutSlice (named 5) κ₇ u8 ∷ MutSlice (named 6) κ₈ u64 ∷ ShrSlice (named 7) κ₉ u8 ∷ []) a vals) ∷ []) ∵
         move ! (1 ∷ []) $ fsplit ! $ move ! (1 ∷ []) $ fsplit ! $ move ! (1 ∷ []) $ fsplit ! $ move ! (1 ∷ []) $ fsplit ! $ move ! (1 ∷ []) $ fsplit ! $ move ! (1 ∷ []) $ fsplit ! $ move ! (1 ∷ []) $ fsplit ! $ move ! (1 ∷ []) $ fsplit ! $
-        move ! (1 ∷ []) $ fsplit ! $ move ! (1 ∷ []) $ drop ! $ move ! (8 ∷ []) $ drop ! $ move ! (7 ∷ []) $ drop ! $
-        enter ! C Λ code.function (only (array-vals (LL.vals T.the-type T′.the-laws) x₀) ∷ val-B x₁ ∷ s₂ ∷ s₃ ∷ s₄ ∷ s₅ ∷ s₆ ∷ s₇ ∷ s₈ ∷ []) _ $ alloc1 ! (λ l₀. alloc1 ! (λ l₁. alloc1 ! (λ l₂. alloc1 ! (λ l₃. alloc1 ! (λ l₄.
+        move ! (1 ∷ []) $ fsplit ! $ move ! (1 ∷ []) $ fsplit ! $ move ! (1 ∷ []) $ drop ! $ move ! (9 ∷ []) $ drop ! $ move ! (8 ∷ []) $ drop ! $
+        enter ! C Λ code.function (only (array-vals (LL.vals T.the-type T′.the-laws) x₀) ∷ val-B x₁ ∷ s₂ ∷ s₃ ∷ s₄ ∷ s₅ ∷ s₆ ∷ s₇ ∷ s₈ ∷ s₉ ∷ []) _ $ alloc1 ! (λ l₀. alloc1 ! (λ l₁. alloc1 ! (λ l₂. alloc1 ! (λ l₃. alloc1 ! (λ l₄.
         alloc1 ! (λ l₅. alloc1 ! (λ l₆. alloc1 ! (λ l₇. alloc1 ! (λ l₈. alloc1 ! (λ l₉. alloc1 ! (λ l₁₀. alloc1 ! (λ l₁₁. alloc1 ! (λ l₁₂. alloc1 ! (λ l₁₃. alloc1 ! (λ l₁₄. alloc1 ! (λ l₁₅. alloc1 ! (λ l₁₆. alloc1 ! (λ l₁₇.
-        alloc1 ! (λ l₁₈. alloc1 ! (λ l₁₉. alloc1 ! (λ l₂₀. alloc1 ! (λ l₂₁. alloc1 ! (λ l₂₂. alloc1 ! (λ l₂₃. alloc1 ! (λ l₂₄. alloc1 ! (λ l₂₅. alloc1 ! (λ l₂₆. alloc1 ! (λ l₂₇. alloc1 ! (λ l₂₈. alloc1 ! (λ l₂₉. alloc0 ! $ params1 ! $
-        pass1 ! (init ! 56 refl (array-lawful 𝓤 H A W T.the-row (LL.lawful T.the-type T′.the-laws 𝓤 H A W) 7 .typed x₀ _ g₀ .0)) $ pass1 ! (init ! 54 refl (LL.lawful B.the-type B′.the-laws 𝓤 H A W .typed x₁ _ g₁ .0)) $
-        pass1 ! (init ! 52 refl (tt, (tt, (record { fits = room₂ .0 }, tt)))) $ pass1 ! (init ! 50 refl (tt, (tt, (record { fits = room₃ .0 }, tt)))) $ pass1 ! (init ! 48 refl (tt, (tt, (record { fits = room₄ .0 }, tt)))) $
-        pass1 ! (init ! 46 refl (tt, (tt, (record { fits = room₅ .0 }, tt)))) $ pass1 ! (init ! 44 refl (tt, (tt, (record { fits = room₆ .0 }, tt)))) $ pass1 ! (init ! 42 refl (tt, (tt, (record { fits = room₇ .0 }, tt)))) $
-        pass1 ! (init ! 40 refl (tt, (tt, (record { fits = room₈ .0 }, tt)))) $ pass0 ! $
-        assigns ! (of-opd ! (load ! (from ! (stop !)) (look ! 56 refl))) (from ! (stop !)) (init ! 38 refl (array-lawful 𝓤 H A W T.the-row (LL.lawful T.the-type T′.the-laws 𝓤 H A W) 7 .typed x₀ _ g₀ .0)) $
-        assigns ! (of-opd ! (load ! (from ! (stop !)) (look ! 54 refl))) (from ! (stop !)) (init ! 36 refl (LL.lawful B.the-type B′.the-laws 𝓤 H A W .typed x₁ _ g₁ .0)) $
-        assigns ! (addr ! (from ! (stop !))) (from ! (stop !)) (init ! 32 refl (tt, tt)) $
-        assigns ! (agg ! (and-then ! (load ! (from ! (stop !)) (look ! 32 refl)) (and-then ! (lit ! tt) (no-more !)))) (from ! (stop !)) (init ! 30 refl (tt, (tt, (record { fits = lit< tt }, tt)))) $
-        rewrite ! 30 (λ (m : ℕ). ‵ (fat fullShare (sliceTy (tyRef erased mut (pointee (T.the-row .written)))) l₁₄ 0 (sliceVal (l₁₀, 0) m))) (sym seven) refl $
-        assigns ! (addr ! (from ! (stop !))) (from ! (stop !)) (init ! 28 refl (tt, tt)) $ assigns ! (addr ! (from ! (fld ! refl (hop ! (look-in ! 52 (sub ! 0 refl (whole !))) (stop !))))) (from ! (stop !)) (init ! 26 refl (tt, tt)) $
-        assigns ! (agg ! (and-then ! (load ! (from ! (stop !)) (look ! 26 refl)) (and-then ! (load ! (from ! (fld ! refl (stop !))) (look-in ! 52 (sub ! 1 refl (whole !)))) (no-more !)))) (from ! (stop !)) (init ! 24 refl (tt, (tt, (record { fits = room₂ .0 }, tt)))) $
-        assigns ! (addr ! (from ! (fld ! refl (hop ! (look-in ! 50 (sub ! 0 refl (whole !))) (stop !))))) (from ! (stop !)) (init ! 22 refl (tt, tt)) $
-        assigns ! (agg ! (and-then ! (load ! (from ! (stop !)) (look ! 22 refl)) (and-then ! (load ! (from ! (fld ! refl (stop !))) (look-in ! 50 (sub ! 1 refl (whole !)))) (no-more !)))) (from ! (stop !)) (init ! 20 refl (tt, (tt, (record { fits = room₃ .0 }, tt)))) $
-        assigns ! (addr ! (from ! (fld ! refl (hop ! (look-in ! 48 (sub ! 0 refl (whole !))) (stop !))))) (from ! (stop !)) (init ! 18 refl (tt, tt)) $
-        assigns ! (agg ! (and-then ! (load ! (from ! (stop !)) (look ! 18 refl)) (and-then ! (load ! (from ! (fld ! refl (stop !))) (look-in ! 48 (sub ! 1 refl (whole !)))) (no-more !)))) (from ! (stop !)) (init ! 16 refl (tt, (tt, (record { fits = room₄ .0 }, tt)))) $
-        assigns ! (addr ! (from ! (fld ! refl (hop ! (look-in ! 46 (sub ! 0 refl (whole !))) (stop !))))) (from ! (stop !)) (init ! 14 refl (tt, tt)) $
-        assigns ! (agg ! (and-then ! (load ! (from ! (stop !)) (look ! 14 refl)) (and-then ! (load ! (from ! (fld ! refl (stop !))) (look-in ! 46 (sub ! 1 refl (whole !)))) (no-more !)))) (from ! (stop !)) (init ! 12 refl (tt, (tt, (record { fits = room₅ .0 }, tt)))) $
-        assigns ! (addr ! (from ! (fld ! refl (hop ! (look-in ! 44 (sub ! 0 refl (whole !))) (stop !))))) (from ! (stop !)) (init ! 10 refl (tt, tt)) $
-        assigns ! (agg ! (and-then ! (load ! (from ! (stop !)) (look ! 10 refl)) (and-then ! (load ! (from ! (fld ! refl (stop !))) (look-in ! 44 (sub ! 1 refl (whole !)))) (no-more !)))) (from ! (stop !)) (init ! 8 refl (tt, (tt, (record { fits = room₆ .0 }, tt)))) $
-        assigns ! (addr ! (from ! (fld ! refl (hop ! (look-in ! 42 (sub ! 0 refl (whole !))) (stop !))))) (from ! (stop !)) (init ! 6 refl (tt, tt)) $
-        assigns ! (agg ! (and-then ! (load ! (from ! (stop !)) (look ! 6 refl)) (and-then ! (load ! (from ! (fld ! refl (stop !))) (look-in ! 42 (sub ! 1 refl (whole !)))) (no-more !)))) (from ! (stop !)) (init ! 4 refl (tt, (tt, (record { fits = room₇ .0 }, tt)))) $
+        alloc1 ! (λ l₁₈. alloc1 ! (λ l₁₉. alloc1 ! (λ l₂₀. alloc1 ! (λ l₂₁. alloc1 ! (λ l₂₂. alloc1 ! (λ l₂₃. alloc1 ! (λ l₂₄. alloc1 ! (λ l₂₅. alloc1 ! (λ l₂₆. alloc1 ! (λ l₂₇. alloc1 ! (λ l₂₈. alloc1 ! (λ l₂₉. alloc1 ! (λ l₃₀.
+        alloc1 ! (λ l₃₁. alloc1 ! (λ l₃₂. alloc0 ! $ params1 ! $ pass1 ! (init ! 62 refl (array-lawful 𝓤 H A W T.the-row (LL.lawful T.the-type T′.the-laws 𝓤 H A W) 7 .typed x₀ _ g₀ .0)) $
+        pass1 ! (init ! 60 refl (LL.lawful B.the-type B′.the-laws 𝓤 H A W .typed x₁ _ g₁ .0)) $ pass1 ! (init ! 58 refl (tt, (tt, (record { fits = room₂ .0 }, tt)))) $ pass1 ! (init ! 56 refl (tt, (tt, (record { fits = room₃ .0 }, tt)))) $
+        pass1 ! (init ! 54 refl (tt, (tt, (record { fits = room₄ .0 }, tt)))) $ pass1 ! (init ! 52 refl (tt, (tt, (record { fits = room₅ .0 }, tt)))) $ pass1 ! (init ! 50 refl (tt, (tt, (record { fits = room₆ .0 }, tt)))) $
+        pass1 ! (init ! 48 refl (tt, (tt, (record { fits = room₇ .0 }, tt)))) $ pass1 ! (init ! 46 refl (tt, (tt, (record { fits = room₈ .0 }, tt)))) $ pass1 ! (init ! 44 refl (tt, (tt, (record { fits = room₉ .0 }, tt)))) $ pass0 ! $
+        assigns ! (of-opd ! (load ! (from ! (stop !)) (look ! 62 refl))) (from ! (stop !)) (init ! 42 refl (array-lawful 𝓤 H A W T.the-row (LL.lawful T.the-type T′.the-laws 𝓤 H A W) 7 .typed x₀ _ g₀ .0)) $
+        assigns ! (of-opd ! (load ! (from ! (stop !)) (look ! 60 refl))) (from ! (stop !)) (init ! 40 refl (LL.lawful B.the-type B′.the-laws 𝓤 H A W .typed x₁ _ g₁ .0)) $
+        assigns ! (addr ! (from ! (stop !))) (from ! (stop !)) (init ! 36 refl (tt, tt)) $
+        assigns ! (agg ! (and-then ! (load ! (from ! (stop !)) (look ! 36 refl)) (and-then ! (lit ! tt) (no-more !)))) (from ! (stop !)) (init ! 34 refl (tt, (tt, (record { fits = lit< tt }, tt)))) $
+        rewrite ! 34 (λ (m : ℕ). ‵ (fat fullShare (sliceTy (tyRef erased mut (pointee (T.the-row .written)))) l₁₅ 0 (sliceVal (l₁₁, 0) m))) (sym seven) refl $
+        assigns ! (addr ! (from ! (stop !))) (from ! (stop !)) (init ! 32 refl (tt, tt)) $ assigns ! (addr ! (from ! (fld ! refl (hop ! (look-in ! 58 (sub ! 0 refl (whole !))) (stop !))))) (from ! (stop !)) (init ! 30 refl (tt, tt)) $
+        assigns ! (agg ! (and-then ! (load ! (from ! (stop !)) (look ! 30 refl)) (and-then ! (load ! (from ! (fld ! refl (stop !))) (look-in ! 58 (sub ! 1 refl (whole !)))) (no-more !)))) (from ! (stop !)) (init ! 28 refl (tt, (tt, (record { fits = room₂ .0 }, tt)))) $
+        assigns ! (addr ! (from ! (fld ! refl (hop ! (look-in ! 56 (sub ! 0 refl (whole !))) (stop !))))) (from ! (stop !)) (init ! 26 refl (tt, tt)) $
+        assigns ! (agg ! (and-then ! (load ! (from ! (stop !)) (look ! 26 refl)) (and-then ! (load ! (from ! (fld ! refl (stop !))) (look-in ! 56 (sub ! 1 refl (whole !)))) (no-more !)))) (from ! (stop !)) (init ! 24 refl (tt, (tt, (record { fits = room₃ .0 }, tt)))) $
+        assigns ! (addr ! (from ! (fld ! refl (hop ! (look-in ! 54 (sub ! 0 refl (whole !))) (stop !))))) (from ! (stop !)) (init ! 22 refl (tt, tt)) $
+        assigns ! (agg ! (and-then ! (load ! (from ! (stop !)) (look ! 22 refl)) (and-then ! (load ! (from ! (fld ! refl (stop !))) (look-in ! 54 (sub ! 1 refl (whole !)))) (no-more !)))) (from ! (stop !)) (init ! 20 refl (tt, (tt, (record { fits = room₄ .0 }, tt)))) $
+        assigns ! (addr ! (from ! (fld ! refl (hop ! (look-in ! 52 (sub ! 0 refl (whole !))) (stop !))))) (from ! (stop !)) (init ! 18 refl (tt, tt)) $
+        assigns ! (agg ! (and-then ! (load ! (from ! (stop !)) (look ! 18 refl)) (and-then ! (load ! (from ! (fld ! refl (stop !))) (look-in ! 52 (sub ! 1 refl (whole !)))) (no-more !)))) (from ! (stop !)) (init ! 16 refl (tt, (tt, (record { fits = room₅ .0 }, tt)))) $
+        assigns ! (addr ! (from ! (fld ! refl (hop ! (look-in ! 50 (sub ! 0 refl (whole !))) (stop !))))) (from ! (stop !)) (init ! 14 refl (tt, tt)) $
+        assigns ! (agg ! (and-then ! (load ! (from ! (stop !)) (look ! 14 refl)) (and-then ! (load ! (from ! (fld ! refl (stop !))) (look-in ! 50 (sub ! 1 refl (whole !)))) (no-more !)))) (from ! (stop !)) (init ! 12 refl (tt, (tt, (record { fits = room₆ .0 }, tt)))) $
+        assigns ! (addr ! (from ! (fld ! refl (hop ! (look-in ! 48 (sub ! 0 refl (whole !))) (stop !))))) (from ! (stop !)) (init ! 10 refl (tt, tt)) $
+        assigns ! (agg ! (and-then ! (load ! (from ! (stop !)) (look ! 10 refl)) (and-then ! (load ! (from ! (fld ! refl (stop !))) (look-in ! 48 (sub ! 1 refl (whole !)))) (no-more !)))) (from ! (stop !)) (init ! 8 refl (tt, (tt, (record { fits = room₇ .0 }, tt)))) $
+        assigns ! (addr ! (from ! (fld ! refl (hop ! (look-in ! 46 (sub ! 0 refl (whole !))) (stop !))))) (from ! (stop !)) (init ! 6 refl (tt, tt)) $
+        assigns ! (agg ! (and-then ! (load ! (from ! (stop !)) (look ! 6 refl)) (and-then ! (load ! (from ! (fld ! refl (stop !))) (look-in ! 46 (sub ! 1 refl (whole !)))) (no-more !)))) (from ! (stop !)) (init ! 4 refl (tt, (tt, (record { fits = room₈ .0 }, tt)))) $
         -- the rows and the table are lent, each for a lifetime
-        move ! (38 ∷ []) $ use1 W (‵ (partAt Seven fullShare x₀ l₁₀ 0)) (rows-in 𝓤 H A W x₀ g₀ l₁₀) $ use1 W (‵ (arr-parts (shares T.the-row) 7 .part fullShare x₀ l₁₀ 0)) (array-apart 𝓤 H A W T.the-row fullShare tt 7 x₀ l₁₀ 0) $ fsplit ! $
-        drop ! $ use1 W (‵ (cells (mem T.the-row) x₀ l₁₀ 0)) (whole-in 𝓤 H A W T.the-row x₀ l₁₀ 0) $ lft-new ! tt (λ α. move ! (1 ∷ []) $
-        use1 W (later (some (λ (γ : GName). ‵ (MutSlice (named 0) (α ∷ []) T.the-row .own (lent-rows l₁₀ γ) (sliceVal (l₁₀, 0) (length x₀) ∷ [])) ⊛ ‵ (flent (α ∷ []) (Held T.the-row (length x₀) l₁₀ 0 γ))))) (lends-slice 𝓤 H A W T.the-row (named 0) (α ∷ []) x₀ l₁₀ 0 room₀) $ await ! tt $ pick ! (λ γ.
-        split ! $ move ! (39 ∷ []) $ use1 W (‵ (partAt B.the-row fullShare x₁ l₁₁ 0)) (table-in 𝓤 H A W x₁ g₁ l₁₁) $ lft-new ! tt (λ β. move ! (1 ∷ []) $
-        use1 W (later (some (λ (δ : GName). ‵ (MutRef (named 1) (β ∷ []) B.the-row .own (lent-table l₁₁ δ) (vptr l₁₁ 0 ∷ [])) ⊛ ‵ (flent (β ∷ []) (Body (mem B.the-row) l₁₁ 0 δ))))) (lends-ref 𝓤 H A W B.the-row (named 1) (β ∷ []) x₁ l₁₁ 0) $ await ! tt $ pick ! (λ δ.
+        move ! (42 ∷ []) $ use1 W (‵ (partAt Seven fullShare x₀ l₁₁ 0)) (rows-in 𝓤 H A W x₀ g₀ l₁₁) $ use1 W (‵ (arr-parts (shares T.the-row) 7 .part fullShare x₀ l₁₁ 0)) (array-apart 𝓤 H A W T.the-row fullShare tt 7 x₀ l₁₁ 0) $ fsplit ! $
+        drop ! $ use1 W (‵ (cells (mem T.the-row) x₀ l₁₁ 0)) (whole-in 𝓤 H A W T.the-row x₀ l₁₁ 0) $ lft-new ! tt (λ α. move ! (1 ∷ []) $
+        use1 W (later (some (λ (γ : GName). ‵ (MutSlice (named 0) (α ∷ []) T.the-row .own (lent-rows l₁₁ γ) (sliceVal (l₁₁, 0) (length x₀) ∷ [])) ⊛ ‵ (flent (α ∷ []) (Held T.the-row (length x₀) l₁₁ 0 γ))))) (lends-slice 𝓤 H A W T.the-row (named 0) (α ∷ []) x₀ l₁₁ 0 room₀) $ await ! tt $ pick ! (λ γ.
+        split ! $ move ! (43 ∷ []) $ use1 W (‵ (partAt B.the-row fullShare x₁ l₁₂ 0)) (table-in 𝓤 H A W x₁ g₁ l₁₂) $ lft-new ! tt (λ β. move ! (1 ∷ []) $
+        use1 W (later (some (λ (δ : GName). ‵ (MutRef (named 1) (β ∷ []) B.the-row .own (lent-table l₁₂ δ) (vptr l₁₂ 0 ∷ [])) ⊛ ‵ (flent (β ∷ []) (Body (mem B.the-row) l₁₂ 0 δ))))) (lends-ref 𝓤 H A W B.the-row (named 1) (β ∷ []) x₁ l₁₂ 0) $ await ! tt $ pick ! (λ δ.
         split ! $
         -- `hep::read`
-        nothing ! $ move ! (65 ∷ 0 ∷ []) $ fjoin ! $ move ! (65 ∷ 0 ∷ []) $ fjoin ! $ move ! (65 ∷ 0 ∷ []) $ fjoin ! $ move ! (65 ∷ 0 ∷ []) $ fjoin ! $ move ! (65 ∷ 0 ∷ []) $ fjoin ! $ move ! (65 ∷ 0 ∷ []) $ fjoin ! $
-        move ! (65 ∷ 0 ∷ []) $ fjoin ! $ move ! (1 ∷ 0 ∷ []) $ fjoin ! $ move ! (3 ∷ 0 ∷ []) $ fjoin ! $ move ! (2 ∷ 63 ∷ []) $ join ! $ move ! (4 ∷ 0 ∷ []) $ join ! $
-        use2 W (raw (Lent 𝓤 H A at-mem run .pre (to-lent l₁₀ l₁₁ α β γ δ))) (goes-lent l₁₀ l₁₁ α β γ δ) $
-        calls-at ! fm (Lent 𝓤 H A at-mem run) known-lent (to-lent l₁₀ l₁₁ α β γ δ) (and-then ! (load ! (from ! (stop !)) (look ! 33 refl)) (and-then ! (load ! (from ! (stop !)) (look ! 31 refl)) (and-then ! (load ! (from ! (stop !)) (look ! 27 refl)) (and-then ! (load ! (from ! (stop !)) (look ! 23 refl)) (and-then ! (load ! (from ! (stop !)) (look ! 19 refl)) (and-then ! (load ! (from ! (stop !)) (look ! 15 refl)) (and-then ! (load ! (from ! (stop !)) (look ! 11 refl)) (and-then ! (load ! (from ! (stop !)) (look ! 7 refl)) (and-then ! (load ! (from ! (stop !)) (look ! 41 refl)) (no-more !)))))))))) (λ w₁.
-        use1 W (later (some (λ (r : ReadAnswer). ((‵ (flft (α ∷ []) fullShare) ⊛ (‵ (flft (β ∷ []) fullShare) ⊛ (‵ (flft κ₂ q₂) ⊛ (‵ (flft κ₃ q₃) ⊛ (‵ (flft κ₄ q₄) ⊛ (‵ (flft κ₅ q₅) ⊛ (‵ (flft κ₆ q₆) ⊛ (‵ (flft κ₇ q₇) ⊛ (‵ (flft κ₈ q₈) ⊛ ‵ ftrue))))))))) ⊛ ‵ (N.the-row .own r (w₁ ∷ []))) ⊛ raw (ensured 𝓤 H A lent-fn.ended (lent-fn.clauses 𝓤 H A at-mem run) ((α ∷ []), ((β ∷ []), (κ₂, (κ₃, (κ₄, (κ₅, (κ₆, (κ₇, (κ₈, tt))))))))) (args-lent l₁₀ l₁₁ α β γ δ) tt r)))) (id⊢ 𝓤 _) $ await ! tt $ pick ! (λ r.
+        nothing ! $ move ! (71 ∷ 0 ∷ []) $ fjoin ! $ move ! (71 ∷ 0 ∷ []) $ fjoin ! $ move ! (71 ∷ 0 ∷ []) $ fjoin ! $ move ! (71 ∷ 0 ∷ []) $ fjoin ! $ move ! (71 ∷ 0 ∷ []) $ fjoin ! $ move ! (71 ∷ 0 ∷ []) $ fjoin ! $
+        move ! (71 ∷ 0 ∷ []) $ fjoin ! $ move ! (71 ∷ 0 ∷ []) $ fjoin ! $ move ! (1 ∷ 0 ∷ []) $ fjoin ! $ move ! (3 ∷ 0 ∷ []) $ fjoin ! $ move ! (2 ∷ 69 ∷ []) $ join ! $ move ! (4 ∷ 0 ∷ []) $ join ! $
+        use2 W (raw (Lent 𝓤 H A at-mem run .pre (to-lent l₁₁ l₁₂ α β γ δ))) (goes-lent l₁₁ l₁₂ α β γ δ) $
+        calls-at ! fm (Lent 𝓤 H A at-mem run) known-lent (to-lent l₁₁ l₁₂ α β γ δ) (and-then ! (load ! (from ! (stop !)) (look ! 37 refl)) (and-then ! (load ! (from ! (stop !)) (look ! 35 refl)) (and-then ! (load ! (from ! (stop !)) (look ! 31 refl)) (and-then ! (load ! (from ! (stop !)) (look ! 27 refl)) (and-then ! (load ! (from ! (stop !)) (look ! 23 refl)) (and-then ! (load ! (from ! (stop !)) (look ! 19 refl)) (and-then ! (load ! (from ! (stop !)) (look ! 15 refl)) (and-then ! (load ! (from ! (stop !)) (look ! 11 refl)) (and-then ! (load ! (from ! (stop !)) (look ! 7 refl)) (and-then ! (load ! (from ! (stop !)) (look ! 45 refl)) (no-more !))))))))))) (λ w₁.
+        use1 W (later (some (λ (r : ReadAnswer). ((‵ (flft (α ∷ []) fullShare) ⊛ (‵ (flft (β ∷ []) fullShare) ⊛ (‵ (flft κ₂ q₂) ⊛ (‵ (flft κ₃ q₃) ⊛ (‵ (flft κ₄ q₄) ⊛ (‵ (flft κ₅ q₅) ⊛ (‵ (flft κ₆ q₆) ⊛ (‵ (flft κ₇ q₇) ⊛ (‵ (flft κ₈ q₈) ⊛ (‵ (flft κ₉ q₉) ⊛ ‵ ftrue)))))))))) ⊛ ‵ (N.the-row .own r (w₁ ∷ []))) ⊛ raw (ensured 𝓤 H A lent-fn.ended (lent-fn.clauses 𝓤 H A at-mem run) ((α ∷ []), ((β ∷ []), (κ₂, (κ₃, (κ₄, (κ₅, (κ₆, (κ₇, (κ₈, (κ₉, tt)))))))))) (args-lent l₁₁ l₁₂ α β γ δ) tt r)))) (id⊢ 𝓤 _) $ await ! tt $ pick ! (λ r.
         split ! $ move ! (1 ∷ []) $
-        use1 W (some (λ (ws₁ : Lasts lent-fn.ended ((α ∷ []), ((β ∷ []), (κ₂, (κ₃, (κ₄, (κ₅, (κ₆, (κ₇, (κ₈, tt))))))))) (args-lent l₁₀ l₁₁ α β γ δ)). ‵ (lasts lent-fn.ended ((α ∷ []), ((β ∷ []), (κ₂, (κ₃, (κ₄, (κ₅, (κ₆, (κ₇, (κ₈, tt))))))))) (args-lent l₁₀ l₁₁ α β γ δ) ws₁) ⊛ raw (fact 𝓤 (ReadPromise (lentBuffers x₀ x₁ x₂ x₃ x₄ x₅ x₆ x₇) x₈ r (lentBuffers (ws₁ .0) (ws₁ .1 .0) (ws₁ .1 .1 .0) (ws₁ .1 .1 .1 .0) (ws₁ .1 .1 .1 .1 .0) (ws₁ .1 .1 .1 .1 .1 .0) (ws₁ .1 .1 .1 .1 .1 .1 .0) (ws₁ .1 .1 .1 .1 .1 .1 .1 .0)))))) (id⊢ 𝓤 _) $ pick ! (λ ws₁.
+        use1 W (some (λ (ws₁ : Lasts lent-fn.ended ((α ∷ []), ((β ∷ []), (κ₂, (κ₃, (κ₄, (κ₅, (κ₆, (κ₇, (κ₈, (κ₉, tt)))))))))) (args-lent l₁₁ l₁₂ α β γ δ)). ‵ (lasts lent-fn.ended ((α ∷ []), ((β ∷ []), (κ₂, (κ₃, (κ₄, (κ₅, (κ₆, (κ₇, (κ₈, (κ₉, tt)))))))))) (args-lent l₁₁ l₁₂ α β γ δ) ws₁) ⊛ raw (fact 𝓤 (ReadPromise (lentBuffers x₀ x₁ x₂ x₃ x₄ x₅ x₆ x₇ x₈) x₉ r (lentBuffers (ws₁ .0) (ws₁ .1 .0) (ws₁ .1 .1 .0) (ws₁ .1 .1 .1 .0) (ws₁ .1 .1 .1 .1 .0) (ws₁ .1 .1 .1 .1 .1 .0) (ws₁ .1 .1 .1 .1 .1 .1 .0) (ws₁ .1 .1 .1 .1 .1 .1 .1 .0) (ws₁ .1 .1 .1 .1 .1 .1 .1 .1 .0)))))) (id⊢ 𝓤 _) $ pick ! (λ ws₁.
         split ! $ move ! (1 ∷ []) $
-        heard ! (ReadPromise (lentBuffers x₀ x₁ x₂ x₃ x₄ x₅ x₆ x₇) x₈ r (lentBuffers (ws₁ .0) (ws₁ .1 .0) (ws₁ .1 .1 .0) (ws₁ .1 .1 .1 .0) (ws₁ .1 .1 .1 .1 .0) (ws₁ .1 .1 .1 .1 .1 .0) (ws₁ .1 .1 .1 .1 .1 .1 .0) (ws₁ .1 .1 .1 .1 .1 .1 .1 .0))) (λ e₁.
+        heard ! (ReadPromise (lentBuffers x₀ x₁ x₂ x₃ x₄ x₅ x₆ x₇ x₈) x₉ r (lentBuffers (ws₁ .0) (ws₁ .1 .0) (ws₁ .1 .1 .0) (ws₁ .1 .1 .1 .0) (ws₁ .1 .1 .1 .1 .0) (ws₁ .1 .1 .1 .1 .1 .0) (ws₁ .1 .1 .1 .1 .1 .1 .0) (ws₁ .1 .1 .1 .1 .1 .1 .1 .0) (ws₁ .1 .1 .1 .1 .1 .1 .1 .1 .0))) (λ e₁.
         fsplit ! $ fsplit ! $ move ! (1 ∷ []) $ feqL ! (λ n₁·0. move ! (1 ∷ []) $ fsplit ! $ move ! (1 ∷ []) $ fsplit ! $ fsplit ! $ move ! (1 ∷ []) $ feqL ! (λ n₁·2. move ! (1 ∷ []) $ fsplit ! $ fsplit ! $ move ! (1 ∷ []) $
         feqL ! (λ n₁·3. move ! (1 ∷ []) $ fsplit ! $ fsplit ! $ move ! (1 ∷ []) $ feqL ! (λ n₁·4. move ! (1 ∷ []) $ fsplit ! $ fsplit ! $ move ! (1 ∷ []) $ feqL ! (λ n₁·5. move ! (1 ∷ []) $ fsplit ! $ fsplit ! $ move ! (1 ∷ []) $
-        feqL ! (λ n₁·6. move ! (1 ∷ []) $ fsplit ! $ fsplit ! $ move ! (1 ∷ []) $ feqL ! (λ n₁·7. move ! (1 ∷ []) $ fsplit ! $ drop ! $ drop ! $ move ! (8 ∷ []) $ split ! $ move ! (1 ∷ []) $
-        peeks ! N.the-row (Is N.the-row) (shows 𝓤 H A N.the-row) r (w₁ ∷ []) (λ is₁. land ! (from ! (stop !)) (init ! 46 refl (EL.lawful N.the-type N′.the-laws 𝓤 H A W tt .typed r _ is₁ .0)) $ drop ! $
-        rewrite ! 45 (λ (z : Val). ‵ (fat fullShare (spell mirs.table (pointee (N.the-row .written))) l₁₂ 0 z)) (ap only (EL.tells N.the-type N′.the-laws r _ is₁)) refl $ split ! $ move ! (1 ∷ []) $ split ! $
+        feqL ! (λ n₁·6. move ! (1 ∷ []) $ fsplit ! $ fsplit ! $ move ! (1 ∷ []) $ feqL ! (λ n₁·7. move ! (1 ∷ []) $ fsplit ! $ fsplit ! $ move ! (1 ∷ []) $ feqL ! (λ n₁·8. move ! (1 ∷ []) $ fsplit ! $ drop ! $ drop ! $ move ! (9 ∷ []) $
+        split ! $ move ! (1 ∷ []) $ peeks ! N.the-row (Is N.the-row) (shows 𝓤 H A N.the-row) r (w₁ ∷ []) (λ is₁. land ! (from ! (stop !)) (init ! 51 refl (EL.lawful N.the-type N′.the-laws 𝓤 H A W tt .typed r _ is₁ .0)) $ drop ! $
+        rewrite ! 50 (λ (z : Val). ‵ (fat fullShare (spell mirs.table (pointee (N.the-row .written))) l₁₃ 0 z)) (ap only (EL.tells N.the-type N′.the-laws r _ is₁)) refl $ split ! $ move ! (1 ∷ []) $ split ! $
         -- the lifetimes end, and the locals are back
-        move ! (2 ∷ []) $ lft-end ! tt $ move ! (0 ∷ 12 ∷ 10 ∷ []) $ use3 W (later (‵ (Cells (mem T.the-row) (length x₀) .lies (ws₁ .0) l₁₀ 0))) (slice-back 𝓤 H A W T.the-row (α ∷ []) γ (ws₁ .0) (length x₀) l₁₀ 0) $ await ! tt $ fsplit ! $
-        drop ! $ use1 W (‵ (row T.the-row fullShare (ws₁ .0) l₁₀ 0)) (whole-out 𝓤 H A W T.the-row (ws₁ .0) l₁₀ 0) $
-        feqI ! ℕ (length (ws₁ .0)) 7 (n₁·0 ∙ seven) $ fjoin ! $ use1 W (‵ (partAt Seven fullShare (ws₁ .0) l₁₀ 0)) (array-whole 𝓤 H A W T.the-row fullShare 7 (ws₁ .0) l₁₀ 0) $
-        use1 W (given (Is Seven (ws₁ .0) (array-vals (LL.vals T.the-type T′.the-laws) (ws₁ .0))) (‵ (fat fullShare arr-ty l₁₀ 0 (only (array-vals (LL.vals T.the-type T′.the-laws) (ws₁ .0)))))) (rows-out 𝓤 H A W (ws₁ .0) l₁₀) $
-        learn ! (λ h₀. move ! (1 ∷ []) $ lft-end ! tt $ move ! (0 ∷ 10 ∷ 9 ∷ []) $ use3 W (later (‵ (partAt B.the-row fullShare (ws₁ .1 .0) l₁₁ 0))) (ref-back 𝓤 H A W B.the-row (β ∷ []) δ (ws₁ .1 .0) l₁₁ 0) $ await ! tt $
-        use1 W (given (Is B.the-row (ws₁ .1 .0) (val-B (ws₁ .1 .0) ∷ [])) (‵ (fat fullShare table-ty l₁₁ 0 (val-B (ws₁ .1 .0))))) (table-out 𝓤 H A W (ws₁ .1 .0) l₁₁) $ learn ! (λ h₁.
+        move ! (2 ∷ []) $ lft-end ! tt $ move ! (0 ∷ 13 ∷ 11 ∷ []) $ use3 W (later (‵ (Cells (mem T.the-row) (length x₀) .lies (ws₁ .0) l₁₁ 0))) (slice-back 𝓤 H A W T.the-row (α ∷ []) γ (ws₁ .0) (length x₀) l₁₁ 0) $ await ! tt $ fsplit ! $
+        drop ! $ use1 W (‵ (row T.the-row fullShare (ws₁ .0) l₁₁ 0)) (whole-out 𝓤 H A W T.the-row (ws₁ .0) l₁₁ 0) $
+        feqI ! ℕ (length (ws₁ .0)) 7 (n₁·0 ∙ seven) $ fjoin ! $ use1 W (‵ (partAt Seven fullShare (ws₁ .0) l₁₁ 0)) (array-whole 𝓤 H A W T.the-row fullShare 7 (ws₁ .0) l₁₁ 0) $
+        use1 W (given (Is Seven (ws₁ .0) (array-vals (LL.vals T.the-type T′.the-laws) (ws₁ .0))) (‵ (fat fullShare arr-ty l₁₁ 0 (only (array-vals (LL.vals T.the-type T′.the-laws) (ws₁ .0)))))) (rows-out 𝓤 H A W (ws₁ .0) l₁₁) $
+        learn ! (λ h₀. move ! (1 ∷ []) $ lft-end ! tt $ move ! (0 ∷ 11 ∷ 10 ∷ []) $ use3 W (later (‵ (partAt B.the-row fullShare (ws₁ .1 .0) l₁₂ 0))) (ref-back 𝓤 H A W B.the-row (β ∷ []) δ (ws₁ .1 .0) l₁₂ 0) $ await ! tt $
+        use1 W (given (Is B.the-row (ws₁ .1 .0) (val-B (ws₁ .1 .0) ∷ [])) (‵ (fat fullShare table-ty l₁₂ 0 (val-B (ws₁ .1 .0))))) (table-out 𝓤 H A W (ws₁ .1 .0) l₁₂) $ learn ! (λ h₁.
         -- the parts are put together
-        assigns ! (of-opd ! (load ! (from ! (stop !)) (look ! 1 refl))) (from ! (stop !)) (init ! 11 refl (array-lawful 𝓤 H A W T.the-row (LL.lawful T.the-type T′.the-laws 𝓤 H A W) 7 .typed (ws₁ .0) _ h₀ .0)) $
-        assigns ! (of-opd ! (load ! (from ! (stop !)) (look ! 0 refl))) (from ! (stop !)) (init ! 9 refl (LL.lawful B.the-type B′.the-laws 𝓤 H A W .typed (ws₁ .1 .0) _ h₁ .0)) $ nothing ! $ nothing ! $
+        assigns ! (of-opd ! (load ! (from ! (stop !)) (look ! 1 refl))) (from ! (stop !)) (init ! 12 refl (array-lawful 𝓤 H A W T.the-row (LL.lawful T.the-type T′.the-laws 𝓤 H A W) 7 .typed (ws₁ .0) _ h₀ .0)) $
+        assigns ! (of-opd ! (load ! (from ! (stop !)) (look ! 0 refl))) (from ! (stop !)) (init ! 10 refl (LL.lawful B.the-type B′.the-laws 𝓤 H A W .typed (ws₁ .1 .0) _ h₁ .0)) $ nothing ! $ nothing ! $
         owned ! N.the-row (Is N.the-row) (EL.makes N.the-type N′.the-plain 𝓤 H A) r _ (spelled-N r w₁ is₁) $ fjoin ! $ owned ! B.the-row (Is B.the-row) (LL.makes B.the-type B′.the-plain 𝓤 H A) (ws₁ .1 .0) _ h₁ $ fjoin ! $
         owned ! Seven (Is Seven) (array-makes 𝓤 H A W T.the-row (LL.makes T.the-type T′.the-plain 𝓤 H A) 7) (ws₁ .0) _ h₀ $ fjoin ! $ move ! (1 ∷ 0 ∷ []) $
         use2 W (raw (Again 𝓤 H A at-mem run .pre (to-again (ws₁ .0) (ws₁ .1 .0) r))) (goes-again (ws₁ .0) (ws₁ .1 .0) r) $
-        calls-at ! fm (Again 𝓤 H A at-mem run) known-again (to-again (ws₁ .0) (ws₁ .1 .0) r) (and-then ! (load ! (from ! (stop !)) (look ! 12 refl)) (and-then ! (load ! (from ! (stop !)) (look ! 10 refl)) (and-then ! (load ! (from ! (stop !)) (look ! 44 refl)) (no-more !)))) (λ w₂.
+        calls-at ! fm (Again 𝓤 H A at-mem run) known-again (to-again (ws₁ .0) (ws₁ .1 .0) r) (and-then ! (load ! (from ! (stop !)) (look ! 13 refl)) (and-then ! (load ! (from ! (stop !)) (look ! 11 refl)) (and-then ! (load ! (from ! (stop !)) (look ! 49 refl)) (no-more !)))) (λ w₂.
         use1 W (later (some (λ (o : AfterRead). (‵ ftrue ⊛ ‵ (O.the-row .own o (w₂ ∷ []))) ⊛ raw (ensured 𝓤 H A again-fn.ended (again-fn.clauses 𝓤 H A at-mem run) tt (args-again (ws₁ .0) (ws₁ .1 .0) r) tt o)))) (id⊢ 𝓤 _) $ await ! tt $ pick ! (λ o.
         split ! $ move ! (1 ∷ []) $
         use1 W (some (λ (ws₂ : Lasts again-fn.ended tt (args-again (ws₁ .0) (ws₁ .1 .0) r)). ‵ (lasts again-fn.ended tt (args-again (ws₁ .0) (ws₁ .1 .0) r) ws₂) ⊛ raw (fact 𝓤 (o ≡ record { rows = record { at = ws₁ .0; n = 7 }; table = ws₁ .1 .0; answer = r })))) (id⊢ 𝓤 _) $ pick ! (λ ws₂.
         split ! $ move ! (1 ∷ []) $ heard ! (o ≡ record { rows = record { at = ws₁ .0; n = 7 }; table = ws₁ .1 .0; answer = r }) (λ e₂. fsplit ! $ drop ! $ fsplit ! $ drop ! $ fsplit ! $ drop ! $ drop ! $ split ! $ move ! (1 ∷ []) $
-        peeks ! O.the-row (Is O.the-row) (shows 𝓤 H A O.the-row) o (w₂ ∷ []) (λ is₂. land ! (from ! (stop !)) (init ! 67 refl (LL.lawful O.the-type O′.the-laws 𝓤 H A W .typed o _ is₂ .0)) $ move ! (1 ∷ []) $ drop ! $
-        returns ! (look ! 66 refl) $ forget ! 10 refl $ forget ! 12 refl $ forget ! 14 refl $ forget ! 16 refl $ forget ! 18 refl $ forget ! 20 refl $ forget ! 22 refl $ forget ! 24 refl $ forget ! 26 refl $ forget ! 28 refl $
-        forget ! 30 refl $ forget ! 32 refl $ forget ! 34 refl $ forget ! 36 refl $ forget ! 38 refl $ forget ! 40 refl $ forget ! 42 refl $ forget ! 44 refl $ forget ! 1 refl $ forget ! 2 refl $ forget ! 48 refl $ forget ! 50 refl $
-        forget ! 52 refl $ forget ! 54 refl $ forget ! 56 refl $ forget ! 58 refl $ forget ! 60 refl $ forget ! 62 refl $ forget ! 64 refl $ forget ! 66 refl $ move ! (66 ∷ 67 ∷ []) $ free1 ! $ move ! (64 ∷ 65 ∷ []) $ free1 ! $
-        move ! (62 ∷ 63 ∷ []) $ free1 ! $ move ! (60 ∷ 61 ∷ []) $ free1 ! $ move ! (58 ∷ 59 ∷ []) $ free1 ! $ move ! (56 ∷ 57 ∷ []) $ free1 ! $ move ! (54 ∷ 55 ∷ []) $ free1 ! $ move ! (52 ∷ 53 ∷ []) $ free1 ! $ move ! (50 ∷ 51 ∷ []) $
-        free1 ! $ move ! (48 ∷ 49 ∷ []) $ free1 ! $ move ! (2 ∷ 47 ∷ []) $ free1 ! $ move ! (1 ∷ 45 ∷ []) $ free1 ! $ move ! (42 ∷ 43 ∷ []) $ free1 ! $ move ! (40 ∷ 41 ∷ []) $ free1 ! $ move ! (38 ∷ 39 ∷ []) $ free1 ! $
-        move ! (36 ∷ 37 ∷ []) $ free1 ! $ move ! (34 ∷ 35 ∷ []) $ free1 ! $ move ! (32 ∷ 33 ∷ []) $ free1 ! $ move ! (30 ∷ 31 ∷ []) $ free1 ! $ move ! (28 ∷ 29 ∷ []) $ free1 ! $ move ! (26 ∷ 27 ∷ []) $ free1 ! $ move ! (24 ∷ 25 ∷ []) $
-        free1 ! $ move ! (22 ∷ 23 ∷ []) $ free1 ! $ move ! (20 ∷ 21 ∷ []) $ free1 ! $ move ! (18 ∷ 19 ∷ []) $ free1 ! $ move ! (16 ∷ 17 ∷ []) $ free1 ! $ move ! (14 ∷ 15 ∷ []) $ free1 ! $ move ! (12 ∷ 13 ∷ []) $ free1 ! $
-        move ! (10 ∷ 11 ∷ []) $ free1 ! $ move ! (8 ∷ 9 ∷ []) $ free1 ! $ free0 ! $ keep ! (1 ∷ 0 ∷ 7 ∷ 6 ∷ 5 ∷ 4 ∷ 3 ∷ 2 ∷ []) $
-        by ! (exits r o w₂ (ws₁ .0) (ws₁ .1 .0) (ws₁ .1 .1 .0) (ws₁ .1 .1 .1 .0) (ws₁ .1 .1 .1 .1 .0) (ws₁ .1 .1 .1 .1 .1 .0) (ws₁ .1 .1 .1 .1 .1 .1 .0) (ws₁ .1 .1 .1 .1 .1 .1 .1 .0) e₁ e₂ n₁·2 n₁·3 n₁·4 n₁·5 n₁·6 n₁·7))))))))))))))))))))))))))))))))))))))))))))))))))))))
+        peeks ! O.the-row (Is O.the-row) (shows 𝓤 H A O.the-row) o (w₂ ∷ []) (λ is₂. land ! (from ! (stop !)) (init ! 74 refl (LL.lawful O.the-type O′.the-laws 𝓤 H A W .typed o _ is₂ .0)) $ move ! (1 ∷ []) $ drop ! $
+        returns ! (look ! 73 refl) $ forget ! 11 refl $ forget ! 13 refl $ forget ! 15 refl $ forget ! 17 refl $ forget ! 19 refl $ forget ! 21 refl $ forget ! 23 refl $ forget ! 25 refl $ forget ! 27 refl $ forget ! 29 refl $
+        forget ! 31 refl $ forget ! 33 refl $ forget ! 35 refl $ forget ! 37 refl $ forget ! 39 refl $ forget ! 41 refl $ forget ! 43 refl $ forget ! 45 refl $ forget ! 47 refl $ forget ! 49 refl $ forget ! 1 refl $ forget ! 2 refl $
+        forget ! 53 refl $ forget ! 55 refl $ forget ! 57 refl $ forget ! 59 refl $ forget ! 61 refl $ forget ! 63 refl $ forget ! 65 refl $ forget ! 67 refl $ forget ! 69 refl $ forget ! 71 refl $ forget ! 73 refl $
+        move ! (73 ∷ 74 ∷ []) $ free1 ! $ move ! (71 ∷ 72 ∷ []) $ free1 ! $ move ! (69 ∷ 70 ∷ []) $ free1 ! $ move ! (67 ∷ 68 ∷ []) $ free1 ! $ move ! (65 ∷ 66 ∷ []) $ free1 ! $ move ! (63 ∷ 64 ∷ []) $ free1 ! $ move ! (61 ∷ 62 ∷ []) $
+        free1 ! $ move ! (59 ∷ 60 ∷ []) $ free1 ! $ move ! (57 ∷ 58 ∷ []) $ free1 ! $ move ! (55 ∷ 56 ∷ []) $ free1 ! $ move ! (53 ∷ 54 ∷ []) $ free1 ! $ move ! (2 ∷ 52 ∷ []) $ free1 ! $ move ! (1 ∷ 50 ∷ []) $ free1 ! $
+        move ! (47 ∷ 48 ∷ []) $ free1 ! $ move ! (45 ∷ 46 ∷ []) $ free1 ! $ move ! (43 ∷ 44 ∷ []) $ free1 ! $ move ! (41 ∷ 42 ∷ []) $ free1 ! $ move ! (39 ∷ 40 ∷ []) $ free1 ! $ move ! (37 ∷ 38 ∷ []) $ free1 ! $ move ! (35 ∷ 36 ∷ []) $
+        free1 ! $ move ! (33 ∷ 34 ∷ []) $ free1 ! $ move ! (31 ∷ 32 ∷ []) $ free1 ! $ move ! (29 ∷ 30 ∷ []) $ free1 ! $ move ! (27 ∷ 28 ∷ []) $ free1 ! $ move ! (25 ∷ 26 ∷ []) $ free1 ! $ move ! (23 ∷ 24 ∷ []) $ free1 ! $
+        move ! (21 ∷ 22 ∷ []) $ free1 ! $ move ! (19 ∷ 20 ∷ []) $ free1 ! $ move ! (17 ∷ 18 ∷ []) $ free1 ! $ move ! (15 ∷ 16 ∷ []) $ free1 ! $ move ! (13 ∷ 14 ∷ []) $ free1 ! $ move ! (11 ∷ 12 ∷ []) $ free1 ! $ move ! (9 ∷ 10 ∷ []) $
+        free1 ! $ free0 ! $ keep ! (1 ∷ 0 ∷ 8 ∷ 7 ∷ 6 ∷ 5 ∷ 4 ∷ 3 ∷ 2 ∷ []) $
+        by ! (exits r o w₂ (ws₁ .0) (ws₁ .1 .0) (ws₁ .1 .1 .0) (ws₁ .1 .1 .1 .0) (ws₁ .1 .1 .1 .1 .0) (ws₁ .1 .1 .1 .1 .1 .0) (ws₁ .1 .1 .1 .1 .1 .1 .0) (ws₁ .1 .1 .1 .1 .1 .1 .1 .0) (ws₁ .1 .1 .1 .1 .1 .1 .1 .1 .0) e₁ e₂ n₁·2 n₁·3 n₁·4 n₁·5 n₁·6 n₁·7 n₁·8))))))))))))))))))))))))))))))))))))))))))))))))))))))))))
 
 module _ {M : Type 1} (𝓤 : URA M) (H : Heap 𝓤) (A : Atoms 𝓤) (W : Given 𝓤 H A) (at-mem : Memory → SProp 𝓤) (run : Routine → Fun 𝓤) where
   read-owned-walks : (C : Calls 𝓤 H) (Λ : Loops 𝓤 H) → FmC 𝓤 H (W .laws) C → Triple 𝓤 (C #hep·read) (Lent 𝓤 H A at-mem run) → Triple 𝓤 (C #hep·after-read) (Again 𝓤 H A at-mem run) → Walks 𝓤 H A read-owned′.ended stayed (WpFn 𝓤 H C Λ code.function) (read-owned′.clauses 𝓤 H A at-mem run)
   read-owned-walks C Λ fm known-lent known-again = walked 𝓤 H A read-owned′.ended stayed (read-owned′.clauses 𝓤 H A at-mem run) (WpFn 𝓤 H C Λ code.function)
-      (λ κs. (array-vals (LL.vals T.the-type T′.the-laws), (LL.vals B.the-type B′.the-laws, (slice-vals, (slice-vals, (slice-vals, (slice-vals, (slice-vals, (slice-vals, (slice-vals, tt))))))))))
-      (λ κs. (array-tells T.the-row (LL.vals T.the-type T′.the-laws) (LL.tells T.the-type T′.the-laws) 7, (LL.tells B.the-type B′.the-laws, (mut-slice-tells (named 0) (κs .0) u64, (mut-slice-tells (named 1) (κs .1 .0) u8, (mut-slice-tells (named 2) (κs .1 .1 .0) u64, (mut-slice-tells (named 3) (κs .1 .1 .1 .0) u64, (mut-slice-tells (named 4) (κs .1 .1 .1 .1 .0) u8, (mut-slice-tells (named 5) (κs .1 .1 .1 .1 .1 .0) u64, (shr-slice-tells (named 6) (κs .1 .1 .1 .1 .1 .1 .0) u8, tt))))))))))
-      (λ κs qs bounds a _ are. via 𝓤 _ (fst∗ 𝓤 _ (emp 𝓤)) (walk 𝓤 H A W at-mem run (κs .0) (κs .1 .0) (κs .1 .1 .0) (κs .1 .1 .1 .0) (κs .1 .1 .1 .1 .0) (κs .1 .1 .1 .1 .1 .0) (κs .1 .1 .1 .1 .1 .1 .0) (qs .0) (qs .1 .0) (qs .1 .1 .0) (qs .1 .1 .1 .0) (qs .1 .1 .1 .1 .0) (qs .1 .1 .1 .1 .1 .0) (qs .1 .1 .1 .1 .1 .1 .0)
-      (a .1 .1 .0 .ptr .0) (a .1 .1 .0 .ptr .1) (a .1 .1 .0 .name) (a .1 .1 .0 .now) (a .1 .1 .1 .0 .ptr .0) (a .1 .1 .1 .0 .ptr .1) (a .1 .1 .1 .0 .name) (a .1 .1 .1 .0 .now) (a .1 .1 .1 .1 .0 .ptr .0) (a .1 .1 .1 .1 .0 .ptr .1) (a .1 .1 .1 .1 .0 .name) (a .1 .1 .1 .1 .0 .now) (a .1 .1 .1 .1 .1 .0 .ptr .0) (a .1 .1 .1 .1 .1 .0 .ptr .1) (a .1 .1 .1 .1 .1 .0 .name) (a .1 .1 .1 .1 .1 .0 .now) (a .1 .1 .1 .1 .1 .1 .0 .ptr .0) (a .1 .1 .1 .1 .1 .1 .0 .ptr .1) (a .1 .1 .1 .1 .1 .1 .0 .name) (a .1 .1 .1 .1 .1 .1 .0 .now) (a .1 .1 .1 .1 .1 .1 .1 .0 .ptr .0) (a .1 .1 .1 .1 .1 .1 .1 .0 .ptr .1) (a .1 .1 .1 .1 .1 .1 .1 .0 .name) (a .1 .1 .1 .1 .1 .1 .1 .0 .now) (a .1 .1 .1 .1 .1 .1 .1 .1 .0 .ptr .0) (a .1 .1 .1 .1 .1 .1 .1 .1 .0 .ptr .1) (a .1 .1 .1 .1 .1 .1 .1 .1 .0 .name) (a .1 .1 .1 .1 .1 .1 .1 .1 .0 .now)
+      (λ κs. (array-vals (LL.vals T.the-type T′.the-laws), (LL.vals B.the-type B′.the-laws, (slice-vals, (slice-vals, (slice-vals, (slice-vals, (slice-vals, (slice-vals, (slice-vals, (slice-vals, tt)))))))))))
+      (λ κs. (array-tells T.the-row (LL.vals T.the-type T′.the-laws) (LL.tells T.the-type T′.the-laws) 7, (LL.tells B.the-type B′.the-laws, (mut-slice-tells (named 0) (κs .0) u8, (mut-slice-tells (named 1) (κs .1 .0) u64, (mut-slice-tells (named 2) (κs .1 .1 .0) u8, (mut-slice-tells (named 3) (κs .1 .1 .1 .0) u64, (mut-slice-tells (named 4) (κs .1 .1 .1 .1 .0) u64, (mut-slice-tells (named 5) (κs .1 .1 .1 .1 .1 .0) u8, (mut-slice-tells (named 6) (κs .1 .1 .1 .1 .1 .1 .0) u64, (shr-slice-tells (named 7) (κs .1 .1 .1 .1 .1 .1 .1 .0) u8, tt)))))))))))
+      (λ κs qs bounds a _ are. via 𝓤 _ (fst∗ 𝓤 _ (emp 𝓤)) (walk 𝓤 H A W at-mem run (κs .0) (κs .1 .0) (κs .1 .1 .0) (κs .1 .1 .1 .0) (κs .1 .1 .1 .1 .0) (κs .1 .1 .1 .1 .1 .0) (κs .1 .1 .1 .1 .1 .1 .0) (κs .1 .1 .1 .1 .1 .1 .1 .0) (qs .0) (qs .1 .0) (qs .1 .1 .0) (qs .1 .1 .1 .0) (qs .1 .1 .1 .1 .0) (qs .1 .1 .1 .1 .1 .0) (qs .1 .1 .1 .1 .1 .1 .0) (qs .1 .1 .1 .1 .1 .1 .1 .0)
+      (a .1 .1 .0 .ptr .0) (a .1 .1 .0 .ptr .1) (a .1 .1 .0 .name) (a .1 .1 .0 .now) (a .1 .1 .1 .0 .ptr .0) (a .1 .1 .1 .0 .ptr .1) (a .1 .1 .1 .0 .name) (a .1 .1 .1 .0 .now) (a .1 .1 .1 .1 .0 .ptr .0) (a .1 .1 .1 .1 .0 .ptr .1) (a .1 .1 .1 .1 .0 .name) (a .1 .1 .1 .1 .0 .now) (a .1 .1 .1 .1 .1 .0 .ptr .0) (a .1 .1 .1 .1 .1 .0 .ptr .1) (a .1 .1 .1 .1 .1 .0 .name) (a .1 .1 .1 .1 .1 .0 .now) (a .1 .1 .1 .1 .1 .1 .0 .ptr .0) (a .1 .1 .1 .1 .1 .1 .0 .ptr .1) (a .1 .1 .1 .1 .1 .1 .0 .name) (a .1 .1 .1 .1 .1 .1 .0 .now) (a .1 .1 .1 .1 .1 .1 .1 .0 .ptr .0) (a .1 .1 .1 .1 .1 .1 .1 .0 .ptr .1) (a .1 .1 .1 .1 .1 .1 .1 .0 .name) (a .1 .1 .1 .1 .1 .1 .1 .0 .now) (a .1 .1 .1 .1 .1 .1 .1 .1 .0 .ptr .0) (a .1 .1 .1 .1 .1 .1 .1 .1 .0 .ptr .1) (a .1 .1 .1 .1 .1 .1 .1 .1 .0 .name) (a .1 .1 .1 .1 .1 .1 .1 .1 .0 .now) (a .1 .1 .1 .1 .1 .1 .1 .1 .1 .0 .ptr .0) (a .1 .1 .1 .1 .1 .1 .1 .1 .1 .0 .ptr .1) (a .1 .1 .1 .1 .1 .1 .1 .1 .1 .0 .name) (a .1 .1 .1 .1 .1 .1 .1 .1 .1 .0 .now)
       (a .0) (a .1 .0) (are .0) (are .1 .0)
-      (are .1 .1 .0 .0 .1) (are .1 .1 .1 .0 .0 .1) (are .1 .1 .1 .1 .0 .0 .1) (are .1 .1 .1 .1 .1 .0 .0 .1) (are .1 .1 .1 .1 .1 .1 .0 .0 .1) (are .1 .1 .1 .1 .1 .1 .1 .0 .0 .1) (are .1 .1 .1 .1 .1 .1 .1 .1 .0 .0 .1) C Λ fm known-lent known-again))
+      (are .1 .1 .0 .0 .1) (are .1 .1 .1 .0 .0 .1) (are .1 .1 .1 .1 .0 .0 .1) (are .1 .1 .1 .1 .1 .0 .0 .1) (are .1 .1 .1 .1 .1 .1 .0 .0 .1) (are .1 .1 .1 .1 .1 .1 .1 .0 .0 .1) (are .1 .1 .1 .1 .1 .1 .1 .1 .0 .0 .1) (are .1 .1 .1 .1 .1 .1 .1 .1 .1 .0 .0 .1) C Λ fm known-lent known-again))
 
 read-owned-meets : {M : Type 1} (𝓤 : URA M) (H : Heap 𝓤) (A : Atoms 𝓤) → Given 𝓤 H A → (at-mem : Memory → SProp 𝓤) (run : Routine → Fun 𝓤) (𝓣 : Tables 𝓤 H) → Triple 𝓤 (𝓣 .C #hep·read) (Lent 𝓤 H A at-mem run) → Triple 𝓤 (𝓣 .C #hep·after-read) (Again 𝓤 H A at-mem run)
     → Meets 𝓤 H A read-owned′.signature (WpFn 𝓤 H (𝓣 .C) (𝓣 .Λ) code.function) (read-owned′.spec 𝓤 H A at-mem run)
 read-owned-meets 𝓤 H A W at-mem run 𝓣 known-lent known-again =
     walk-meets 𝓤 H A read-owned′.ended stayed W
-    (goes-dropped 𝓤 H A W 7 (plain (λ _. Seven)) yes (λ κs x f. refl), (goes-dropped 𝓤 H A W 7 (plain (λ _. B.the-row)) yes (λ κs x f. refl), (goes-gave-slice 𝓤 H A W 7 0 tt (plain (λ _. u64)), (goes-gave-slice 𝓤 H A W 7 1 tt (plain (λ _. u8)), (goes-gave-slice 𝓤 H A W 7 2 tt (plain (λ _. u64)), (goes-gave-slice 𝓤 H A W 7 3 tt (plain (λ _. u64)), (goes-gave-slice 𝓤 H A W 7 4 tt (plain (λ _. u8)), (goes-gave-slice 𝓤 H A W 7 5 tt (plain (λ _. u64)), (goes-dropped 𝓤 H A W 7 (shrSliceOf (6 ∷ []) tt (plain (λ _. u8))) yes (λ κs x f. refl), tt))))))))) (read-owned′.clauses 𝓤 H A at-mem run)
+    (goes-dropped 𝓤 H A W 8 (plain (λ _. Seven)) yes (λ κs x f. refl), (goes-dropped 𝓤 H A W 8 (plain (λ _. B.the-row)) yes (λ κs x f. refl), (goes-gave-slice 𝓤 H A W 8 0 tt (plain (λ _. u8)), (goes-gave-slice 𝓤 H A W 8 1 tt (plain (λ _. u64)), (goes-gave-slice 𝓤 H A W 8 2 tt (plain (λ _. u8)), (goes-gave-slice 𝓤 H A W 8 3 tt (plain (λ _. u64)), (goes-gave-slice 𝓤 H A W 8 4 tt (plain (λ _. u64)), (goes-gave-slice 𝓤 H A W 8 5 tt (plain (λ _. u8)), (goes-gave-slice 𝓤 H A W 8 6 tt (plain (λ _. u64)), (goes-dropped 𝓤 H A W 8 (shrSliceOf (7 ∷ []) tt (plain (λ _. u8))) yes (λ κs x f. refl), tt)))))))))) (read-owned′.clauses 𝓤 H A at-mem run)
     (WpFn 𝓤 H (𝓣 .C) (𝓣 .Λ) code.function) (WpFn-mono 𝓤 H (W .laws) 𝓣 code.function) (read-owned-walks 𝓤 H A W at-mem run (𝓣 .C) (𝓣 .Λ) (fmOf 𝓤 H (W .laws) 𝓣) known-lent known-again)
 
 pub read-owned-spec : {M : Type 1} → stated.statement M

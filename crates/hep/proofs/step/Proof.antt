@@ -130,7 +130,7 @@ parts : (r : AfterStep) (w : Val) → Is O.the-row r (w ∷ []) → Parts r
 parts r w is = LL.owed O.the-type O′.the-laws r _ is
 
 abbrev stayed : Stays (step′.ended .signature .params) (step′.ended .kept)
-stayed = (gave-slice (0 ∷ []) tt (plain (λ _. T.the-row)), (stay-ref (1 ∷ []) tt (plain (λ _. B.the-row)), (stay-dropped (shrSliceOf (2 ∷ []) tt (plain (λ _. u64))) yes, (gave-slice (3 ∷ []) tt (plain (λ _. u8)), (gave-slice (4 ∷ []) tt (plain (λ _. u64)), (stay-dropped (shrSliceOf (5 ∷ []) tt (plain (λ _. u64))) yes, (gave-slice (6 ∷ []) tt (plain (λ _. u8)), (gave-slice (7 ∷ []) tt (plain (λ _. u64)), (stay-dropped (plain (λ _. Z.the-row)) yes, (stay-dropped (plain (λ _. u8)) yes, tt))))))))))
+stayed = (gave-slice (0 ∷ []) tt (plain (λ _. T.the-row)), (stay-ref (1 ∷ []) tt (plain (λ _. B.the-row)), (stay-dropped (shrSliceOf (2 ∷ []) tt (plain (λ _. u8))) yes, (stay-dropped (shrSliceOf (3 ∷ []) tt (plain (λ _. u64))) yes, (gave-slice (4 ∷ []) tt (plain (λ _. u8)), (gave-slice (5 ∷ []) tt (plain (λ _. u64)), (stay-dropped (shrSliceOf (6 ∷ []) tt (plain (λ _. u64))) yes, (gave-slice (7 ∷ []) tt (plain (λ _. u8)), (gave-slice (8 ∷ []) tt (plain (λ _. u64)), (stay-dropped (plain (λ _. Z.the-row)) yes, (stay-dropped (plain (λ _. u8)) yes, tt)))))))))))
 
 module _ {M : Type 1} (𝓤 : URA M) (H : Heap 𝓤) (A : Atoms 𝓤) (at-mem : Memory → SProp 𝓤) (run : Routine → Fun 𝓤) where
   -- the contracts that the proof cites
@@ -150,10 +150,10 @@ module _ {M : Type 1} (𝓤 : URA M) (H : Heap 𝓤) (A : Atoms 𝓤) (at-mem : 
   Store = tripleOf 𝓤 H A store-fn.signature (store-fn.spec 𝓤 H A at-mem run)
 
 module _ {M : Type 1} (𝓤 : URA M) (H : Heap 𝓤) (A : Atoms 𝓤) (W : Given 𝓤 H A) (at-mem : Memory → SProp 𝓤) (run : Routine → Fun 𝓤)
-    (κ₀ κ₁ κ₂ κ₃ κ₄ κ₅ κ₆ κ₇ : Lft) (q₀ q₁ q₂ q₃ q₄ q₅ q₆ q₇ : Share)
-    (b₀ o₀ : ℕ) (γ₀ : GName) (x₀ : List Row) (b₁ o₁ : ℕ) (γ₁ : GName) (x₁ : ProcessTable) (b₂ o₂ : ℕ) (γ₂ : GName) (x₂ : List ℕ) (b₃ o₃ : ℕ) (γ₃ : GName) (x₃ : List ℕ) (b₄ o₄ : ℕ) (γ₄ : GName) (x₄ : List ℕ) (b₅ o₅ : ℕ) (γ₅ : GName) (x₅ : List ℕ) (b₆ o₆ : ℕ) (γ₆ : GName) (x₆ : List ℕ) (b₇ o₇ : ℕ) (γ₇ : GName) (x₇ : List ℕ)
-    (x₈ : Sizes) (x₉ : ℕ) (g₈ : Is Z.the-row x₈ (val-Z x₈ ∷ [])) (g₉ : Is u8 x₉ (vint w8 x₉ ∷ []))
-    (room₀ : Room T.the-row (length x₀)) (room₂ : Room u64 (length x₂)) (room₃ : Room u8 (length x₃)) (room₄ : Room u64 (length x₄)) (room₅ : Room u64 (length x₅)) (room₆ : Room u8 (length x₆)) (room₇ : Room u64 (length x₇)) where
+    (κ₀ κ₁ κ₂ κ₃ κ₄ κ₅ κ₆ κ₇ κ₈ : Lft) (q₀ q₁ q₂ q₃ q₄ q₅ q₆ q₇ q₈ : Share)
+    (b₀ o₀ : ℕ) (γ₀ : GName) (x₀ : List Row) (b₁ o₁ : ℕ) (γ₁ : GName) (x₁ : ProcessTable) (b₂ o₂ : ℕ) (γ₂ : GName) (x₂ : List ℕ) (b₃ o₃ : ℕ) (γ₃ : GName) (x₃ : List ℕ) (b₄ o₄ : ℕ) (γ₄ : GName) (x₄ : List ℕ) (b₅ o₅ : ℕ) (γ₅ : GName) (x₅ : List ℕ) (b₆ o₆ : ℕ) (γ₆ : GName) (x₆ : List ℕ) (b₇ o₇ : ℕ) (γ₇ : GName) (x₇ : List ℕ) (b₈ o₈ : ℕ) (γ₈ : GName) (x₈ : List ℕ)
+    (x₉ : Sizes) (x₁₀ : ℕ) (g₉ : Is Z.the-row x₉ (val-Z x₉ ∷ [])) (g₁₀ : Is u8 x₁₀ (vint w8 x₁₀ ∷ []))
+    (room₀ : Room T.the-row (length x₀)) (room₂ : Room u8 (length x₂)) (room₃ : Room u64 (length x₃)) (room₄ : Room u8 (length x₄)) (room₅ : Room u64 (length x₅)) (room₆ : Room u64 (length x₆)) (room₇ : Room u8 (length x₇)) (room₈ : Room u64 (length x₈)) where
   -- the parameters, and their machine values
   abbrev y₀ : RefT (List Row)
   y₀ = record { ptr = (b₀, o₀); name = γ₀; now = x₀ }
@@ -203,14 +203,20 @@ module _ {M : Type 1} (𝓤 : URA M) (H : Heap 𝓤) (A : Atoms 𝓤) (W : Given
   abbrev s₇ : Val
   s₇ = sliceVal (b₇, o₇) (length x₇)
 
-  abbrev a : (RefT (List Row) × (RefT ProcessTable × (RefT (List ℕ) × (RefT (List ℕ) × (RefT (List ℕ) × (RefT (List ℕ) × (RefT (List ℕ) × (RefT (List ℕ) × (Sizes × (ℕ × Unit {0}))))))))))
-  a = (y₀, (y₁, (y₂, (y₃, (y₄, (y₅, (y₆, (y₇, (x₈, (x₉, tt))))))))))
+  abbrev y₈ : RefT (List ℕ)
+  y₈ = record { ptr = (b₈, o₈); name = γ₈; now = x₈ }
 
-  abbrev vals : (List Val × (List Val × (List Val × (List Val × (List Val × (List Val × (List Val × (List Val × (List Val × (List Val × Unit {0}))))))))))
-  vals = (s₀ ∷ [], (s₁ ∷ [], (s₂ ∷ [], (s₃ ∷ [], (s₄ ∷ [], (s₅ ∷ [], (s₆ ∷ [], (s₇ ∷ [], (val-Z x₈ ∷ [], (vint w8 x₉ ∷ [], tt))))))))))
+  abbrev s₈ : Val
+  s₈ = sliceVal (b₈, o₈) (length x₈)
+
+  abbrev a : (RefT (List Row) × (RefT ProcessTable × (RefT (List ℕ) × (RefT (List ℕ) × (RefT (List ℕ) × (RefT (List ℕ) × (RefT (List ℕ) × (RefT (List ℕ) × (RefT (List ℕ) × (Sizes × (ℕ × Unit {0})))))))))))
+  a = (y₀, (y₁, (y₂, (y₃, (y₄, (y₅, (y₆, (y₇, (y₈, (x₉, (x₁₀, tt)))))))))))
+
+  abbrev vals : (List Val × (List Val × (List Val × (List Val × (List Val × (List Val × (List Val × (List Val × (List Val × (List Val × (List Val × Unit {0})))))))))))
+  vals = (s₀ ∷ [], (s₁ ∷ [], (s₂ ∷ [], (s₃ ∷ [], (s₄ ∷ [], (s₅ ∷ [], (s₆ ∷ [], (s₇ ∷ [], (s₈ ∷ [], (val-Z x₉ ∷ [], (vint w8 x₁₀ ∷ [], tt)))))))))))
 
   abbrev bound : walkOf 𝓤 H A step′.ended stayed (step′.clauses 𝓤 H A at-mem run) .Ghost
-  bound = (((κ₀, (κ₁, (κ₂, (κ₃, (κ₄, (κ₅, (κ₆, (κ₇, tt)))))))), (q₀, (q₁, (q₂, (q₃, (q₄, (q₅, (q₆, (q₇, tt)))))))), tt, a, vals), tt)
+  bound = (((κ₀, (κ₁, (κ₂, (κ₃, (κ₄, (κ₅, (κ₆, (κ₇, (κ₈, tt))))))))), (q₀, (q₁, (q₂, (q₃, (q₄, (q₅, (q₆, (q₇, (q₈, tt))))))))), tt, a, vals), tt)
 
   abbrev Post : Val → SProp 𝓤
   Post = walkOf 𝓤 H A step′.ended stayed (step′.clauses 𝓤 H A at-mem run) .post bound
@@ -219,14 +225,14 @@ module _ {M : Type 1} (𝓤 : URA M) (H : Heap 𝓤) (A : Atoms 𝓤) (W : Given
   abbrev lent : GName → RefT (List Row)
   lent δ = record { ptr = (b₀, o₀); name = δ; now = x₀ }
 
-  exits : (v : Rows) (i : ℕ) (row : Row) (r : AfterStep) (z₀ : List Row) (z₃ : List ℕ) (z₄ : List ℕ) (z₆ : List ℕ) (z₇ : List ℕ) → Parts r → v ≡ loadedRows x₀ → i ≡ placeOf x₉ x₀ → row ≡ getD x₀ i emptyRow → ((j : ℕ) → StandsAt x₉ (x₈ .rows) (heldRows v) j row → StepPromise x₈ (lentBuffers (heldRows v) x₁ x₂ x₃ x₄ x₅ x₆ x₇) x₉ (r .answer) (lentBuffers (set (heldRows v) j (r .row)) (r .table) x₂ z₃ z₄ x₅ z₆ z₇)) × (hasRow x₉ (take (x₈ .rows) (heldRows v)) ≡ false → r .row ≡ row) → z₀ ≡ set x₀ i (r .row) → length z₀ ≡ length x₀ → length z₃ ≡ length x₃ → length z₄ ≡ length x₄ → length z₆ ≡ length x₆ → length z₇ ≡ length x₇
-      → ent 𝓤 (⋆ 𝓤 H A (‵ (flft κ₀ q₀) ∷ ‵ (flft κ₁ q₁) ∷ (‵ (flft κ₂ q₂) ⊛ (‵ (flft κ₃ q₃) ⊛ (‵ (flft κ₄ q₄) ⊛ (‵ (flft κ₅ q₅) ⊛ (‵ (flft κ₆ q₆) ⊛ (‵ (flft κ₇ q₇) ⊛ ‵ ftrue)))))) ∷ ‵ (fobs γ₁ (B.the-row .coded .code (r .table))) ∷ ‵ (fbor κ₁ (Body (mem B.the-row) b₁ o₁ γ₁)) ∷ ‵ (finally T.the-row γ₀ z₀) ∷ ‵ (finally u8 γ₃ z₃) ∷ ‵ (finally u64 γ₄ z₄) ∷ ‵ (finally u8 γ₆ z₆) ∷ ‵ (finally u64 γ₇ z₇) ∷ [])) (Post (val-N (r .answer)))
-  exits v i row r z₀ z₃ z₄ z₆ z₇ os e₀ e₁ e₂ e₃ e₄ n₀ n₃ n₄ n₆ n₇ =
-      qed W (‵ (flft κ₀ q₀) ∷ ‵ (flft κ₁ q₁) ∷ (‵ (flft κ₂ q₂) ⊛ (‵ (flft κ₃ q₃) ⊛ (‵ (flft κ₄ q₄) ⊛ (‵ (flft κ₅ q₅) ⊛ (‵ (flft κ₆ q₆) ⊛ (‵ (flft κ₇ q₇) ⊛ ‵ ftrue)))))) ∷ ‵ (fobs γ₁ (B.the-row .coded .code (r .table))) ∷ ‵ (fbor κ₁ (Body (mem B.the-row) b₁ o₁ γ₁)) ∷ ‵ (finally T.the-row γ₀ z₀) ∷ ‵ (finally u8 γ₃ z₃) ∷ ‵ (finally u64 γ₄ z₄) ∷ ‵ (finally u8 γ₆ z₆) ∷ ‵ (finally u64 γ₇ z₇) ∷ []) ∵
-      suffices ! _ (ends-at 𝓤 H A step′.ended stayed (step′.clauses 𝓤 H A at-mem run) W bound (val-N (r .answer)) (r .answer) (z₀, (r .table, (tt, (z₃, (z₄, (tt, (z₆, (z₇, (tt, (tt, tt)))))))))) (n₀, (tt, (tt, (n₃, (n₄, (tt, (n₆, (n₇, (tt, (tt, tt))))))))))) $
-      says ! (step-lent (lentBuffers x₀ x₁ x₂ x₃ x₄ x₅ x₆ x₇) x₈ x₉ (r .answer) v i row (r .row) z₀ (lentBuffers z₀ (r .table) x₂ z₃ z₄ x₅ z₆ z₇) e₀ e₁ e₂ e₃ e₄) $
+  exits : (v : Rows) (i : ℕ) (row : Row) (r : AfterStep) (z₀ : List Row) (z₄ : List ℕ) (z₅ : List ℕ) (z₇ : List ℕ) (z₈ : List ℕ) → Parts r → v ≡ loadedRows x₀ → i ≡ placeOf x₁₀ x₀ → row ≡ getD x₀ i emptyRow → ((j : ℕ) → StandsAt x₁₀ (x₉ .rows) (heldRows v) j row → StepPromise x₉ (lentBuffers (heldRows v) x₁ x₂ x₃ x₄ x₅ x₆ x₇ x₈) x₁₀ (r .answer) (lentBuffers (set (heldRows v) j (r .row)) (r .table) x₂ x₃ z₄ z₅ x₆ z₇ z₈)) × (hasRow x₁₀ (take (x₉ .rows) (heldRows v)) ≡ false → r .row ≡ row) → z₀ ≡ set x₀ i (r .row) → length z₀ ≡ length x₀ → length z₄ ≡ length x₄ → length z₅ ≡ length x₅ → length z₇ ≡ length x₇ → length z₈ ≡ length x₈
+      → ent 𝓤 (⋆ 𝓤 H A (‵ (flft κ₀ q₀) ∷ ‵ (flft κ₁ q₁) ∷ (‵ (flft κ₂ q₂) ⊛ (‵ (flft κ₃ q₃) ⊛ (‵ (flft κ₄ q₄) ⊛ (‵ (flft κ₅ q₅) ⊛ (‵ (flft κ₆ q₆) ⊛ (‵ (flft κ₇ q₇) ⊛ (‵ (flft κ₈ q₈) ⊛ ‵ ftrue))))))) ∷ ‵ (fobs γ₁ (B.the-row .coded .code (r .table))) ∷ ‵ (fbor κ₁ (Body (mem B.the-row) b₁ o₁ γ₁)) ∷ ‵ (finally T.the-row γ₀ z₀) ∷ ‵ (finally u8 γ₄ z₄) ∷ ‵ (finally u64 γ₅ z₅) ∷ ‵ (finally u8 γ₇ z₇) ∷ ‵ (finally u64 γ₈ z₈) ∷ [])) (Post (val-N (r .answer)))
+  exits v i row r z₀ z₄ z₅ z₇ z₈ os e₀ e₁ e₂ e₃ e₄ n₀ n₄ n₅ n₇ n₈ =
+      qed W (‵ (flft κ₀ q₀) ∷ ‵ (flft κ₁ q₁) ∷ (‵ (flft κ₂ q₂) ⊛ (‵ (flft κ₃ q₃) ⊛ (‵ (flft κ₄ q₄) ⊛ (‵ (flft κ₅ q₅) ⊛ (‵ (flft κ₆ q₆) ⊛ (‵ (flft κ₇ q₇) ⊛ (‵ (flft κ₈ q₈) ⊛ ‵ ftrue))))))) ∷ ‵ (fobs γ₁ (B.the-row .coded .code (r .table))) ∷ ‵ (fbor κ₁ (Body (mem B.the-row) b₁ o₁ γ₁)) ∷ ‵ (finally T.the-row γ₀ z₀) ∷ ‵ (finally u8 γ₄ z₄) ∷ ‵ (finally u64 γ₅ z₅) ∷ ‵ (finally u8 γ₇ z₇) ∷ ‵ (finally u64 γ₈ z₈) ∷ []) ∵
+      suffices ! _ (ends-at 𝓤 H A step′.ended stayed (step′.clauses 𝓤 H A at-mem run) W bound (val-N (r .answer)) (r .answer) (z₀, (r .table, (tt, (tt, (z₄, (z₅, (tt, (z₇, (z₈, (tt, (tt, tt))))))))))) (n₀, (tt, (tt, (tt, (n₄, (n₅, (tt, (n₇, (n₈, (tt, (tt, tt)))))))))))) $
+      says ! (step-lent (lentBuffers x₀ x₁ x₂ x₃ x₄ x₅ x₆ x₇ x₈) x₉ x₁₀ (r .answer) v i row (r .row) z₀ (lentBuffers z₀ (r .table) x₂ x₃ z₄ z₅ x₆ z₇ z₈) e₀ e₁ e₂ e₃ e₄) $
       move ! (1 ∷ 2 ∷ []) $ join ! $ move ! (1 ∷ 0 ∷ []) $ join ! $ frame ! $ feqI ! (List Val) (s₁ ∷ []) (s₁ ∷ []) refl $ fjoin3 ! $ nothing ! $ nothing ! $ fjoin ! $ nothing ! $ fjoin ! $ move ! (6 ∷ 0 ∷ []) $ fjoin ! $
-      move ! (5 ∷ 0 ∷ []) $ fjoin ! $ nothing ! $ fjoin ! $ move ! (4 ∷ 0 ∷ []) $ fjoin ! $ move ! (3 ∷ 0 ∷ []) $ fjoin ! $ nothing ! $ fjoin ! $ move ! (1 ∷ 0 ∷ []) $ fjoin ! $ move ! (1 ∷ 0 ∷ []) $ fjoin ! $
+      move ! (5 ∷ 0 ∷ []) $ fjoin ! $ nothing ! $ fjoin ! $ move ! (4 ∷ 0 ∷ []) $ fjoin ! $ move ! (3 ∷ 0 ∷ []) $ fjoin ! $ nothing ! $ fjoin ! $ nothing ! $ fjoin ! $ move ! (1 ∷ 0 ∷ []) $ fjoin ! $ move ! (1 ∷ 0 ∷ []) $ fjoin ! $
       owned ! N.the-row (Is N.the-row) (EL.makes N.the-type N′.the-plain 𝓤 H A) (r .answer) _ (os .1 .1 .0) $ move ! (1 ∷ 0 ∷ []) $ done !
 
   -- what the callees' triples bind outside, and that the caller has what they ask
@@ -240,13 +246,13 @@ module _ {M : Type 1} (𝓤 : URA M) (H : Heap 𝓤) (A : Atoms 𝓤) (W : Given
   goes-load α₀ δ₀ = qed W ((‵ (flft (α₀ ∷ []) fullShare) ⊛ ‵ ftrue) ∷ ‵ (owns (ShrSlice (named 0) (α₀ ∷ []) T.the-row ∷ []) (args-load α₀ δ₀) (s₀ ∷ [], tt)) ∷ []) ∵ join ! $ frame ! $ done !
 
   abbrev args-find : ℕ → GName → (RefT (List Row) × (ℕ × Unit {0}))
-  args-find α₁ δ₁ = ((lent δ₁), (x₉, tt))
+  args-find α₁ δ₁ = ((lent δ₁), (x₁₀, tt))
 
   abbrev to-find : ℕ → GName → Find 𝓤 H A at-mem run .Ghost
-  to-find α₁ δ₁ = ((((α₁ ∷ []), tt), (fullShare, tt), tt, (args-find α₁ δ₁), (s₀ ∷ [], (vint w8 x₉ ∷ [], tt))), tt)
+  to-find α₁ δ₁ = ((((α₁ ∷ []), tt), (fullShare, tt), tt, (args-find α₁ δ₁), (s₀ ∷ [], (vint w8 x₁₀ ∷ [], tt))), tt)
 
-  goes-find : (α₁ : ℕ) (δ₁ : GName) → ent 𝓤 (⋆ 𝓤 H A ((‵ (flft (α₁ ∷ []) fullShare) ⊛ ‵ ftrue) ∷ ‵ (owns (ShrSlice (named 0) (α₁ ∷ []) T.the-row ∷ u8 ∷ []) (args-find α₁ δ₁) (s₀ ∷ [], (vint w8 x₉ ∷ [], tt))) ∷ [])) (Find 𝓤 H A at-mem run .pre (to-find α₁ δ₁))
-  goes-find α₁ δ₁ = qed W ((‵ (flft (α₁ ∷ []) fullShare) ⊛ ‵ ftrue) ∷ ‵ (owns (ShrSlice (named 0) (α₁ ∷ []) T.the-row ∷ u8 ∷ []) (args-find α₁ δ₁) (s₀ ∷ [], (vint w8 x₉ ∷ [], tt))) ∷ []) ∵ join ! $ frame ! $ done !
+  goes-find : (α₁ : ℕ) (δ₁ : GName) → ent 𝓤 (⋆ 𝓤 H A ((‵ (flft (α₁ ∷ []) fullShare) ⊛ ‵ ftrue) ∷ ‵ (owns (ShrSlice (named 0) (α₁ ∷ []) T.the-row ∷ u8 ∷ []) (args-find α₁ δ₁) (s₀ ∷ [], (vint w8 x₁₀ ∷ [], tt))) ∷ [])) (Find 𝓤 H A at-mem run .pre (to-find α₁ δ₁))
+  goes-find α₁ δ₁ = qed W ((‵ (flft (α₁ ∷ []) fullShare) ⊛ ‵ ftrue) ∷ ‵ (owns (ShrSlice (named 0) (α₁ ∷ []) T.the-row ∷ u8 ∷ []) (args-find α₁ δ₁) (s₀ ∷ [], (vint w8 x₁₀ ∷ [], tt))) ∷ []) ∵ join ! $ frame ! $ done !
 
   abbrev args-one : ℕ → GName → ℕ → (RefT (List Row) × (ℕ × Unit {0}))
   args-one α₂ δ₂ i = ((lent δ₂), (i, tt))
@@ -257,14 +263,14 @@ module _ {M : Type 1} (𝓤 : URA M) (H : Heap 𝓤) (A : Atoms 𝓤) (W : Given
   goes-one : (α₂ : ℕ) (δ₂ : GName) (i : ℕ) → ent 𝓤 (⋆ 𝓤 H A ((‵ (flft (α₂ ∷ []) fullShare) ⊛ ‵ ftrue) ∷ ‵ (owns (ShrSlice (named 0) (α₂ ∷ []) T.the-row ∷ usize ∷ []) (args-one α₂ δ₂ i) (s₀ ∷ [], (vint w64 i ∷ [], tt))) ∷ [])) (One 𝓤 H A at-mem run .pre (to-one α₂ δ₂ i))
   goes-one α₂ δ₂ i = qed W ((‵ (flft (α₂ ∷ []) fullShare) ⊛ ‵ ftrue) ∷ ‵ (owns (ShrSlice (named 0) (α₂ ∷ []) T.the-row ∷ usize ∷ []) (args-one α₂ δ₂ i) (s₀ ∷ [], (vint w64 i ∷ [], tt))) ∷ []) ∵ join ! $ frame ! $ done !
 
-  abbrev args-core : Rows → Row → (Rows × (Row × (ProcessTable × (RefT (List ℕ) × (RefT (List ℕ) × (RefT (List ℕ) × (RefT (List ℕ) × (RefT (List ℕ) × (RefT (List ℕ) × (Sizes × (ℕ × Unit {0})))))))))))
-  args-core v row = (v, (row, (x₁, (y₂, (y₃, (y₄, (y₅, (y₆, (y₇, (x₈, (x₉, tt)))))))))))
+  abbrev args-core : Rows → Row → (Rows × (Row × (ProcessTable × (RefT (List ℕ) × (RefT (List ℕ) × (RefT (List ℕ) × (RefT (List ℕ) × (RefT (List ℕ) × (RefT (List ℕ) × (RefT (List ℕ) × (Sizes × (ℕ × Unit {0}))))))))))))
+  args-core v row = (v, (row, (x₁, (y₂, (y₃, (y₄, (y₅, (y₆, (y₇, (y₈, (x₉, (x₁₀, tt))))))))))))
 
   abbrev to-core : Rows → Row → Core 𝓤 H A at-mem run .Ghost
-  to-core v row = (((κ₂, (κ₃, (κ₄, (κ₅, (κ₆, (κ₇, tt)))))), (q₂, (q₃, (q₄, (q₅, (q₆, (q₇, tt)))))), tt, (args-core v row), (val-S v ∷ [], (val-T row ∷ [], (val-B x₁ ∷ [], (s₂ ∷ [], (s₃ ∷ [], (s₄ ∷ [], (s₅ ∷ [], (s₆ ∷ [], (s₇ ∷ [], (val-Z x₈ ∷ [], (vint w8 x₉ ∷ [], tt)))))))))))), tt)
+  to-core v row = (((κ₂, (κ₃, (κ₄, (κ₅, (κ₆, (κ₇, (κ₈, tt))))))), (q₂, (q₃, (q₄, (q₅, (q₆, (q₇, (q₈, tt))))))), tt, (args-core v row), (val-S v ∷ [], (val-T row ∷ [], (val-B x₁ ∷ [], (s₂ ∷ [], (s₃ ∷ [], (s₄ ∷ [], (s₅ ∷ [], (s₆ ∷ [], (s₇ ∷ [], (s₈ ∷ [], (val-Z x₉ ∷ [], (vint w8 x₁₀ ∷ [], tt))))))))))))), tt)
 
-  goes-core : (v : Rows) (row : Row) → ent 𝓤 (⋆ 𝓤 H A ((‵ (flft κ₂ q₂) ⊛ (‵ (flft κ₃ q₃) ⊛ (‵ (flft κ₄ q₄) ⊛ (‵ (flft κ₅ q₅) ⊛ (‵ (flft κ₆ q₆) ⊛ (‵ (flft κ₇ q₇) ⊛ ‵ ftrue)))))) ∷ ‵ (owns (S.the-row ∷ T.the-row ∷ B.the-row ∷ ShrSlice (named 2) κ₂ u64 ∷ MutSlice (named 3) κ₃ u8 ∷ MutSlice (named 4) κ₄ u64 ∷ ShrSlice (named 5) κ₅ u64 ∷ MutSlice (named 6) κ₆ u8 ∷ MutSlice (named 7) κ₇ u64 ∷ Z.the-row ∷ u8 ∷ []) (args-core v row) (val-S v ∷ [], (val-T row ∷ [], (val-B x₁ ∷ [], (s₂ ∷ [], (s₃ ∷ [], (s₄ ∷ [], (s₅ ∷ [], (s₆ ∷ [], (s₇ ∷ [], (val-Z x₈ ∷ [], (vint w8 x₉ ∷ [], tt)))))))))))) ∷ [])) (Core 𝓤 H A at-mem run .pre (to-core v row))
-  goes-core v row = qed W ((‵ (flft κ₂ q₂) ⊛ (‵ (flft κ₃ q₃) ⊛ (‵ (flft κ₄ q₄) ⊛ (‵ (flft κ₅ q₅) ⊛ (‵ (flft κ₆ q₆) ⊛ (‵ (flft κ₇ q₇) ⊛ ‵ ftrue)))))) ∷ ‵ (owns (S.the-row ∷ T.the-row ∷ B.the-row ∷ ShrSlice (named 2) κ₂ u64 ∷ MutSlice (named 3) κ₃ u8 ∷ MutSlice (named 4) κ₄ u64 ∷ ShrSlice (named 5) κ₅ u64 ∷ MutSlice (named 6) κ₆ u8 ∷ MutSlice (named 7) κ₇ u64 ∷ Z.the-row ∷ u8 ∷ []) (args-core v row) (val-S v ∷ [], (val-T row ∷ [], (val-B x₁ ∷ [], (s₂ ∷ [], (s₃ ∷ [], (s₄ ∷ [], (s₅ ∷ [], (s₆ ∷ [], (s₇ ∷ [], (val-Z x₈ ∷ [], (vint w8 x₉ ∷ [], tt)))))))))))) ∷ []) ∵ join ! $ frame ! $ done !
+  goes-core : (v : Rows) (row : Row) → ent 𝓤 (⋆ 𝓤 H A ((‵ (flft κ₂ q₂) ⊛ (‵ (flft κ₃ q₃) ⊛ (‵ (flft κ₄ q₄) ⊛ (‵ (flft κ₅ q₅) ⊛ (‵ (flft κ₆ q₆) ⊛ (‵ (flft κ₇ q₇) ⊛ (‵ (flft κ₈ q₈) ⊛ ‵ ftrue))))))) ∷ ‵ (owns (S.the-row ∷ T.the-row ∷ B.the-row ∷ ShrSlice (named 2) κ₂ u8 ∷ ShrSlice (named 3) κ₃ u64 ∷ MutSlice (named 4) κ₄ u8 ∷ MutSlice (named 5) κ₅ u64 ∷ ShrSlice (named 6) κ₆ u64 ∷ MutSlice (named 7) κ₇ u8 ∷ MutSlice (named 8) κ₈ u64 ∷ Z.the-row ∷ u8 ∷ []) (args-core v row) (val-S v ∷ [], (val-T row ∷ [], (val-B x₁ ∷ [], (s₂ ∷ [], (s₃ ∷ [], (s₄ ∷ [], (s₅ ∷ [], (s₆ ∷ [], (s₇ ∷ [], (s₈ ∷ [], (val-Z x₉ ∷ [], (vint w8 x₁₀ ∷ [], tt))))))))))))) ∷ [])) (Core 𝓤 H A at-mem run .pre (to-core v row))
+  goes-core v row = qed W ((‵ (flft κ₂ q₂) ⊛ (‵ (flft κ₃ q₃) ⊛ (‵ (flft κ₄ q₄) ⊛ (‵ (flft κ₅ q₅) ⊛ (‵ (flft κ₆ q₆) ⊛ (‵ (flft κ₇ q₇) ⊛ (‵ (flft κ₈ q₈) ⊛ ‵ ftrue))))))) ∷ ‵ (owns (S.the-row ∷ T.the-row ∷ B.the-row ∷ ShrSlice (named 2) κ₂ u8 ∷ ShrSlice (named 3) κ₃ u64 ∷ MutSlice (named 4) κ₄ u8 ∷ MutSlice (named 5) κ₅ u64 ∷ ShrSlice (named 6) κ₆ u64 ∷ MutSlice (named 7) κ₇ u8 ∷ MutSlice (named 8) κ₈ u64 ∷ Z.the-row ∷ u8 ∷ []) (args-core v row) (val-S v ∷ [], (val-T row ∷ [], (val-B x₁ ∷ [], (s₂ ∷ [], (s₃ ∷ [], (s₄ ∷ [], (s₅ ∷ [], (s₆ ∷ [], (s₇ ∷ [], (s₈ ∷ [], (val-Z x₉ ∷ [], (vint w8 x₁₀ ∷ [], tt))))))))))))) ∷ []) ∵ join ! $ frame ! $ done !
 
   abbrev args-store : ℕ → AfterStep → (RefT (List Row) × (ℕ × (Row × Unit {0})))
   args-store i r = (y₀, (i, ((r .row), tt)))
@@ -276,22 +282,23 @@ module _ {M : Type 1} (𝓤 : URA M) (H : Heap 𝓤) (A : Atoms 𝓤) (W : Given
   goes-store i r = qed W ((‵ (flft κ₀ q₀) ⊛ ‵ ftrue) ∷ ‵ (owns (MutSlice (named 0) κ₀ T.the-row ∷ usize ∷ T.the-row ∷ []) (args-store i r) (s₀ ∷ [], (vint w64 i ∷ [], (val-T (r .row) ∷ [], tt)))) ∷ []) ∵ join ! $ frame ! $ done !
 
   module _ (C : Calls 𝓤 H) (Λ : Loops 𝓤 H) (fm : FmC 𝓤 H (W .laws) C) (known-load : Triple 𝓤 (C #hep·load-rows) (Load 𝓤 H A at-mem run)) (known-find : Triple 𝓤 (C #hep·find-row) (Find 𝓤 H A at-mem run)) (known-one : Triple 𝓤 (C #hep·row-at) (One 𝓤 H A at-mem run)) (known-core : Triple 𝓤 (C #step-row·step) (Core 𝓤 H A at-mem run)) (known-store : Triple 𝓤 (C #hep·put-row) (Store 𝓤 H A at-mem run)) where
-    walk : ent 𝓤 (onEntry 𝓤 H A step′.signature (κ₀, (κ₁, (κ₂, (κ₃, (κ₄, (κ₅, (κ₆, (κ₇, tt)))))))) (q₀, (q₁, (q₂, (q₃, (q₄, (q₅, (q₆, (q₇, tt)))))))) a vals) (WpFn 𝓤 H C Λ code.function (s₀ ∷ s₁ ∷ s₂ ∷ s₃ ∷ s₄ ∷ s₅ ∷ s₆ ∷ s₇ ∷ val-Z x₈ ∷ vint w8 x₉ ∷ []) Post)
+    walk : ent 𝓤 (onEntry 𝓤 H A step′.signature (κ₀, (κ₁, (κ₂, (κ₃, (κ₄, (κ₅, (κ₆, (κ₇, (κ₈, tt))))))))) (q₀, (q₁, (q₂, (q₃, (q₄, (q₅, (q₆, (q₇, (q₈, tt))))))))) a vals) (WpFn 𝓤 H C Λ code.function (s₀ ∷ s₁ ∷ s₂ ∷ s₃ ∷ s₄ ∷ s₅ ∷ s₆ ∷ s₇ ∷ s₈ ∷ val-Z x₉ ∷ vint w8 x₁₀ ∷ []) Post)
     walk =
-        qed W ((‵ (flft κ₀ q₀) ⊛ (‵ (flft κ₁ q₁) ⊛ (‵ (flft κ₂ q₂) ⊛ (‵ (flft κ₃ q₃) ⊛ (‵ (flft κ₄ q₄) ⊛ (‵ (flft κ₅ q₅) ⊛ (‵ (flft κ₆ q₆) ⊛ (‵ (flft κ₇ q₇) ⊛ ‵ ftrue)))))))) ∷ ‵ (owns (MutSlice (named 0) κ₀ T.the-row ∷ MutRef (named 1) κ₁ B.the-row ∷ ShrSlice (named 2) κ₂ u64 ∷ MutSlice (named 3) κ₃ u8 ∷ MutSlice (named 4) κ₄ u64 ∷ ShrSlice (named 5) κ₅ u64 ∷ MutSlice (named 6) κ₆ u8 ∷ MutSlice (named 7) κ₇ u64 ∷ Z.the-row ∷ u8 ∷ []) a vals) ∷ []) ∵
+        qed W ((‵ (flft κ₀ q₀) ⊛ (‵ (flft κ₁ q₁) ⊛ (‵ (flft κ₂ q₂) ⊛ (‵ (flft κ₃ q₃) ⊛ (‵ (flft κ₄ q₄) ⊛ (‵ (flft κ₅ q₅) ⊛ (‵ (flft κ₆ q₆) ⊛ (‵ (flft κ₇ q₇) ⊛ (‵ (flft κ₈ q₈) ⊛ ‵ ftrue))))))))) ∷ ‵ (owns (MutSlice (named 0) κ₀ T.the-row ∷ MutRef (named 1) κ₁ B.the-row ∷ ShrSlice (named 2) κ₂ u8 ∷ ShrSlice (named 3) κ₃ u64 ∷ MutSlice (named 4) κ₄ u8 ∷ MutSlice (named 5) κ₅ u64 ∷ ShrSlice (named 6) κ₆ u64 ∷ MutSlice (named 7) κ₇ u8 ∷ MutSlice (named 8) κ₈ u64 ∷ Z.the-row ∷ u8 ∷ []) a vals) ∷ []) ∵
         split ! $ move ! (1 ∷ []) $ split ! $ move ! (3 ∷ []) $ fsplit ! $ move ! (1 ∷ []) $ fsplit ! $ move ! (1 ∷ []) $ fsplit ! $ move ! (1 ∷ []) $ fsplit ! $ move ! (1 ∷ []) $ fsplit ! $ move ! (1 ∷ []) $ fsplit ! $ move ! (1 ∷ []) $
-        fsplit ! $ move ! (1 ∷ []) $ fsplit ! $ move ! (1 ∷ []) $ fsplit ! $ move ! (1 ∷ []) $ fsplit ! $ move ! (1 ∷ []) $ drop ! $ move ! (1 ∷ []) $ drop ! $ drop ! $ move ! (7 ∷ []) $ fsplit ! $ drop ! $ fsplit ! $ move ! (8 ∷ []) $
-        fsplit3 ! $ drop ! $ enter ! C Λ code.function (s₀ ∷ s₁ ∷ s₂ ∷ s₃ ∷ s₄ ∷ s₅ ∷ s₆ ∷ s₇ ∷ val-Z x₈ ∷ vint w8 x₉ ∷ []) _ $ alloc1 ! (λ l₀. alloc1 ! (λ l₁. alloc1 ! (λ l₂. alloc1 ! (λ l₃. alloc1 ! (λ l₄. alloc1 ! (λ l₅. alloc1 ! (λ l₆.
-        alloc1 ! (λ l₇. alloc1 ! (λ l₈. alloc1 ! (λ l₉. alloc1 ! (λ l₁₀. alloc1 ! (λ l₁₁. alloc1 ! (λ l₁₂. alloc1 ! (λ l₁₃. alloc1 ! (λ l₁₄. alloc1 ! (λ l₁₅. alloc1 ! (λ l₁₆. alloc1 ! (λ l₁₇. alloc1 ! (λ l₁₈. alloc1 ! (λ l₁₉.
-        alloc1 ! (λ l₂₀. alloc1 ! (λ l₂₁. alloc1 ! (λ l₂₂. alloc1 ! (λ l₂₃. alloc1 ! (λ l₂₄. alloc1 ! (λ l₂₅. alloc1 ! (λ l₂₆. alloc1 ! (λ l₂₇. alloc1 ! (λ l₂₈. alloc1 ! (λ l₂₉. alloc1 ! (λ l₃₀. alloc1 ! (λ l₃₁. alloc1 ! (λ l₃₂.
-        alloc0 ! $ params1 ! $ pass1 ! (init ! 62 refl (tt, (tt, (record { fits = room₀ .0 }, tt)))) $ pass1 ! (init ! 60 refl (tt, tt)) $ pass1 ! (init ! 58 refl (tt, (tt, (record { fits = room₂ .0 }, tt)))) $
-        pass1 ! (init ! 56 refl (tt, (tt, (record { fits = room₃ .0 }, tt)))) $ pass1 ! (init ! 54 refl (tt, (tt, (record { fits = room₄ .0 }, tt)))) $ pass1 ! (init ! 52 refl (tt, (tt, (record { fits = room₅ .0 }, tt)))) $
-        pass1 ! (init ! 50 refl (tt, (tt, (record { fits = room₆ .0 }, tt)))) $ pass1 ! (init ! 48 refl (tt, (tt, (record { fits = room₇ .0 }, tt)))) $ pass1 ! (init ! 46 refl (LL.lawful Z.the-type Z′.the-laws 𝓤 H A W .typed x₈ _ g₈ .0)) $
-        pass1 ! (init ! 44 refl (uint-lawful 𝓤 H A W w8 .typed x₉ _ g₉ .0)) $ pass0 ! $
+        fsplit ! $ move ! (1 ∷ []) $ fsplit ! $ move ! (1 ∷ []) $ fsplit ! $ move ! (1 ∷ []) $ fsplit ! $ move ! (1 ∷ []) $ fsplit ! $ move ! (1 ∷ []) $ drop ! $ move ! (1 ∷ []) $ drop ! $ drop ! $ move ! (8 ∷ []) $ fsplit ! $ drop ! $
+        fsplit ! $ move ! (9 ∷ []) $ fsplit3 ! $ drop ! $ enter ! C Λ code.function (s₀ ∷ s₁ ∷ s₂ ∷ s₃ ∷ s₄ ∷ s₅ ∷ s₆ ∷ s₇ ∷ s₈ ∷ val-Z x₉ ∷ vint w8 x₁₀ ∷ []) _ $ alloc1 ! (λ l₀. alloc1 ! (λ l₁. alloc1 ! (λ l₂. alloc1 ! (λ l₃.
+        alloc1 ! (λ l₄. alloc1 ! (λ l₅. alloc1 ! (λ l₆. alloc1 ! (λ l₇. alloc1 ! (λ l₈. alloc1 ! (λ l₉. alloc1 ! (λ l₁₀. alloc1 ! (λ l₁₁. alloc1 ! (λ l₁₂. alloc1 ! (λ l₁₃. alloc1 ! (λ l₁₄. alloc1 ! (λ l₁₅. alloc1 ! (λ l₁₆. alloc1 ! (λ l₁₇.
+        alloc1 ! (λ l₁₈. alloc1 ! (λ l₁₉. alloc1 ! (λ l₂₀. alloc1 ! (λ l₂₁. alloc1 ! (λ l₂₂. alloc1 ! (λ l₂₃. alloc1 ! (λ l₂₄. alloc1 ! (λ l₂₅. alloc1 ! (λ l₂₆. alloc1 ! (λ l₂₇. alloc1 ! (λ l₂₈. alloc1 ! (λ l₂₉. alloc1 ! (λ l₃₀.
+        alloc1 ! (λ l₃₁. alloc1 ! (λ l₃₂. alloc1 ! (λ l₃₃. alloc0 ! $ params1 ! $ pass1 ! (init ! 64 refl (tt, (tt, (record { fits = room₀ .0 }, tt)))) $ pass1 ! (init ! 62 refl (tt, tt)) $
+        pass1 ! (init ! 60 refl (tt, (tt, (record { fits = room₂ .0 }, tt)))) $ pass1 ! (init ! 58 refl (tt, (tt, (record { fits = room₃ .0 }, tt)))) $ pass1 ! (init ! 56 refl (tt, (tt, (record { fits = room₄ .0 }, tt)))) $
+        pass1 ! (init ! 54 refl (tt, (tt, (record { fits = room₅ .0 }, tt)))) $ pass1 ! (init ! 52 refl (tt, (tt, (record { fits = room₆ .0 }, tt)))) $ pass1 ! (init ! 50 refl (tt, (tt, (record { fits = room₇ .0 }, tt)))) $
+        pass1 ! (init ! 48 refl (tt, (tt, (record { fits = room₈ .0 }, tt)))) $ pass1 ! (init ! 46 refl (LL.lawful Z.the-type Z′.the-laws 𝓤 H A W .typed x₉ _ g₉ .0)) $ pass1 ! (init ! 44 refl (uint-lawful 𝓤 H A W w8 .typed x₁₀ _ g₁₀ .0)) $
+        pass0 ! $
         -- the rows are lent as `&`, for a lifetime of each call that looks at them
-        assigns ! (addr ! (from ! (fld ! refl (hop ! (look-in ! 62 (sub ! 0 refl (whole !))) (stop !))))) (from ! (stop !)) (init ! 34 refl (tt, tt)) $
-        assigns ! (agg ! (and-then ! (load ! (from ! (stop !)) (look ! 34 refl)) (and-then ! (load ! (from ! (fld ! refl (stop !))) (look-in ! 62 (sub ! 1 refl (whole !)))) (no-more !)))) (from ! (stop !)) (init ! 32 refl (tt, (tt, (record { fits = room₀ .0 }, tt)))) $
-        move ! (68 ∷ 69 ∷ 78 ∷ []) $ opens-slice ! tt T.the-row x₀ b₀ o₀ $ feqI ! ℕ (length x₀) (length x₀) refl $ fjoin ! $ lft-new ! tt (λ α₀. move ! (1 ∷ []) $
+        assigns ! (addr ! (from ! (fld ! refl (hop ! (look-in ! 64 (sub ! 0 refl (whole !))) (stop !))))) (from ! (stop !)) (init ! 34 refl (tt, tt)) $
+        assigns ! (agg ! (and-then ! (load ! (from ! (stop !)) (look ! 34 refl)) (and-then ! (load ! (from ! (fld ! refl (stop !))) (look-in ! 64 (sub ! 1 refl (whole !)))) (no-more !)))) (from ! (stop !)) (init ! 32 refl (tt, (tt, (record { fits = room₀ .0 }, tt)))) $
+        move ! (70 ∷ 71 ∷ 81 ∷ []) $ opens-slice ! tt T.the-row x₀ b₀ o₀ $ feqI ! ℕ (length x₀) (length x₀) refl $ fjoin ! $ lft-new ! tt (λ α₀. move ! (1 ∷ []) $
         use1 W (later (some (λ (δ₀ : GName). ‵ (ShrSlice (named 0) (α₀ ∷ []) T.the-row .own (lent δ₀) (s₀ ∷ [])) ⊛ ‵ (flent (α₀ ∷ []) (arr-parts (shares T.the-row) (length x₀) .part fullShare x₀ b₀ o₀))))) (lends-shr-slice 𝓤 H A W T.the-row (named 0) (α₀ ∷ []) fullShare x₀ b₀ o₀ room₀) $ await ! tt $ pick ! (λ δ₀.
         split ! $ nothing ! $ move ! (3 ∷ 0 ∷ []) $ join ! $ nothing ! $ move ! (2 ∷ 0 ∷ []) $ fjoin ! $ move ! (1 ∷ 0 ∷ []) $ use2 W (raw (Load 𝓤 H A at-mem run .pre (to-load α₀ δ₀))) (goes-load α₀ δ₀) $
         calls-at ! fm (Load 𝓤 H A at-mem run) known-load (to-load α₀ δ₀) (and-then ! (load ! (from ! (stop !)) (look ! 37 refl)) (no-more !)) (λ w₀.
@@ -300,22 +307,22 @@ module _ {M : Type 1} (𝓤 : URA M) (H : Heap 𝓤) (A : Atoms 𝓤) (W : Given
         use1 W (some (λ (ws₀ : Lasts load-fn.ended ((α₀ ∷ []), tt) (args-load α₀ δ₀)). ‵ (lasts load-fn.ended ((α₀ ∷ []), tt) (args-load α₀ δ₀) ws₀) ⊛ raw (fact 𝓤 (v ≡ loadedRows x₀)))) (id⊢ 𝓤 _) $ pick ! (λ ws₀. split ! $
         move ! (1 ∷ []) $ heard ! (v ≡ loadedRows x₀) (λ e₀. fsplit ! $ drop ! $ drop ! $ split ! $ move ! (1 ∷ []) $ peeks ! S.the-row (Is S.the-row) (shows 𝓤 H A S.the-row) v (w₀ ∷ []) (λ is₀.
         land ! (from ! (stop !)) (init ! 48 refl (LL.lawful S.the-type S′.the-laws 𝓤 H A W .typed v _ is₀ .0)) $ drop ! $
-        rewrite ! 47 (λ (z : Val). ‵ (fat fullShare (spell mirs.table (pointee (S.the-row .written))) l₁₁ 0 z)) (ap only (LL.tells S.the-type S′.the-laws v _ is₀)) refl $ split ! $ move ! (1 ∷ []) $ drop ! $ lft-end ! tt $ lent-back ! tt $
-        fsplit ! $ drop ! $ closes-slice ! tt T.the-row x₀ x₀ refl b₀ o₀ $ assigns ! (addr ! (from ! (fld ! refl (hop ! (look-in ! 65 (sub ! 0 refl (whole !))) (stop !))))) (from ! (stop !)) (init ! 33 refl (tt, tt)) $
-        assigns ! (agg ! (and-then ! (load ! (from ! (stop !)) (look ! 33 refl)) (and-then ! (load ! (from ! (fld ! refl (stop !))) (look-in ! 65 (sub ! 1 refl (whole !)))) (no-more !)))) (from ! (stop !)) (init ! 31 refl (tt, (tt, (record { fits = room₀ .0 }, tt)))) $
+        rewrite ! 47 (λ (z : Val). ‵ (fat fullShare (spell mirs.table (pointee (S.the-row .written))) l₁₂ 0 z)) (ap only (LL.tells S.the-type S′.the-laws v _ is₀)) refl $ split ! $ move ! (1 ∷ []) $ drop ! $ lft-end ! tt $ lent-back ! tt $
+        fsplit ! $ drop ! $ closes-slice ! tt T.the-row x₀ x₀ refl b₀ o₀ $ assigns ! (addr ! (from ! (fld ! refl (hop ! (look-in ! 67 (sub ! 0 refl (whole !))) (stop !))))) (from ! (stop !)) (init ! 33 refl (tt, tt)) $
+        assigns ! (agg ! (and-then ! (load ! (from ! (stop !)) (look ! 33 refl)) (and-then ! (load ! (from ! (fld ! refl (stop !))) (look-in ! 67 (sub ! 1 refl (whole !)))) (no-more !)))) (from ! (stop !)) (init ! 31 refl (tt, (tt, (record { fits = room₀ .0 }, tt)))) $
         opens-slice ! tt T.the-row x₀ b₀ o₀ $ feqI ! ℕ (length x₀) (length x₀) refl $ fjoin ! $ lft-new ! tt (λ α₁. move ! (1 ∷ []) $
         use1 W (later (some (λ (δ₁ : GName). ‵ (ShrSlice (named 0) (α₁ ∷ []) T.the-row .own (lent δ₁) (s₀ ∷ [])) ⊛ ‵ (flent (α₁ ∷ []) (arr-parts (shares T.the-row) (length x₀) .part fullShare x₀ b₀ o₀))))) (lends-shr-slice 𝓤 H A W T.the-row (named 0) (α₁ ∷ []) fullShare x₀ b₀ o₀ room₀) $ await ! tt $ pick ! (λ δ₁.
-        split ! $ nothing ! $ move ! (3 ∷ 0 ∷ []) $ join ! $ nothing ! $ owned ! u8 (Is u8) (uint-makes 𝓤 H A W w8) x₉ _ g₉ $ fjoin ! $ move ! (2 ∷ 0 ∷ []) $ fjoin ! $ move ! (1 ∷ 0 ∷ []) $
+        split ! $ nothing ! $ move ! (3 ∷ 0 ∷ []) $ join ! $ nothing ! $ owned ! u8 (Is u8) (uint-makes 𝓤 H A W w8) x₁₀ _ g₁₀ $ fjoin ! $ move ! (2 ∷ 0 ∷ []) $ fjoin ! $ move ! (1 ∷ 0 ∷ []) $
         use2 W (raw (Find 𝓤 H A at-mem run .pre (to-find α₁ δ₁))) (goes-find α₁ δ₁) $
         calls-at ! fm (Find 𝓤 H A at-mem run) known-find (to-find α₁ δ₁) (and-then ! (load ! (from ! (stop !)) (look ! 33 refl)) (and-then ! (load ! (from ! (stop !)) (look ! 49 refl)) (no-more !))) (λ w₁.
         use1 W (later (some (λ (i : ℕ). ((‵ (flft (α₁ ∷ []) fullShare) ⊛ ‵ ftrue) ⊛ ‵ (usize .own i (w₁ ∷ []))) ⊛ raw (ensured 𝓤 H A find-fn.ended (find-fn.clauses 𝓤 H A at-mem run) ((α₁ ∷ []), tt) (args-find α₁ δ₁) tt i)))) (id⊢ 𝓤 _) $ await ! tt $ pick ! (λ i.
         split ! $ move ! (1 ∷ []) $
-        use1 W (some (λ (ws₁ : Lasts find-fn.ended ((α₁ ∷ []), tt) (args-find α₁ δ₁)). ‵ (lasts find-fn.ended ((α₁ ∷ []), tt) (args-find α₁ δ₁) ws₁) ⊛ raw (fact 𝓤 (i ≡ placeOf x₉ x₀)))) (id⊢ 𝓤 _) $ pick ! (λ ws₁. split ! $
-        move ! (1 ∷ []) $ heard ! (i ≡ placeOf x₉ x₀) (λ e₁. fsplit ! $ drop ! $ fsplit ! $ drop ! $ drop ! $ split ! $ move ! (1 ∷ []) $ peeks ! usize (Is usize) (shows 𝓤 H A usize) i (w₁ ∷ []) (λ is₁.
-        land ! (from ! (stop !)) (init ! 46 refl (uint-lawful 𝓤 H A W w64 .typed i _ is₁ .0)) $ drop ! $ rewrite ! 45 (λ (z : Val). ‵ (fat fullShare (tyInt w64) l₁₂ 0 z)) (ap only (uint-tells w64 i _ is₁)) refl $ split ! $
+        use1 W (some (λ (ws₁ : Lasts find-fn.ended ((α₁ ∷ []), tt) (args-find α₁ δ₁)). ‵ (lasts find-fn.ended ((α₁ ∷ []), tt) (args-find α₁ δ₁) ws₁) ⊛ raw (fact 𝓤 (i ≡ placeOf x₁₀ x₀)))) (id⊢ 𝓤 _) $ pick ! (λ ws₁. split ! $
+        move ! (1 ∷ []) $ heard ! (i ≡ placeOf x₁₀ x₀) (λ e₁. fsplit ! $ drop ! $ fsplit ! $ drop ! $ drop ! $ split ! $ move ! (1 ∷ []) $ peeks ! usize (Is usize) (shows 𝓤 H A usize) i (w₁ ∷ []) (λ is₁.
+        land ! (from ! (stop !)) (init ! 46 refl (uint-lawful 𝓤 H A W w64 .typed i _ is₁ .0)) $ drop ! $ rewrite ! 45 (λ (z : Val). ‵ (fat fullShare (tyInt w64) l₁₃ 0 z)) (ap only (uint-tells w64 i _ is₁)) refl $ split ! $
         move ! (1 ∷ []) $ drop ! $ lft-end ! tt $ lent-back ! tt $ fsplit ! $ drop ! $ closes-slice ! tt T.the-row x₀ x₀ refl b₀ o₀ $
-        assigns ! (addr ! (from ! (fld ! refl (hop ! (look-in ! 65 (sub ! 0 refl (whole !))) (stop !))))) (from ! (stop !)) (init ! 29 refl (tt, tt)) $
-        assigns ! (agg ! (and-then ! (load ! (from ! (stop !)) (look ! 29 refl)) (and-then ! (load ! (from ! (fld ! refl (stop !))) (look-in ! 65 (sub ! 1 refl (whole !)))) (no-more !)))) (from ! (stop !)) (init ! 27 refl (tt, (tt, (record { fits = room₀ .0 }, tt)))) $
+        assigns ! (addr ! (from ! (fld ! refl (hop ! (look-in ! 67 (sub ! 0 refl (whole !))) (stop !))))) (from ! (stop !)) (init ! 29 refl (tt, tt)) $
+        assigns ! (agg ! (and-then ! (load ! (from ! (stop !)) (look ! 29 refl)) (and-then ! (load ! (from ! (fld ! refl (stop !))) (look-in ! 67 (sub ! 1 refl (whole !)))) (no-more !)))) (from ! (stop !)) (init ! 27 refl (tt, (tt, (record { fits = room₀ .0 }, tt)))) $
         opens-slice ! tt T.the-row x₀ b₀ o₀ $ feqI ! ℕ (length x₀) (length x₀) refl $ fjoin ! $ lft-new ! tt (λ α₂. move ! (1 ∷ []) $
         use1 W (later (some (λ (δ₂ : GName). ‵ (ShrSlice (named 0) (α₂ ∷ []) T.the-row .own (lent δ₂) (s₀ ∷ [])) ⊛ ‵ (flent (α₂ ∷ []) (arr-parts (shares T.the-row) (length x₀) .part fullShare x₀ b₀ o₀))))) (lends-shr-slice 𝓤 H A W T.the-row (named 0) (α₂ ∷ []) fullShare x₀ b₀ o₀ room₀) $ await ! tt $ pick ! (λ δ₂.
         split ! $ nothing ! $ move ! (3 ∷ 0 ∷ []) $ join ! $ nothing ! $ owned ! usize (Is usize) (uint-makes 𝓤 H A W w64) i _ (refl, is₁ .1) $ fjoin ! $ move ! (2 ∷ 0 ∷ []) $ fjoin ! $ move ! (1 ∷ 0 ∷ []) $
@@ -326,41 +333,42 @@ module _ {M : Type 1} (𝓤 : URA M) (H : Heap 𝓤) (A : Atoms 𝓤) (W : Given
         use1 W (some (λ (ws₂ : Lasts one-fn.ended ((α₂ ∷ []), tt) (args-one α₂ δ₂ i)). ‵ (lasts one-fn.ended ((α₂ ∷ []), tt) (args-one α₂ δ₂ i) ws₂) ⊛ raw (fact 𝓤 (row ≡ getD x₀ i emptyRow)))) (id⊢ 𝓤 _) $ pick ! (λ ws₂. split ! $
         move ! (1 ∷ []) $ heard ! (row ≡ getD x₀ i emptyRow) (λ e₂. fsplit ! $ drop ! $ fsplit ! $ drop ! $ drop ! $ split ! $ move ! (1 ∷ []) $ peeks ! T.the-row (Is T.the-row) (shows 𝓤 H A T.the-row) row (w₂ ∷ []) (λ is₂.
         land ! (from ! (stop !)) (init ! 44 refl (LL.lawful T.the-type T′.the-laws 𝓤 H A W .typed row _ is₂ .0)) $ drop ! $
-        rewrite ! 43 (λ (z : Val). ‵ (fat fullShare (spell mirs.table (pointee (T.the-row .written))) l₁₃ 0 z)) (ap only (LL.tells T.the-type T′.the-laws row _ is₂)) refl $ split ! $ move ! (1 ∷ []) $ drop ! $ lft-end ! tt $
+        rewrite ! 43 (λ (z : Val). ‵ (fat fullShare (spell mirs.table (pointee (T.the-row .written))) l₁₄ 0 z)) (ap only (LL.tells T.the-type T′.the-laws row _ is₂)) refl $ split ! $ move ! (1 ∷ []) $ drop ! $ lft-end ! tt $
         lent-back ! tt $ fsplit ! $ drop ! $ closes-slice ! tt T.the-row x₀ x₀ refl b₀ o₀ $
         -- the table is copied out
-        move ! (69 ∷ 70 ∷ 77 ∷ []) $ opens ! tt B.the-row {h = x₁} b₁ o₁ (λ vs. spelt ! B.the-row (Is B.the-row) (shows 𝓤 H A B.the-row) (LL.vals B.the-type B′.the-laws) (LL.tells B.the-type B′.the-laws) fullShare x₁ vs b₁ o₁ $
+        move ! (71 ∷ 72 ∷ 80 ∷ []) $ opens ! tt B.the-row {h = x₁} b₁ o₁ (λ vs. spelt ! B.the-row (Is B.the-row) (shows 𝓤 H A B.the-row) (LL.vals B.the-type B′.the-laws) (LL.tells B.the-type B′.the-laws) fullShare x₁ vs b₁ o₁ $
         move ! (1 ∷ []) $ peeks ! B.the-row (Is B.the-row) (shows 𝓤 H A B.the-row) x₁ (val-B x₁ ∷ []) (λ g₁. drop ! $
-        assigns ! (of-opd ! (load ! (from ! (hop ! (look ! 67 refl) (stop !))) (look-raw ! 0 refl))) (from ! (stop !)) (init ! 29 refl (LL.lawful B.the-type B′.the-laws 𝓤 H A W .typed x₁ _ g₁ .0)) $
+        assigns ! (of-opd ! (load ! (from ! (hop ! (look ! 69 refl) (stop !))) (look-raw ! 0 refl))) (from ! (stop !)) (init ! 29 refl (LL.lawful B.the-type B′.the-laws 𝓤 H A W .typed x₁ _ g₁ .0)) $
         assigns ! (addr ! (from ! (fld ! refl (hop ! (look-in ! 63 (sub ! 0 refl (whole !))) (stop !))))) (from ! (stop !)) (init ! 27 refl (tt, tt)) $
-        assigns ! (agg ! (and-then ! (load ! (from ! (stop !)) (look ! 27 refl)) (and-then ! (load ! (from ! (fld ! refl (stop !))) (look-in ! 63 (sub ! 1 refl (whole !)))) (no-more !)))) (from ! (stop !)) (init ! 25 refl (tt, (tt, (record { fits = room₃ .0 }, tt)))) $
+        assigns ! (agg ! (and-then ! (load ! (from ! (stop !)) (look ! 27 refl)) (and-then ! (load ! (from ! (fld ! refl (stop !))) (look-in ! 63 (sub ! 1 refl (whole !)))) (no-more !)))) (from ! (stop !)) (init ! 25 refl (tt, (tt, (record { fits = room₄ .0 }, tt)))) $
         assigns ! (addr ! (from ! (fld ! refl (hop ! (look-in ! 61 (sub ! 0 refl (whole !))) (stop !))))) (from ! (stop !)) (init ! 23 refl (tt, tt)) $
-        assigns ! (agg ! (and-then ! (load ! (from ! (stop !)) (look ! 23 refl)) (and-then ! (load ! (from ! (fld ! refl (stop !))) (look-in ! 61 (sub ! 1 refl (whole !)))) (no-more !)))) (from ! (stop !)) (init ! 21 refl (tt, (tt, (record { fits = room₄ .0 }, tt)))) $
+        assigns ! (agg ! (and-then ! (load ! (from ! (stop !)) (look ! 23 refl)) (and-then ! (load ! (from ! (fld ! refl (stop !))) (look-in ! 61 (sub ! 1 refl (whole !)))) (no-more !)))) (from ! (stop !)) (init ! 21 refl (tt, (tt, (record { fits = room₅ .0 }, tt)))) $
         assigns ! (addr ! (from ! (fld ! refl (hop ! (look-in ! 57 (sub ! 0 refl (whole !))) (stop !))))) (from ! (stop !)) (init ! 19 refl (tt, tt)) $
-        assigns ! (agg ! (and-then ! (load ! (from ! (stop !)) (look ! 19 refl)) (and-then ! (load ! (from ! (fld ! refl (stop !))) (look-in ! 57 (sub ! 1 refl (whole !)))) (no-more !)))) (from ! (stop !)) (init ! 17 refl (tt, (tt, (record { fits = room₆ .0 }, tt)))) $
+        assigns ! (agg ! (and-then ! (load ! (from ! (stop !)) (look ! 19 refl)) (and-then ! (load ! (from ! (fld ! refl (stop !))) (look-in ! 57 (sub ! 1 refl (whole !)))) (no-more !)))) (from ! (stop !)) (init ! 17 refl (tt, (tt, (record { fits = room₇ .0 }, tt)))) $
         assigns ! (addr ! (from ! (fld ! refl (hop ! (look-in ! 55 (sub ! 0 refl (whole !))) (stop !))))) (from ! (stop !)) (init ! 15 refl (tt, tt)) $
-        assigns ! (agg ! (and-then ! (load ! (from ! (stop !)) (look ! 15 refl)) (and-then ! (load ! (from ! (fld ! refl (stop !))) (look-in ! 55 (sub ! 1 refl (whole !)))) (no-more !)))) (from ! (stop !)) (init ! 13 refl (tt, (tt, (record { fits = room₇ .0 }, tt)))) $
+        assigns ! (agg ! (and-then ! (load ! (from ! (stop !)) (look ! 15 refl)) (and-then ! (load ! (from ! (fld ! refl (stop !))) (look-in ! 55 (sub ! 1 refl (whole !)))) (no-more !)))) (from ! (stop !)) (init ! 13 refl (tt, (tt, (record { fits = room₈ .0 }, tt)))) $
         -- the call with rows and table by value
-        nothing ! $ owned ! u8 (Is u8) (uint-makes 𝓤 H A W w8) x₉ _ g₉ $ fjoin ! $ owned ! Z.the-row (Is Z.the-row) (LL.makes Z.the-type Z′.the-plain 𝓤 H A) x₈ _ g₈ $ fjoin ! $ move ! (74 ∷ 0 ∷ []) $ fjoin ! $ move ! (74 ∷ 0 ∷ []) $
-        fjoin ! $ move ! (74 ∷ 0 ∷ []) $ fjoin ! $ move ! (74 ∷ 0 ∷ []) $ fjoin ! $ move ! (74 ∷ 0 ∷ []) $ fjoin ! $ move ! (74 ∷ 0 ∷ []) $ fjoin ! $ owned ! B.the-row (Is B.the-row) (LL.makes B.the-type B′.the-plain 𝓤 H A) x₁ _ g₁ $
-        fjoin ! $ owned ! T.the-row (Is T.the-row) (LL.makes T.the-type T′.the-plain 𝓤 H A) row _ (spelled-T row w₂ is₂) $ fjoin ! $ owned ! S.the-row (Is S.the-row) (LL.makes S.the-type S′.the-plain 𝓤 H A) v _ (spelled-S v w₀ is₀) $
-        fjoin ! $ move ! (74 ∷ 0 ∷ []) $ use2 W (raw (Core 𝓤 H A at-mem run .pre (to-core v row))) (goes-core v row) $
-        calls-at ! fm (Core 𝓤 H A at-mem run) known-core (to-core v row) (and-then ! (load ! (from ! (stop !)) (look ! 50 refl)) (and-then ! (load ! (from ! (stop !)) (look ! 46 refl)) (and-then ! (load ! (from ! (stop !)) (look ! 30 refl)) (and-then ! (load ! (from ! (stop !)) (look ! 66 refl)) (and-then ! (load ! (from ! (stop !)) (look ! 26 refl)) (and-then ! (load ! (from ! (stop !)) (look ! 22 refl)) (and-then ! (load ! (from ! (stop !)) (look ! 60 refl)) (and-then ! (load ! (from ! (stop !)) (look ! 18 refl)) (and-then ! (load ! (from ! (stop !)) (look ! 14 refl)) (and-then ! (load ! (from ! (stop !)) (look ! 54 refl)) (and-then ! (load ! (from ! (stop !)) (look ! 52 refl)) (no-more !)))))))))))) (λ w₃.
-        use1 W (later (some (λ (r : AfterStep). ((‵ (flft κ₂ q₂) ⊛ (‵ (flft κ₃ q₃) ⊛ (‵ (flft κ₄ q₄) ⊛ (‵ (flft κ₅ q₅) ⊛ (‵ (flft κ₆ q₆) ⊛ (‵ (flft κ₇ q₇) ⊛ ‵ ftrue)))))) ⊛ ‵ (O.the-row .own r (w₃ ∷ []))) ⊛ raw (ensured 𝓤 H A core-fn.ended (core-fn.clauses 𝓤 H A at-mem run) (κ₂, (κ₃, (κ₄, (κ₅, (κ₆, (κ₇, tt)))))) (args-core v row) tt r)))) (id⊢ 𝓤 _) $ await ! tt $ pick ! (λ r.
+        nothing ! $ owned ! u8 (Is u8) (uint-makes 𝓤 H A W w8) x₁₀ _ g₁₀ $ fjoin ! $ owned ! Z.the-row (Is Z.the-row) (LL.makes Z.the-type Z′.the-plain 𝓤 H A) x₉ _ g₉ $ fjoin ! $ move ! (76 ∷ 0 ∷ []) $ fjoin ! $ move ! (76 ∷ 0 ∷ []) $
+        fjoin ! $ move ! (76 ∷ 0 ∷ []) $ fjoin ! $ move ! (76 ∷ 0 ∷ []) $ fjoin ! $ move ! (76 ∷ 0 ∷ []) $ fjoin ! $ move ! (76 ∷ 0 ∷ []) $ fjoin ! $ move ! (76 ∷ 0 ∷ []) $ fjoin ! $
+        owned ! B.the-row (Is B.the-row) (LL.makes B.the-type B′.the-plain 𝓤 H A) x₁ _ g₁ $ fjoin ! $ owned ! T.the-row (Is T.the-row) (LL.makes T.the-type T′.the-plain 𝓤 H A) row _ (spelled-T row w₂ is₂) $ fjoin ! $
+        owned ! S.the-row (Is S.the-row) (LL.makes S.the-type S′.the-plain 𝓤 H A) v _ (spelled-S v w₀ is₀) $ fjoin ! $ move ! (76 ∷ 0 ∷ []) $ use2 W (raw (Core 𝓤 H A at-mem run .pre (to-core v row))) (goes-core v row) $
+        calls-at ! fm (Core 𝓤 H A at-mem run) known-core (to-core v row) (and-then ! (load ! (from ! (stop !)) (look ! 50 refl)) (and-then ! (load ! (from ! (stop !)) (look ! 46 refl)) (and-then ! (load ! (from ! (stop !)) (look ! 30 refl)) (and-then ! (load ! (from ! (stop !)) (look ! 68 refl)) (and-then ! (load ! (from ! (stop !)) (look ! 66 refl)) (and-then ! (load ! (from ! (stop !)) (look ! 26 refl)) (and-then ! (load ! (from ! (stop !)) (look ! 22 refl)) (and-then ! (load ! (from ! (stop !)) (look ! 60 refl)) (and-then ! (load ! (from ! (stop !)) (look ! 18 refl)) (and-then ! (load ! (from ! (stop !)) (look ! 14 refl)) (and-then ! (load ! (from ! (stop !)) (look ! 54 refl)) (and-then ! (load ! (from ! (stop !)) (look ! 52 refl)) (no-more !))))))))))))) (λ w₃.
+        use1 W (later (some (λ (r : AfterStep). ((‵ (flft κ₂ q₂) ⊛ (‵ (flft κ₃ q₃) ⊛ (‵ (flft κ₄ q₄) ⊛ (‵ (flft κ₅ q₅) ⊛ (‵ (flft κ₆ q₆) ⊛ (‵ (flft κ₇ q₇) ⊛ (‵ (flft κ₈ q₈) ⊛ ‵ ftrue))))))) ⊛ ‵ (O.the-row .own r (w₃ ∷ []))) ⊛ raw (ensured 𝓤 H A core-fn.ended (core-fn.clauses 𝓤 H A at-mem run) (κ₂, (κ₃, (κ₄, (κ₅, (κ₆, (κ₇, (κ₈, tt))))))) (args-core v row) tt r)))) (id⊢ 𝓤 _) $ await ! tt $ pick ! (λ r.
         split ! $ move ! (1 ∷ []) $
-        use1 W (some (λ (ws₃ : Lasts core-fn.ended (κ₂, (κ₃, (κ₄, (κ₅, (κ₆, (κ₇, tt)))))) (args-core v row)). ‵ (lasts core-fn.ended (κ₂, (κ₃, (κ₄, (κ₅, (κ₆, (κ₇, tt)))))) (args-core v row) ws₃) ⊛ raw (fact 𝓤 (((j : ℕ) → StandsAt x₉ (x₈ .rows) (heldRows v) j row → StepPromise x₈ (lentBuffers (heldRows v) x₁ x₂ x₃ x₄ x₅ x₆ x₇) x₉ (r .answer) (lentBuffers (set (heldRows v) j (r .row)) (r .table) x₂ (ws₃ .1 .1 .1 .1 .0) (ws₃ .1 .1 .1 .1 .1 .0) x₅ (ws₃ .1 .1 .1 .1 .1 .1 .1 .0) (ws₃ .1 .1 .1 .1 .1 .1 .1 .1 .0))) × (hasRow x₉ (take (x₈ .rows) (heldRows v)) ≡ false → r .row ≡ row))))) (id⊢ 𝓤 _) $ pick ! (λ ws₃.
+        use1 W (some (λ (ws₃ : Lasts core-fn.ended (κ₂, (κ₃, (κ₄, (κ₅, (κ₆, (κ₇, (κ₈, tt))))))) (args-core v row)). ‵ (lasts core-fn.ended (κ₂, (κ₃, (κ₄, (κ₅, (κ₆, (κ₇, (κ₈, tt))))))) (args-core v row) ws₃) ⊛ raw (fact 𝓤 (((j : ℕ) → StandsAt x₁₀ (x₉ .rows) (heldRows v) j row → StepPromise x₉ (lentBuffers (heldRows v) x₁ x₂ x₃ x₄ x₅ x₆ x₇ x₈) x₁₀ (r .answer) (lentBuffers (set (heldRows v) j (r .row)) (r .table) x₂ x₃ (ws₃ .1 .1 .1 .1 .1 .0) (ws₃ .1 .1 .1 .1 .1 .1 .0) x₆ (ws₃ .1 .1 .1 .1 .1 .1 .1 .1 .0) (ws₃ .1 .1 .1 .1 .1 .1 .1 .1 .1 .0))) × (hasRow x₁₀ (take (x₉ .rows) (heldRows v)) ≡ false → r .row ≡ row))))) (id⊢ 𝓤 _) $ pick ! (λ ws₃.
         split ! $ move ! (1 ∷ []) $
-        heard ! (((j : ℕ) → StandsAt x₉ (x₈ .rows) (heldRows v) j row → StepPromise x₈ (lentBuffers (heldRows v) x₁ x₂ x₃ x₄ x₅ x₆ x₇) x₉ (r .answer) (lentBuffers (set (heldRows v) j (r .row)) (r .table) x₂ (ws₃ .1 .1 .1 .1 .0) (ws₃ .1 .1 .1 .1 .1 .0) x₅ (ws₃ .1 .1 .1 .1 .1 .1 .1 .0) (ws₃ .1 .1 .1 .1 .1 .1 .1 .1 .0))) × (hasRow x₉ (take (x₈ .rows) (heldRows v)) ≡ false → r .row ≡ row)) (λ e₃.
-        fsplit ! $ drop ! $ fsplit ! $ drop ! $ fsplit ! $ drop ! $ fsplit ! $ drop ! $ fsplit ! $ fsplit ! $ move ! (1 ∷ []) $ feqL ! (λ n₃·4. move ! (1 ∷ []) $ fsplit ! $ fsplit ! $ move ! (1 ∷ []) $ feqL ! (λ n₃·5. move ! (1 ∷ []) $
-        fsplit ! $ drop ! $ fsplit ! $ fsplit ! $ move ! (1 ∷ []) $ feqL ! (λ n₃·7. move ! (1 ∷ []) $ fsplit ! $ fsplit ! $ move ! (1 ∷ []) $ feqL ! (λ n₃·8. move ! (1 ∷ []) $ fsplit ! $ drop ! $ fsplit ! $ drop ! $ drop ! $
-        move ! (4 ∷ []) $ split ! $ move ! (1 ∷ []) $ peeks ! O.the-row (Is O.the-row) (shows 𝓤 H A O.the-row) r (w₃ ∷ []) (λ is₃. land ! (from ! (stop !)) (init ! 49 refl (LL.lawful O.the-type O′.the-laws 𝓤 H A W .typed r _ is₃ .0)) $
-        drop ! $ rewrite ! 48 (λ (z : Val). ‵ (fat fullShare (spell mirs.table (pointee (O.the-row .written))) l₁₄ 0 z)) (ap only (LL.tells O.the-type O′.the-laws r _ is₃)) refl $
+        heard ! (((j : ℕ) → StandsAt x₁₀ (x₉ .rows) (heldRows v) j row → StepPromise x₉ (lentBuffers (heldRows v) x₁ x₂ x₃ x₄ x₅ x₆ x₇ x₈) x₁₀ (r .answer) (lentBuffers (set (heldRows v) j (r .row)) (r .table) x₂ x₃ (ws₃ .1 .1 .1 .1 .1 .0) (ws₃ .1 .1 .1 .1 .1 .1 .0) x₆ (ws₃ .1 .1 .1 .1 .1 .1 .1 .1 .0) (ws₃ .1 .1 .1 .1 .1 .1 .1 .1 .1 .0))) × (hasRow x₁₀ (take (x₉ .rows) (heldRows v)) ≡ false → r .row ≡ row)) (λ e₃.
+        fsplit ! $ drop ! $ fsplit ! $ drop ! $ fsplit ! $ drop ! $ fsplit ! $ drop ! $ fsplit ! $ drop ! $ fsplit ! $ fsplit ! $ move ! (1 ∷ []) $ feqL ! (λ n₃·5. move ! (1 ∷ []) $ fsplit ! $ fsplit ! $ move ! (1 ∷ []) $ feqL ! (λ n₃·6.
+        move ! (1 ∷ []) $ fsplit ! $ drop ! $ fsplit ! $ fsplit ! $ move ! (1 ∷ []) $ feqL ! (λ n₃·8. move ! (1 ∷ []) $ fsplit ! $ fsplit ! $ move ! (1 ∷ []) $ feqL ! (λ n₃·9. move ! (1 ∷ []) $ fsplit ! $ drop ! $ fsplit ! $ drop ! $
+        drop ! $ move ! (4 ∷ []) $ split ! $ move ! (1 ∷ []) $ peeks ! O.the-row (Is O.the-row) (shows 𝓤 H A O.the-row) r (w₃ ∷ []) (λ is₃.
+        land ! (from ! (stop !)) (init ! 49 refl (LL.lawful O.the-type O′.the-laws 𝓤 H A W .typed r _ is₃ .0)) $ drop ! $
+        rewrite ! 48 (λ (z : Val). ‵ (fat fullShare (spell mirs.table (pointee (O.the-row .written))) l₁₅ 0 z)) (ap only (LL.tells O.the-type O′.the-laws r _ is₃)) refl $
         -- the table is stored back
-        assigns ! (of-opd ! (load ! (from ! (fld ! refl (stop !))) (look-in ! 48 (sub ! 1 refl (whole !))))) (from ! (hop ! (look ! 72 refl) (stop !))) (store-raw ! 5 refl (LL.lawful B.the-type B′.the-laws 𝓤 H A W .typed (r .table) _ (parts r w₃ is₃ .1 .0) .0)) $
+        assigns ! (of-opd ! (load ! (from ! (fld ! refl (stop !))) (look-in ! 48 (sub ! 1 refl (whole !))))) (from ! (hop ! (look ! 74 refl) (stop !))) (store-raw ! 5 refl (LL.lawful B.the-type B′.the-laws 𝓤 H A W .typed (r .table) _ (parts r w₃ is₃ .1 .0) .0)) $
         owned ! B.the-row (Is B.the-row) (LL.makes B.the-type B′.the-plain 𝓤 H A) (r .table) _ (parts r w₃ is₃ .1 .0) $ move ! (6 ∷ 0 ∷ 7 ∷ 8 ∷ 9 ∷ []) $ closes ! tt B.the-row (r .table) (val-B (r .table) ∷ []) b₁ o₁ $
         -- the rows are stored back
-        assigns ! (addr ! (from ! (fld ! refl (hop ! (look-in ! 73 (sub ! 0 refl (whole !))) (stop !))))) (from ! (stop !)) (init ! 13 refl (tt, tt)) $
-        assigns ! (agg ! (and-then ! (load ! (from ! (stop !)) (look ! 13 refl)) (and-then ! (load ! (from ! (fld ! refl (stop !))) (look-in ! 73 (sub ! 1 refl (whole !)))) (no-more !)))) (from ! (stop !)) (init ! 11 refl (tt, (tt, (record { fits = room₀ .0 }, tt)))) $
+        assigns ! (addr ! (from ! (fld ! refl (hop ! (look-in ! 75 (sub ! 0 refl (whole !))) (stop !))))) (from ! (stop !)) (init ! 13 refl (tt, tt)) $
+        assigns ! (agg ! (and-then ! (load ! (from ! (stop !)) (look ! 13 refl)) (and-then ! (load ! (from ! (fld ! refl (stop !))) (look-in ! 75 (sub ! 1 refl (whole !)))) (no-more !)))) (from ! (stop !)) (init ! 11 refl (tt, (tt, (record { fits = room₀ .0 }, tt)))) $
         move ! (8 ∷ 9 ∷ []) $ fjoin ! $ pureI ! (at-slice T.the-row y₀ (s₀ ∷ [])) (tt, (tt, tt)) (refl, room₀) $ fjoin ! $ nothing ! $ move ! (10 ∷ 0 ∷ []) $ join ! $ nothing ! $
         owned ! T.the-row (Is T.the-row) (LL.makes T.the-type T′.the-plain 𝓤 H A) (r .row) _ (parts r w₃ is₃ .0) $ fjoin ! $ owned ! usize (Is usize) (uint-makes 𝓤 H A W w64) i _ (refl, is₁ .1) $ fjoin ! $ move ! (2 ∷ 0 ∷ []) $ fjoin ! $
         move ! (1 ∷ 0 ∷ []) $ use2 W (raw (Store 𝓤 H A at-mem run .pre (to-store i r))) (goes-store i r) $
@@ -369,33 +377,33 @@ module _ {M : Type 1} (𝓤 : URA M) (H : Heap 𝓤) (A : Atoms 𝓤) (W : Given
         split ! $ move ! (1 ∷ []) $ use1 W (some (λ (ws₄ : Lasts store-fn.ended (κ₀, tt) (args-store i r)). ‵ (lasts store-fn.ended (κ₀, tt) (args-store i r) ws₄) ⊛ raw (fact 𝓤 ((ws₄ .0) ≡ set x₀ i (r .row))))) (id⊢ 𝓤 _) $ pick ! (λ ws₄.
         split ! $ move ! (1 ∷ []) $ heard ! ((ws₄ .0) ≡ set x₀ i (r .row)) (λ e₄. fsplit ! $ fsplit ! $ move ! (1 ∷ []) $ feqL ! (λ n₄·0. move ! (1 ∷ []) $ fsplit ! $ drop ! $ fsplit ! $ drop ! $ drop ! $ move ! (1 ∷ []) $ split ! $
         move ! (1 ∷ []) $ peeks ! Nothing (Is Nothing) (shows 𝓤 H A Nothing) u (w₄ ∷ []) (λ is₄. land ! (from ! (stop !)) (init ! 15 refl (nothing-lawful 𝓤 H A W .typed u _ is₄ .0)) $ drop ! $ split ! $ move ! (1 ∷ []) $ drop ! $
-        assigns ! (of-opd ! (load ! (from ! (fld ! refl (stop !))) (look-in ! 46 (sub ! 2 refl (whole !))))) (from ! (stop !)) (init ! 74 refl (EL.lawful N.the-type N′.the-laws 𝓤 H A W tt .typed (r .answer) _ (parts r w₃ is₃ .1 .1 .0) .0)) $
-        returns ! (look ! 74 refl) $ forget ! 10 refl $ forget ! 12 refl $ forget ! 14 refl $ forget ! 16 refl $ forget ! 18 refl $ forget ! 20 refl $ forget ! 22 refl $ forget ! 24 refl $ forget ! 26 refl $ forget ! 28 refl $
+        assigns ! (of-opd ! (load ! (from ! (fld ! refl (stop !))) (look-in ! 46 (sub ! 2 refl (whole !))))) (from ! (stop !)) (init ! 76 refl (EL.lawful N.the-type N′.the-laws 𝓤 H A W tt .typed (r .answer) _ (parts r w₃ is₃ .1 .1 .0) .0)) $
+        returns ! (look ! 76 refl) $ forget ! 10 refl $ forget ! 12 refl $ forget ! 14 refl $ forget ! 16 refl $ forget ! 18 refl $ forget ! 20 refl $ forget ! 22 refl $ forget ! 24 refl $ forget ! 26 refl $ forget ! 28 refl $
         forget ! 30 refl $ forget ! 32 refl $ forget ! 34 refl $ forget ! 36 refl $ forget ! 38 refl $ forget ! 40 refl $ forget ! 42 refl $ forget ! 44 refl $ forget ! 46 refl $ forget ! 48 refl $ forget ! 50 refl $ forget ! 52 refl $
-        forget ! 54 refl $ forget ! 56 refl $ forget ! 58 refl $ forget ! 60 refl $ forget ! 62 refl $ forget ! 64 refl $ forget ! 66 refl $ forget ! 68 refl $ forget ! 70 refl $ forget ! 72 refl $ forget ! 74 refl $
-        move ! (74 ∷ 75 ∷ []) $ free1 ! $ move ! (72 ∷ 73 ∷ []) $ free1 ! $ move ! (70 ∷ 71 ∷ []) $ free1 ! $ move ! (68 ∷ 69 ∷ []) $ free1 ! $ move ! (66 ∷ 67 ∷ []) $ free1 ! $ move ! (64 ∷ 65 ∷ []) $ free1 ! $ move ! (62 ∷ 63 ∷ []) $
-        free1 ! $ move ! (60 ∷ 61 ∷ []) $ free1 ! $ move ! (58 ∷ 59 ∷ []) $ free1 ! $ move ! (56 ∷ 57 ∷ []) $ free1 ! $ move ! (54 ∷ 55 ∷ []) $ free1 ! $ move ! (52 ∷ 53 ∷ []) $ free1 ! $ move ! (50 ∷ 51 ∷ []) $ free1 ! $
-        move ! (48 ∷ 49 ∷ []) $ free1 ! $ move ! (46 ∷ 47 ∷ []) $ free1 ! $ move ! (44 ∷ 45 ∷ []) $ free1 ! $ move ! (42 ∷ 43 ∷ []) $ free1 ! $ move ! (40 ∷ 41 ∷ []) $ free1 ! $ move ! (38 ∷ 39 ∷ []) $ free1 ! $ move ! (36 ∷ 37 ∷ []) $
-        free1 ! $ move ! (34 ∷ 35 ∷ []) $ free1 ! $ move ! (32 ∷ 33 ∷ []) $ free1 ! $ move ! (30 ∷ 31 ∷ []) $ free1 ! $ move ! (28 ∷ 29 ∷ []) $ free1 ! $ move ! (26 ∷ 27 ∷ []) $ free1 ! $ move ! (24 ∷ 25 ∷ []) $ free1 ! $
-        move ! (22 ∷ 23 ∷ []) $ free1 ! $ move ! (20 ∷ 21 ∷ []) $ free1 ! $ move ! (18 ∷ 19 ∷ []) $ free1 ! $ move ! (16 ∷ 17 ∷ []) $ free1 ! $ move ! (14 ∷ 15 ∷ []) $ free1 ! $ move ! (12 ∷ 13 ∷ []) $ free1 ! $ move ! (10 ∷ 11 ∷ []) $
-        free1 ! $ free0 ! $ keep ! (0 ∷ 4 ∷ 5 ∷ 2 ∷ 3 ∷ 1 ∷ 9 ∷ 8 ∷ 7 ∷ 6 ∷ []) $
-        by ! (exits v i row r (ws₄ .0) (ws₃ .1 .1 .1 .1 .0) (ws₃ .1 .1 .1 .1 .1 .0) (ws₃ .1 .1 .1 .1 .1 .1 .1 .0) (ws₃ .1 .1 .1 .1 .1 .1 .1 .1 .0) (parts r w₃ is₃) e₀ e₁ e₂ e₃ e₄ n₄·0 n₃·4 n₃·5 n₃·7 n₃·8))))))))))))))))))))))))))))))))))))))))))))))))))))))))))))))))))))))))
+        forget ! 54 refl $ forget ! 56 refl $ forget ! 58 refl $ forget ! 60 refl $ forget ! 62 refl $ forget ! 64 refl $ forget ! 66 refl $ forget ! 68 refl $ forget ! 70 refl $ forget ! 72 refl $ forget ! 74 refl $ forget ! 76 refl $
+        move ! (76 ∷ 77 ∷ []) $ free1 ! $ move ! (74 ∷ 75 ∷ []) $ free1 ! $ move ! (72 ∷ 73 ∷ []) $ free1 ! $ move ! (70 ∷ 71 ∷ []) $ free1 ! $ move ! (68 ∷ 69 ∷ []) $ free1 ! $ move ! (66 ∷ 67 ∷ []) $ free1 ! $ move ! (64 ∷ 65 ∷ []) $
+        free1 ! $ move ! (62 ∷ 63 ∷ []) $ free1 ! $ move ! (60 ∷ 61 ∷ []) $ free1 ! $ move ! (58 ∷ 59 ∷ []) $ free1 ! $ move ! (56 ∷ 57 ∷ []) $ free1 ! $ move ! (54 ∷ 55 ∷ []) $ free1 ! $ move ! (52 ∷ 53 ∷ []) $ free1 ! $
+        move ! (50 ∷ 51 ∷ []) $ free1 ! $ move ! (48 ∷ 49 ∷ []) $ free1 ! $ move ! (46 ∷ 47 ∷ []) $ free1 ! $ move ! (44 ∷ 45 ∷ []) $ free1 ! $ move ! (42 ∷ 43 ∷ []) $ free1 ! $ move ! (40 ∷ 41 ∷ []) $ free1 ! $ move ! (38 ∷ 39 ∷ []) $
+        free1 ! $ move ! (36 ∷ 37 ∷ []) $ free1 ! $ move ! (34 ∷ 35 ∷ []) $ free1 ! $ move ! (32 ∷ 33 ∷ []) $ free1 ! $ move ! (30 ∷ 31 ∷ []) $ free1 ! $ move ! (28 ∷ 29 ∷ []) $ free1 ! $ move ! (26 ∷ 27 ∷ []) $ free1 ! $
+        move ! (24 ∷ 25 ∷ []) $ free1 ! $ move ! (22 ∷ 23 ∷ []) $ free1 ! $ move ! (20 ∷ 21 ∷ []) $ free1 ! $ move ! (18 ∷ 19 ∷ []) $ free1 ! $ move ! (16 ∷ 17 ∷ []) $ free1 ! $ move ! (14 ∷ 15 ∷ []) $ free1 ! $ move ! (12 ∷ 13 ∷ []) $
+        free1 ! $ move ! (10 ∷ 11 ∷ []) $ free1 ! $ free0 ! $ keep ! (0 ∷ 4 ∷ 5 ∷ 2 ∷ 3 ∷ 1 ∷ 9 ∷ 8 ∷ 7 ∷ 6 ∷ []) $
+        by ! (exits v i row r (ws₄ .0) (ws₃ .1 .1 .1 .1 .1 .0) (ws₃ .1 .1 .1 .1 .1 .1 .0) (ws₃ .1 .1 .1 .1 .1 .1 .1 .1 .0) (ws₃ .1 .1 .1 .1 .1 .1 .1 .1 .1 .0) (parts r w₃ is₃) e₀ e₁ e₂ e₃ e₄ n₄·0 n₃·5 n₃·6 n₃·8 n₃·9)))))))))))))))))))))))))))))))))))))))))))))))))))))))))))))))))))))))))
 
 module _ {M : Type 1} (𝓤 : URA M) (H : Heap 𝓤) (A : Atoms 𝓤) (W : Given 𝓤 H A) (at-mem : Memory → SProp 𝓤) (run : Routine → Fun 𝓤) where
   step-walks : (C : Calls 𝓤 H) (Λ : Loops 𝓤 H) → FmC 𝓤 H (W .laws) C → Triple 𝓤 (C #hep·load-rows) (Load 𝓤 H A at-mem run) → Triple 𝓤 (C #hep·find-row) (Find 𝓤 H A at-mem run) → Triple 𝓤 (C #hep·row-at) (One 𝓤 H A at-mem run) → Triple 𝓤 (C #step-row·step) (Core 𝓤 H A at-mem run) → Triple 𝓤 (C #hep·put-row) (Store 𝓤 H A at-mem run) → Walks 𝓤 H A step′.ended stayed (WpFn 𝓤 H C Λ code.function) (step′.clauses 𝓤 H A at-mem run)
   step-walks C Λ fm known-load known-find known-one known-core known-store = walked 𝓤 H A step′.ended stayed (step′.clauses 𝓤 H A at-mem run) (WpFn 𝓤 H C Λ code.function)
-      (λ κs. (slice-vals, (ptr-vals, (slice-vals, (slice-vals, (slice-vals, (slice-vals, (slice-vals, (slice-vals, (LL.vals Z.the-type Z′.the-laws, (uint-vals w8, tt)))))))))))
-      (λ κs. (mut-slice-tells (named 0) (κs .0) T.the-row, (mut-tells (named 1) (κs .1 .0) B.the-row, (shr-slice-tells (named 2) (κs .1 .1 .0) u64, (mut-slice-tells (named 3) (κs .1 .1 .1 .0) u8, (mut-slice-tells (named 4) (κs .1 .1 .1 .1 .0) u64, (shr-slice-tells (named 5) (κs .1 .1 .1 .1 .1 .0) u64, (mut-slice-tells (named 6) (κs .1 .1 .1 .1 .1 .1 .0) u8, (mut-slice-tells (named 7) (κs .1 .1 .1 .1 .1 .1 .1 .0) u64, (LL.tells Z.the-type Z′.the-laws, (uint-tells w8, tt)))))))))))
-      (λ κs qs bounds a _ are. via 𝓤 _ (fst∗ 𝓤 _ (emp 𝓤)) (walk 𝓤 H A W at-mem run (κs .0) (κs .1 .0) (κs .1 .1 .0) (κs .1 .1 .1 .0) (κs .1 .1 .1 .1 .0) (κs .1 .1 .1 .1 .1 .0) (κs .1 .1 .1 .1 .1 .1 .0) (κs .1 .1 .1 .1 .1 .1 .1 .0) (qs .0) (qs .1 .0) (qs .1 .1 .0) (qs .1 .1 .1 .0) (qs .1 .1 .1 .1 .0) (qs .1 .1 .1 .1 .1 .0) (qs .1 .1 .1 .1 .1 .1 .0) (qs .1 .1 .1 .1 .1 .1 .1 .0)
-      (a .0 .ptr .0) (a .0 .ptr .1) (a .0 .name) (a .0 .now) (a .1 .0 .ptr .0) (a .1 .0 .ptr .1) (a .1 .0 .name) (a .1 .0 .now) (a .1 .1 .0 .ptr .0) (a .1 .1 .0 .ptr .1) (a .1 .1 .0 .name) (a .1 .1 .0 .now) (a .1 .1 .1 .0 .ptr .0) (a .1 .1 .1 .0 .ptr .1) (a .1 .1 .1 .0 .name) (a .1 .1 .1 .0 .now) (a .1 .1 .1 .1 .0 .ptr .0) (a .1 .1 .1 .1 .0 .ptr .1) (a .1 .1 .1 .1 .0 .name) (a .1 .1 .1 .1 .0 .now) (a .1 .1 .1 .1 .1 .0 .ptr .0) (a .1 .1 .1 .1 .1 .0 .ptr .1) (a .1 .1 .1 .1 .1 .0 .name) (a .1 .1 .1 .1 .1 .0 .now) (a .1 .1 .1 .1 .1 .1 .0 .ptr .0) (a .1 .1 .1 .1 .1 .1 .0 .ptr .1) (a .1 .1 .1 .1 .1 .1 .0 .name) (a .1 .1 .1 .1 .1 .1 .0 .now) (a .1 .1 .1 .1 .1 .1 .1 .0 .ptr .0) (a .1 .1 .1 .1 .1 .1 .1 .0 .ptr .1) (a .1 .1 .1 .1 .1 .1 .1 .0 .name) (a .1 .1 .1 .1 .1 .1 .1 .0 .now)
-      (a .1 .1 .1 .1 .1 .1 .1 .1 .0) (a .1 .1 .1 .1 .1 .1 .1 .1 .1 .0) (are .1 .1 .1 .1 .1 .1 .1 .1 .0) (are .1 .1 .1 .1 .1 .1 .1 .1 .1 .0)
-      (are .0 .0 .1) (are .1 .1 .0 .0 .1) (are .1 .1 .1 .0 .0 .1) (are .1 .1 .1 .1 .0 .0 .1) (are .1 .1 .1 .1 .1 .0 .0 .1) (are .1 .1 .1 .1 .1 .1 .0 .0 .1) (are .1 .1 .1 .1 .1 .1 .1 .0 .0 .1) C Λ fm known-load known-find known-one known-core known-store))
+      (λ κs. (slice-vals, (ptr-vals, (slice-vals, (slice-vals, (slice-vals, (slice-vals, (slice-vals, (slice-vals, (slice-vals, (LL.vals Z.the-type Z′.the-laws, (uint-vals w8, tt))))))))))))
+      (λ κs. (mut-slice-tells (named 0) (κs .0) T.the-row, (mut-tells (named 1) (κs .1 .0) B.the-row, (shr-slice-tells (named 2) (κs .1 .1 .0) u8, (shr-slice-tells (named 3) (κs .1 .1 .1 .0) u64, (mut-slice-tells (named 4) (κs .1 .1 .1 .1 .0) u8, (mut-slice-tells (named 5) (κs .1 .1 .1 .1 .1 .0) u64, (shr-slice-tells (named 6) (κs .1 .1 .1 .1 .1 .1 .0) u64, (mut-slice-tells (named 7) (κs .1 .1 .1 .1 .1 .1 .1 .0) u8, (mut-slice-tells (named 8) (κs .1 .1 .1 .1 .1 .1 .1 .1 .0) u64, (LL.tells Z.the-type Z′.the-laws, (uint-tells w8, tt))))))))))))
+      (λ κs qs bounds a _ are. via 𝓤 _ (fst∗ 𝓤 _ (emp 𝓤)) (walk 𝓤 H A W at-mem run (κs .0) (κs .1 .0) (κs .1 .1 .0) (κs .1 .1 .1 .0) (κs .1 .1 .1 .1 .0) (κs .1 .1 .1 .1 .1 .0) (κs .1 .1 .1 .1 .1 .1 .0) (κs .1 .1 .1 .1 .1 .1 .1 .0) (κs .1 .1 .1 .1 .1 .1 .1 .1 .0) (qs .0) (qs .1 .0) (qs .1 .1 .0) (qs .1 .1 .1 .0) (qs .1 .1 .1 .1 .0) (qs .1 .1 .1 .1 .1 .0) (qs .1 .1 .1 .1 .1 .1 .0) (qs .1 .1 .1 .1 .1 .1 .1 .0) (qs .1 .1 .1 .1 .1 .1 .1 .1 .0)
+      (a .0 .ptr .0) (a .0 .ptr .1) (a .0 .name) (a .0 .now) (a .1 .0 .ptr .0) (a .1 .0 .ptr .1) (a .1 .0 .name) (a .1 .0 .now) (a .1 .1 .0 .ptr .0) (a .1 .1 .0 .ptr .1) (a .1 .1 .0 .name) (a .1 .1 .0 .now) (a .1 .1 .1 .0 .ptr .0) (a .1 .1 .1 .0 .ptr .1) (a .1 .1 .1 .0 .name) (a .1 .1 .1 .0 .now) (a .1 .1 .1 .1 .0 .ptr .0) (a .1 .1 .1 .1 .0 .ptr .1) (a .1 .1 .1 .1 .0 .name) (a .1 .1 .1 .1 .0 .now) (a .1 .1 .1 .1 .1 .0 .ptr .0) (a .1 .1 .1 .1 .1 .0 .ptr .1) (a .1 .1 .1 .1 .1 .0 .name) (a .1 .1 .1 .1 .1 .0 .now) (a .1 .1 .1 .1 .1 .1 .0 .ptr .0) (a .1 .1 .1 .1 .1 .1 .0 .ptr .1) (a .1 .1 .1 .1 .1 .1 .0 .name) (a .1 .1 .1 .1 .1 .1 .0 .now) (a .1 .1 .1 .1 .1 .1 .1 .0 .ptr .0) (a .1 .1 .1 .1 .1 .1 .1 .0 .ptr .1) (a .1 .1 .1 .1 .1 .1 .1 .0 .name) (a .1 .1 .1 .1 .1 .1 .1 .0 .now) (a .1 .1 .1 .1 .1 .1 .1 .1 .0 .ptr .0) (a .1 .1 .1 .1 .1 .1 .1 .1 .0 .ptr .1) (a .1 .1 .1 .1 .1 .1 .1 .1 .0 .name) (a .1 .1 .1 .1 .1 .1 .1 .1 .0 .now)
+      (a .1 .1 .1 .1 .1 .1 .1 .1 .1 .0) (a .1 .1 .1 .1 .1 .1 .1 .1 .1 .1 .0) (are .1 .1 .1 .1 .1 .1 .1 .1 .1 .0) (are .1 .1 .1 .1 .1 .1 .1 .1 .1 .1 .0)
+      (are .0 .0 .1) (are .1 .1 .0 .0 .1) (are .1 .1 .1 .0 .0 .1) (are .1 .1 .1 .1 .0 .0 .1) (are .1 .1 .1 .1 .1 .0 .0 .1) (are .1 .1 .1 .1 .1 .1 .0 .0 .1) (are .1 .1 .1 .1 .1 .1 .1 .0 .0 .1) (are .1 .1 .1 .1 .1 .1 .1 .1 .0 .0 .1) C Λ fm known-load known-find known-one known-core known-store))
 
 step-meets : {M : Type 1} (𝓤 : URA M) (H : Heap 𝓤) (A : Atoms 𝓤) → Given 𝓤 H A → (at-mem : Memory → SProp 𝓤) (run : Routine → Fun 𝓤) (𝓣 : Tables 𝓤 H) → Triple 𝓤 (𝓣 .C #hep·load-rows) (Load 𝓤 H A at-mem run) → Triple 𝓤 (𝓣 .C #hep·find-row) (Find 𝓤 H A at-mem run) → Triple 𝓤 (𝓣 .C #hep·row-at) (One 𝓤 H A at-mem run) → Triple 𝓤 (𝓣 .C #step-row·step) (Core 𝓤 H A at-mem run) → Triple 𝓤 (𝓣 .C #hep·put-row) (Store 𝓤 H A at-mem run)
     → Meets 𝓤 H A step′.signature (WpFn 𝓤 H (𝓣 .C) (𝓣 .Λ) code.function) (step′.spec 𝓤 H A at-mem run)
 step-meets 𝓤 H A W at-mem run 𝓣 known-load known-find known-one known-core known-store =
     walk-meets 𝓤 H A step′.ended stayed W
-    (goes-gave-slice 𝓤 H A W 8 0 tt (plain (λ _. T.the-row)), (goes-ref 𝓤 H A W 8 1 tt (plain (λ _. B.the-row)), (goes-dropped 𝓤 H A W 8 (shrSliceOf (2 ∷ []) tt (plain (λ _. u64))) yes (λ κs x f. refl), (goes-gave-slice 𝓤 H A W 8 3 tt (plain (λ _. u8)), (goes-gave-slice 𝓤 H A W 8 4 tt (plain (λ _. u64)), (goes-dropped 𝓤 H A W 8 (shrSliceOf (5 ∷ []) tt (plain (λ _. u64))) yes (λ κs x f. refl), (goes-gave-slice 𝓤 H A W 8 6 tt (plain (λ _. u8)), (goes-gave-slice 𝓤 H A W 8 7 tt (plain (λ _. u64)), (goes-dropped 𝓤 H A W 8 (plain (λ _. Z.the-row)) yes (λ κs x f. refl), (goes-dropped 𝓤 H A W 8 (plain (λ _. u8)) yes (λ κs x f. refl), tt)))))))))) (step′.clauses 𝓤 H A at-mem run)
+    (goes-gave-slice 𝓤 H A W 9 0 tt (plain (λ _. T.the-row)), (goes-ref 𝓤 H A W 9 1 tt (plain (λ _. B.the-row)), (goes-dropped 𝓤 H A W 9 (shrSliceOf (2 ∷ []) tt (plain (λ _. u8))) yes (λ κs x f. refl), (goes-dropped 𝓤 H A W 9 (shrSliceOf (3 ∷ []) tt (plain (λ _. u64))) yes (λ κs x f. refl), (goes-gave-slice 𝓤 H A W 9 4 tt (plain (λ _. u8)), (goes-gave-slice 𝓤 H A W 9 5 tt (plain (λ _. u64)), (goes-dropped 𝓤 H A W 9 (shrSliceOf (6 ∷ []) tt (plain (λ _. u64))) yes (λ κs x f. refl), (goes-gave-slice 𝓤 H A W 9 7 tt (plain (λ _. u8)), (goes-gave-slice 𝓤 H A W 9 8 tt (plain (λ _. u64)), (goes-dropped 𝓤 H A W 9 (plain (λ _. Z.the-row)) yes (λ κs x f. refl), (goes-dropped 𝓤 H A W 9 (plain (λ _. u8)) yes (λ κs x f. refl), tt))))))))))) (step′.clauses 𝓤 H A at-mem run)
     (WpFn 𝓤 H (𝓣 .C) (𝓣 .Λ) code.function) (WpFn-mono 𝓤 H (W .laws) 𝓣 code.function) (step-walks 𝓤 H A W at-mem run (𝓣 .C) (𝓣 .Λ) (fmOf 𝓤 H (W .laws) 𝓣) known-load known-find known-one known-core known-store)
 
 pub step-spec : {M : Type 1} → stated.statement M

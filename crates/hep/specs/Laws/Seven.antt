@@ -47,7 +47,7 @@ refused-where n b = go (fits n (roomOf b)) (sound (fieldsIn n b))
 
 -- the buffers with other rows
 abbrev pub withRows : List Row → Buffers → Buffers
-withRows rows b = lentBuffers rows (b .table) (b .constants) (b .registerTags) (b .registerWords) (b .program) (b .dataTags) (b .dataWords)
+withRows rows b = lentBuffers rows (b .table) (b .constantTags) (b .constantWords) (b .registerTags) (b .registerWords) (b .program) (b .dataTags) (b .dataWords)
 
 -- with further rows behind
 abbrev pub behind : List Row → Buffers → Buffers

@@ -22,7 +22,7 @@ enum-known-found-2 : tie.Need-enum-known-found-2
 enum-known-found-2 c = search needs
 
 run-sound-requires : tie.Need-run-sound-requires
-run-sound-requires c κs = sym (c .before .before .before .before .before .before .before .before .before .before .before .before .check .ensures) ∙ c .before .before .before .before .before .before .before .before .before .before .found2 .given .1
+run-sound-requires c κs = sym (c .before .before .before .before .before .before .before .before .before .before .before .before .before .check .ensures) ∙ c .before .before .before .before .before .before .before .before .before .before .before .found2 .given .1
 
 returns : tie.Need-returns
 returns c = check-stays _ _ _ _ _ (sym (c .before .before .before .before .check .ensures) ∙ c .before .before .found .given .1) (c .number .ensures)
@@ -54,8 +54,11 @@ same-length-8 c = search needs
 same-length-9 : tie.Need-same-length-9
 same-length-9 c = search needs
 
+same-length-10 : tie.Need-same-length-10
+same-length-10 c = search needs
+
 returns-2 : tie.Need-returns-2
-returns-2 c = c .before .before .before .before .before .before .before .before .before .before .before .before .before .before .before .before .before .before .run-sound .ensures
+returns-2 c = c .before .before .before .before .before .before .before .before .before .before .before .before .before .before .before .before .before .before .before .before .run-sound .ensures
 
 pub hep-run-spec : {M : Type 1} → statement M
 hep-run-spec =
@@ -77,4 +80,5 @@ hep-run-spec =
     same-length-7
     same-length-8
     same-length-9
+    same-length-10
     returns-2)

@@ -13,11 +13,11 @@ lengths-number-requires c κs = search needs
 
 returns : tie.Need-returns
 unfolding imageRunRefusal
-returns c = sound-refused _ _ _ _ _ (c .before .before .before .before .before .before .before .before .before .before .before .before .before .pre) (c .before .lengths-number .ensures) (c .if1 .taken)
+returns c = sound-refused _ _ _ _ _ (c .before .before .before .before .before .before .before .before .before .before .before .before .before .before .pre) (c .before .lengths-number .ensures) (c .if1 .taken)
 
 run-accepted-requires : tie.Need-run-accepted-requires
 unfolding imageRunRefusal
-run-accepted-requires c κs = (c .before .before .before .before .before .before .before .before .before .before .before .before .before .before .before .before .before .before .before .before .before .before .pre, none-numbered _ (sym (c .before .before .before .before .before .before .before .before .before .before .lengths-number .ensures) ∙ c .before .before .before .before .before .before .before .before .before .if1 .left))
+run-accepted-requires c κs = (c .before .before .before .before .before .before .before .before .before .before .before .before .before .before .before .before .before .before .before .before .before .before .before .before .pre, none-numbered _ (sym (c .before .before .before .before .before .before .before .before .before .before .before .lengths-number .ensures) ∙ c .before .before .before .before .before .before .before .before .before .before .if1 .left))
 
 same-length : tie.Need-same-length
 same-length c = search needs
@@ -46,9 +46,12 @@ same-length-8 c = search needs
 same-length-9 : tie.Need-same-length-9
 same-length-9 c = search needs
 
+same-length-10 : tie.Need-same-length-10
+same-length-10 c = search needs
+
 returns-2 : tie.Need-returns-2
 unfolding imageRunRefusal
-returns-2 c = sound-accepted _ _ _ _ _ (c .before .before .before .before .before .before .before .before .before .before .before .before .before .before .before .before .before .before .before .before .before .before .before .before .before .before .before .before .before .before .before .before .before .before .before .before .before .before .before .before .before .pre) (none-numbered _ (sym (c .before .before .before .before .before .before .before .before .before .before .before .before .before .before .before .before .before .before .before .before .before .before .before .before .before .before .before .before .before .lengths-number .ensures) ∙ c .before .before .before .before .before .before .before .before .before .before .before .before .before .before .before .before .before .before .before .before .before .before .before .before .before .before .before .before .if1 .left)) (c .before .before .before .before .before .before .before .before .before .before .before .before .before .before .before .before .before .before .run-accepted .ensures)
+returns-2 c = sound-accepted _ _ _ _ _ (c .before .before .before .before .before .before .before .before .before .before .before .before .before .before .before .before .before .before .before .before .before .before .before .before .before .before .before .before .before .before .before .before .before .before .before .before .before .before .before .before .before .before .before .before .before .pre) (none-numbered _ (sym (c .before .before .before .before .before .before .before .before .before .before .before .before .before .before .before .before .before .before .before .before .before .before .before .before .before .before .before .before .before .before .before .before .lengths-number .ensures) ∙ c .before .before .before .before .before .before .before .before .before .before .before .before .before .before .before .before .before .before .before .before .before .before .before .before .before .before .before .before .before .before .before .if1 .left)) (c .before .before .before .before .before .before .before .before .before .before .before .before .before .before .before .before .before .before .before .before .run-accepted .ensures)
 
 pub run-sound-spec : {M : Type 1} → statement M
 run-sound-spec =
@@ -66,4 +69,5 @@ run-sound-spec =
     same-length-7
     same-length-8
     same-length-9
+    same-length-10
     returns-2)

@@ -24,10 +24,13 @@ unfolding sizesOf imageOf stateOf memoryOf endPlace dataPlace programPlace regis
 grown bytes i s d e k =
     let f = found-image bytes i d in
     let g = found-image (encode s) (imageOf s) (written-then-read s e) in
+    let c : length (cellsOf (s .constants .tags) (s .constants .words)) ≡ length (i .constants) =
+    cells-length (s .constants .tags) (s .constants .words) (k .constantTags ∙ length-map (i .constants) tagOf ∙ sym (k .constantWords ∙ length-map (i .constants) wordOf))
+    ∙ k .constantWords ∙ length-map (i .constants) wordOf in
     let r : length (cellsOf (s .registers .tags) (s .registers .words)) ≡ length (i .registers) =
     cells-length (s .registers .tags) (s .registers .words) (k .registerTags ∙ length-map (i .registers) tagOf ∙ sym (k .registerWords ∙ length-map (i .registers) wordOf))
     ∙ k .registerWords ∙ length-map (i .registers) wordOf in
     let w : length (cellsOf (s .dataWords .tags) (s .dataWords .words)) ≡ length (i .dataWords) =
     cells-length (s .dataWords .tags) (s .dataWords .words) (k .dataTags ∙ length-map (i .dataWords) tagOf ∙ sym (k .dataWords ∙ length-map (i .dataWords) wordOf))
     ∙ k .dataWords ∙ length-map (i .dataWords) wordOf in
-    omega (arith, f .ends, g .ends, found-few (sizesOf (stateOf (imageOf s))) (encode s) g .1, r, w, k .rows, k .constants, k .program, length-map (i .registers) wordOf, length-map (i .dataWords) wordOf, length-map (cellsOf (s .registers .tags) (s .registers .words)) wordOf, length-map (cellsOf (s .dataWords .tags) (s .dataWords .words)) wordOf)
+    omega (arith, f .ends, g .ends, found-few (sizesOf (stateOf (imageOf s))) (encode s) g .1, c, r, w, k .rows, k .program, length-map (i .constants) wordOf, length-map (i .registers) wordOf, length-map (i .dataWords) wordOf, length-map (cellsOf (s .constants .tags) (s .constants .words)) wordOf, length-map (cellsOf (s .registers .tags) (s .registers .words)) wordOf, length-map (cellsOf (s .dataWords .tags) (s .dataWords .words)) wordOf)

@@ -9,7 +9,7 @@ use lib.ListN.{length, getD, take, drop, set, length-append, length-take, length
 use lib.Seq.{length-take-le, take-suc, drop-cons, set-at, append-snoc, take-all}
 use borrow.Author.Tests.{lt-ltb, le-ltb}
 use Rattle.refusal.specs.declared.Refusal.{Refusal}
-use Rattle.refusal.specs.declared.Refusal.the-variants.{InputEnds, CountOverLimit, TaskField, ProcessField, CellField, BytesLeftOver, WindowPastMemory, ProcessesClash, ShortBuffer, UnsoundState, ListTooLong, ItemOutOfRange, InputTooLong}
+use Rattle.refusal.specs.declared.Refusal.the-variants.{InputEnds, CountOverLimit, TaskField, ProcessField, ConstantField, CellField, BytesLeftOver, WindowPastMemory, ProcessesClash, ShortBuffer, UnsoundState, ListTooLong, ItemOutOfRange, InputTooLong}
 use Rattle.refusal.specs.Numbers.{numberOf}
 use Rattle.run.specs.Run.{Ran}
 use Rattle.image.specs.Image.{Image, Decoded, bad, good, stateOf}
@@ -62,6 +62,7 @@ above-0 InputEnds h = omega arith
 above-0 CountOverLimit h = omega arith
 above-0 TaskField h = omega arith
 above-0 ProcessField h = omega arith
+above-0 ConstantField h = omega arith
 above-0 CellField h = omega arith
 above-0 BytesLeftOver h = omega arith
 above-0 WindowPastMemory h = omega arith

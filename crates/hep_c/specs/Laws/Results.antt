@@ -38,18 +38,18 @@ copied-over text report h = rw (le-ltb (length report) (length text) h)
 
 module _ (image schedule : List ℕ) (i : Image) (n : Sizes) (bytes : Bytes image) (d : decode image ≡ good i) (sizes : sizesOf (stateOf i) ≡ n)
     (rows : List Row) (t₀ : ProcessTable) (seven : length rows ≡ 7)
-    (constants tags words program dataTags dataWords output counts report : List ℕ)
-    (fine : imageRunRefusal image schedule n (slices constants tags words program dataTags dataWords output counts report) ≡ none) where
+    (constantTags constantWords tags words program dataTags dataWords output counts report : List ℕ)
+    (fine : imageRunRefusal image schedule n (slices constantTags constantWords tags words program dataTags dataWords output counts report) ≡ none) where
   abbrev lent : Slices
-  lent = slices constants tags words program dataTags dataWords output counts report
+  lent = slices constantTags constantWords tags words program dataTags dataWords output counts report
 
   abbrev ran : Ran
   ran = run schedule (stateOf i)
 
   abbrev buffers₀ : Buffers
-  buffers₀ = lentBuffers rows t₀ constants tags words program dataTags dataWords
+  buffers₀ = lentBuffers rows t₀ constantTags constantWords tags words program dataTags dataWords
 
-  taken : Accepted schedule n (roomFrom tasks (length constants) (length tags) (length words) (length program) (length dataTags) (length dataWords)) (length image) (length output) (length counts) (length report)
+  taken : Accepted schedule n (roomFrom tasks (length constantTags) (length constantWords) (length tags) (length words) (length program) (length dataTags) (length dataWords)) (length image) (length output) (length counts) (length report)
   unfolding imageRunRefusal
   taken = accepted schedule n _ (length image) (length output) (length counts) (length report) fine
 
@@ -62,14 +62,14 @@ module _ (image schedule : List ℕ) (i : Image) (n : Sizes) (bytes : Bytes imag
   answered = rw (d, sizes, fine)
 
   -- after the reading, and after the run
-  module _ (rows₁ rows₂ : List Row) (t₁ t₂ : ProcessTable) (constants₁ tags₁ words₁ program₁ dataTags₁ dataWords₁ tags₂ words₂ dataTags₂ dataWords₂ : List ℕ)
-      (x : ReadAnswer) (reads : ReadPromise buffers₀ image x (lentBuffers rows₁ t₁ constants₁ tags₁ words₁ program₁ dataTags₁ dataWords₁))
-      (y : RunAnswer) (runs : RunPromise n (lentBuffers rows₁ t₁ constants₁ tags₁ words₁ program₁ dataTags₁ dataWords₁) schedule y (lentBuffers rows₂ t₂ constants₁ tags₂ words₂ program₁ dataTags₂ dataWords₂)) where
+  module _ (rows₁ rows₂ : List Row) (t₁ t₂ : ProcessTable) (constantTags₁ constantWords₁ tags₁ words₁ program₁ dataTags₁ dataWords₁ tags₂ words₂ dataTags₂ dataWords₂ : List ℕ)
+      (x : ReadAnswer) (reads : ReadPromise buffers₀ image x (lentBuffers rows₁ t₁ constantTags₁ constantWords₁ tags₁ words₁ program₁ dataTags₁ dataWords₁))
+      (y : RunAnswer) (runs : RunPromise n (lentBuffers rows₁ t₁ constantTags₁ constantWords₁ tags₁ words₁ program₁ dataTags₁ dataWords₁) schedule y (lentBuffers rows₂ t₂ constantTags₁ constantWords₁ tags₂ words₂ program₁ dataTags₂ dataWords₂)) where
     abbrev buffers₁ : Buffers
-    buffers₁ = lentBuffers rows₁ t₁ constants₁ tags₁ words₁ program₁ dataTags₁ dataWords₁
+    buffers₁ = lentBuffers rows₁ t₁ constantTags₁ constantWords₁ tags₁ words₁ program₁ dataTags₁ dataWords₁
 
     abbrev buffers₂ : Buffers
-    buffers₂ = lentBuffers rows₂ t₂ constants₁ tags₂ words₂ program₁ dataTags₂ dataWords₂
+    buffers₂ = lentBuffers rows₂ t₂ constantTags₁ constantWords₁ tags₂ words₂ program₁ dataTags₂ dataWords₂
 
     held : buffers₂ ≡ holding (ran .state) buffers₀
     held = held₂ image schedule i n bytes d sizes buffers₀ buffers₁ buffers₂ fit₀ (taken .schedule-taken) x reads y runs
@@ -113,12 +113,13 @@ module _ (image schedule : List ℕ) (i : Image) (n : Sizes) (bytes : Bytes imag
       counts-left = put ∙ rw (c-is, counts-are, written-length, m-is, shown-is)
 
       -- every lent slice
-      pub all-left : slices constants₁ tags₂ words₂ program₁ dataTags₂ dataWords₂ output₂ counts₂ report₂ ≡ imageRunLeft (imageRunAnswer image schedule lent (decode image)) lent
+      pub all-left : slices constantTags₁ constantWords₁ tags₂ words₂ program₁ dataTags₂ dataWords₂ output₂ counts₂ report₂ ≡ imageRunLeft (imageRunAnswer image schedule lent (decode image)) lent
       unfolding imageRunLeft holding
       all-left =
           rw (
             answered,
-            ap (λ (b : Buffers). b .constants) held,
+            ap (λ (b : Buffers). b .constantTags) held,
+            ap (λ (b : Buffers). b .constantWords) held,
             ap (λ (b : Buffers). b .registerTags) held,
             ap (λ (b : Buffers). b .registerWords) held,
             ap (λ (b : Buffers). b .program) held,

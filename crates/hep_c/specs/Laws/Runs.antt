@@ -47,7 +47,8 @@ unfolding holding
 held-twice n s t b z y =
     rw (
       over-twice (n .rows) (t .rows) (s .rows) (b .rows) (y .rows) (z .rows),
-      over-twice (n .constants) (t .constants) (s .constants) (b .constants) (y .constants) (z .constants),
+      over-twice (n .constants) (t .constants .tags) (s .constants .tags) (b .constantTags) (y .constantTags) (z .constantTags),
+      over-twice (n .constants) (t .constants .words) (s .constants .words) (b .constantWords) (y .constantWords) (z .constantWords),
       over-twice (n .registers) (t .registers .tags) (s .registers .tags) (b .registerTags) (y .registerTags) (z .registerTags),
       over-twice (n .registers) (t .registers .words) (s .registers .words) (b .registerWords) (y .registerWords) (z .registerWords),
       over-twice (n .program) (t .program) (s .program) (b .program) (y .program) (z .program),

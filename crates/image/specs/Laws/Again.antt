@@ -122,4 +122,4 @@ processes-again i a =
 
 pub fields-again : (i : Image) → Accepted i → imageOf (stateOf i) ≡ i
 unfolding imageOf stateOf memoryOf
-fields-again i a = rw (cells-again (i .registers), cells-again (i .dataWords), processes-again i a)
+fields-again i a = rw (cells-again (i .constants), cells-again (i .registers), cells-again (i .dataWords), processes-again i a)

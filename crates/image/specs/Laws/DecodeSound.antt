@@ -34,6 +34,7 @@ state-shape i few = record {
   wide = length-pswTable (i .processes);
   seven = length-queuesOf 7 1 (i .processes);
   full = queues-full 7 1 (i .processes) few;
+  constants = pairs (i .constants);
   registers = pairs (i .registers);
   dataWords = pairs (i .dataWords);
 }

@@ -15,7 +15,7 @@ use Rattle.step.specs.declared.Queue.{Queue}
 use Rattle.step.specs.Queues.{listOf, livePts}
 use Rattle.step.specs.State.{State, pswsOf}
 use Rattle.step.specs.Soundness.{every, distinct, hasRow, queueShaped, queuesSound, ptSound, totalSound, memorySound, windowsSound, sound}
-use Rattle.window.specs.Sound.{tagSound, stateSound}
+use Rattle.window.specs.Sound.{qualitySound, tagSound, stateSound}
 use Rattle.word.specs.Fields.{pswSound}
 use Rattle.step.specs.Laws.Occurrences.{length-once}
 use Rattle.step.specs.Laws.Queues.{length-list}
@@ -117,6 +117,7 @@ pub record Shape (s : State) : Type 0 where
   pub wide : length (s .table .psw) ≡ 64
   pub seven : length (s .table .queues) ≡ 7
   pub full : placesFull (s .table .queues) ≡ true
+  pub constants : length (s .constants .tags) ≡ length (s .constants .words)
   pub registers : length (s .registers .tags) ≡ length (s .registers .words)
   pub dataWords : length (s .dataWords .tags) ≡ length (s .dataWords .words)
 
@@ -143,6 +144,7 @@ shape-of s e =
       wide = p .table .wide;
       seven = p .table .seven;
       full = queues-parts s e .0;
+      constants = paired-of 4096 qualitySound (s .constants) (p .memories .constants);
       registers = paired-of 2048 tagSound (s .registers) (p .memories .registers);
       dataWords = paired-of _ stateSound (s .dataWords) (p .memories .dataWords);
     }
@@ -156,6 +158,10 @@ windows-same s h =
     ap₂ (λ (m n : ℕ). windowsSound m (length (s .program)) n (s .rows))
     (length-cells (s .registers .tags) (s .registers .words) (h .registers))
     (length-cells (s .dataWords .tags) (s .dataWords .words) (h .dataWords))
+
+constants-same : (s : State) → Shape s → memoryOf (imageOf s .constants) ≡ s .constants
+unfolding imageOf
+constants-same s h = memory-again (s .constants .tags) (s .constants .words) (h .constants)
 
 registers-same : (s : State) → Shape s → memoryOf (imageOf s .registers) ≡ s .registers
 unfolding imageOf
@@ -183,7 +189,7 @@ sound-accepted s e =
           tasks = queues-parts s e .1;
           psws = ap (every pswSound) (psws-from psw 1 qs) ∙ p .table .psws;
         };
-        constants = p .memories .constants;
+        constants = ap (memorySound 4096 qualitySound) (constants-same s h) ∙ p .memories .constants;
         registers = ap (memorySound 2048 tagSound) (registers-same s h) ∙ p .memories .registers;
         program = p .memories .program;
         dataWords = ap (memorySound _ stateSound) (dataWords-same s h) ∙ p .memories .dataWords;
@@ -215,7 +221,7 @@ accepted-sound s h a =
         room = ap (λ (n : ℕ). totalSound n (s .table .flag)) (sym (length-from psw 1 qs)) ∙ a .after .room;
       };
       memories = record {
-        constants = i .constants;
+        constants = ap (memorySound 4096 qualitySound) (sym (constants-same s h)) ∙ i .constants;
         registers = ap (memorySound 2048 tagSound) (sym (registers-same s h)) ∙ i .registers;
         program = i .program;
         dataWords = ap (memorySound _ stateSound) (sym (dataWords-same s h)) ∙ i .dataWords;

@@ -5,8 +5,9 @@ use mathlib.Core.Bool.{Bool, true}
 use mathlib.Core.List.{List}
 use Rattle.word.specs.Fields.{pswSound}
 use Rattle.window.specs.declared.Row.{Row}
-use Rattle.window.specs.Sound.{bits, tagSound, stateSound}
+use Rattle.window.specs.Sound.{bits, qualitySound, tagSound, stateSound}
 use Rattle.step.specs.Soundness.{taskSound, kindSound, recordSound, ptSound, flagSound}
+use Rattle.refusal.specs.declared.Refusal.{Refusal}
 use Rattle.image.specs.Laws.Codec.{Lawful, num-lawful, seq-lawful, via-lawful, section-lawful, listSection-lawful, uniform-lawful}
 use Rattle.image.specs.Image.{rowCodec, toRow, fromRow, rowTask, tasksCodec, processCodec, toProcess, fromProcess, processTask, processesCodec}
 use Rattle.image.specs.Image.{wordCodec, wordsCodec, cellCodec, toCell, fromCell, cellsCodec, imageCodec, toImage, fromImage}
@@ -38,17 +39,17 @@ word-lawful : Lawful wordCodec
 unfolding wordCodec
 word-lawful = num-lawful 8 _ (λ _. true)
 
-cell-lawful : (good : ℕ → Bool) → Lawful (cellCodec good)
+cell-lawful : (e : Refusal) (good : ℕ → Bool) → Lawful (cellCodec e good)
 unfolding cellCodec
-cell-lawful good = via-lawful toCell fromCell (λ x. refl) (λ x. refl) (seq-lawful (num-lawful 1 _ good) (λ _. word-lawful))
+cell-lawful e good = via-lawful toCell fromCell (λ x. refl) (λ x. refl) (seq-lawful (num-lawful 1 _ good) (λ _. word-lawful))
 
 words-lawful : (w most : ℕ) → Lawful (wordsCodec w most)
 unfolding wordsCodec
 words-lawful w most = uniform-lawful word-lawful w most
 
-cells-lawful : (good : ℕ → Bool) (w most : ℕ) → Lawful (cellsCodec good w most)
+cells-lawful : (e : Refusal) (good : ℕ → Bool) (w most : ℕ) → Lawful (cellsCodec e good w most)
 unfolding cellsCodec
-cells-lawful good w most = uniform-lawful (cell-lawful good) w most
+cells-lawful e good w most = uniform-lawful (cell-lawful e good) w most
 
 tasks-lawful : Lawful tasksCodec
 unfolding tasksCodec
@@ -64,7 +65,7 @@ image-lawful =
     via-lawful toImage fromImage (λ x. refl) (λ x. refl)
     (seq-lawful tasks-lawful
     (λ rows. seq-lawful (processes-lawful rows)
-    (λ _. seq-lawful (words-lawful 2 4096)
-    (λ _. seq-lawful (cells-lawful tagSound 2 2048)
+    (λ _. seq-lawful (cells-lawful _ qualitySound 2 4096)
+    (λ _. seq-lawful (cells-lawful _ tagSound 2 2048)
     (λ _. seq-lawful (words-lawful 4 (2 ^ 20))
-    (λ _. cells-lawful stateSound 4 (2 ^ 20)))))))
+    (λ _. cells-lawful _ stateSound 4 (2 ^ 20)))))))

@@ -10,7 +10,7 @@ use borrow.Author.Tests.{eqb-true, eq-eqb, leb-true, le-leb, ltb-true, lt-ltb}
 use Rattle.word.specs.Fields.{pswSound}
 use Rattle.window.specs.declared.Row.{Row}
 use Rattle.window.specs.declared.Cell.{Cell}
-use Rattle.window.specs.Sound.{bits, wordSound, tagSound, stateSound}
+use Rattle.window.specs.Sound.{bits, wordSound, qualitySound, tagSound, stateSound}
 use Rattle.window.specs.Memories.{tagOf, wordOf}
 use Rattle.word.specs.Laws.Bools.{Eq?, same, differ, eq?, and-left, and-right}
 use Rattle.word.specs.Laws.Conjunctions.{also, both, and-assoc}
@@ -21,7 +21,7 @@ use Rattle.step.specs.Soundness.{memorySound}
 use Rattle.step.specs.Laws.Sound.{hasRow-range}
 use Rattle.step.specs.Laws.Every.{every-parts}
 use Rattle.refusal.specs.declared.Refusal.{Refusal}
-use Rattle.refusal.specs.declared.Refusal.the-variants.{CountOverLimit}
+use Rattle.refusal.specs.declared.Refusal.the-variants.{CountOverLimit, ConstantField, CellField}
 use Rattle.image.specs.declared.Process.{Process}
 use Rattle.image.specs.Codec.{Codec, num, count, seq, via, okMany, section, noHeader, listSection, noState, uniformSection}
 use Rattle.image.specs.Image.{Image, rowCodec, rowTask, tasksCodec, processCodec, processTask, processesCodec, wordCodec}
@@ -67,6 +67,10 @@ record-fits kind v g = go (eqb kind noTrap) g
     go true g = omega (arith, eqb-true v 0 g)
     go false g = psw-fits v g
 
+quality-fits : (q : ℕ) → qualitySound q ≡ true → q < 256 ^ 1
+unfolding qualitySound
+quality-fits q g = omega (arith, leb-true q 6 g)
+
 tag-fits : (t : ℕ) → tagSound t ≡ true → t < 256 ^ 1
 unfolding tagSound
 tag-fits t g = go (leb t 6) (leb t 14) refl refl g
@@ -100,8 +104,8 @@ word-ok : (v : ℕ) → wordCodec .ok v ≡ wordSound v
 unfolding wordCodec num wordSound bits
 word-ok v = and-true (ltb v (2 ^ 64))
 
-module _ (tag : ℕ → Bool) (fits : (t : ℕ) → tag t ≡ true → t < 256 ^ 1) where
-  cell-ok : (c : Cell) → cellCodec tag .ok c ≡ tag (c .tag) && wordSound (c .word)
+module _ (e : Refusal) (tag : ℕ → Bool) (fits : (t : ℕ) → tag t ≡ true → t < 256 ^ 1) where
+  cell-ok : (c : Cell) → cellCodec e tag .ok c ≡ tag (c .tag) && wordSound (c .word)
   unfolding cellCodec via seq
   cell-ok c = ap₂ _&&_ (num-ok 1 _ tag fits (c .tag)) (word-ok (c .word))
 
@@ -166,17 +170,17 @@ words-ok : (w most : ℕ) → most < 256 ^ w → (l : List ℕ) → wordsCodec w
 unfolding wordsCodec uniformSection wordsSound
 words-ok w most lt l = listSection-ok (λ _. wordCodec) noState w most lt tt l ∙ ap (λ (b : Bool). leb (length l) most && b) (many-words l)
 
-module _ (tag : ℕ → Bool) (fits : (t : ℕ) → tag t ≡ true → t < 256 ^ 1) where
-  many-cells : (l : List Cell) → okMany (λ _. cellCodec tag) noState tt l ≡ every tag (map tagOf l) && every wordSound (map wordOf l)
+module _ (e : Refusal) (tag : ℕ → Bool) (fits : (t : ℕ) → tag t ≡ true → t < 256 ^ 1) where
+  many-cells : (l : List Cell) → okMany (λ _. cellCodec e tag) noState tt l ≡ every tag (map tagOf l) && every wordSound (map wordOf l)
   unfolding okMany every
   many-cells [] = refl
-  many-cells (c ∷ l) = ap₂ _&&_ (cell-ok tag fits c) (many-cells l) ∙ and-cross (tag (c .tag)) (wordSound (c .word)) (every tag (map tagOf l)) (every wordSound (map wordOf l))
+  many-cells (c ∷ l) = ap₂ _&&_ (cell-ok e tag fits c) (many-cells l) ∙ and-cross (tag (c .tag)) (wordSound (c .word)) (every tag (map tagOf l)) (every wordSound (map wordOf l))
 
-  cells-ok : (w most : ℕ) → most < 256 ^ w → (l : List Cell) → cellsCodec tag w most .ok l ≡ memorySound most tag (memoryOf l)
+  cells-ok : (w most : ℕ) → most < 256 ^ w → (l : List Cell) → cellsCodec e tag w most .ok l ≡ memorySound most tag (memoryOf l)
   unfolding cellsCodec uniformSection memorySound wordsSound memoryOf
   cells-ok w most lt l =
       rw (eq-eqb (length (map tagOf l)) (length (map wordOf l)) (length-map l tagOf ∙ sym (length-map l wordOf)), length-map l wordOf)
-      (listSection-ok (λ _. cellCodec tag) noState w most lt tt l
+      (listSection-ok (λ _. cellCodec e tag) noState w most lt tt l
       ∙ ap (λ (b : Bool). leb (length l) most && b) (many-cells l)
       ∙ and-turn (leb (length l) most) (every tag (map tagOf l)) (every wordSound (map wordOf l)))
 
@@ -235,22 +239,22 @@ module _ (rows : List Row) (ordered : rowsSound 0 rows ≡ true) where
 pub record PassedImage (i : Image) : Type 0 where
   pub rows : rowsSound 0 (i .rows) ≡ true
   pub processes : PassedAll (i .rows) (i .flag) (i .processes)
-  pub constants : wordsSound 4096 (i .constants) ≡ true
+  pub constants : memorySound 4096 qualitySound (memoryOf (i .constants)) ≡ true
   pub registers : memorySound 2048 tagSound (memoryOf (i .registers)) ≡ true
   pub program : wordsSound (2 ^ 20) (i .program) ≡ true
   pub dataWords : memorySound (2 ^ 20) stateSound (memoryOf (i .dataWords)) ≡ true
 
-constants-ok : (l : List ℕ) → wordsCodec 2 4096 .ok l ≡ wordsSound 4096 l
-constants-ok = words-ok 2 4096 (omega arith)
+constants-ok : (l : List Cell) → cellsCodec ConstantField qualitySound 2 4096 .ok l ≡ memorySound 4096 qualitySound (memoryOf l)
+constants-ok = cells-ok ConstantField qualitySound quality-fits 2 4096 (omega arith)
 
-registers-ok : (l : List Cell) → cellsCodec tagSound 2 2048 .ok l ≡ memorySound 2048 tagSound (memoryOf l)
-registers-ok = cells-ok tagSound tag-fits 2 2048 (omega arith)
+registers-ok : (l : List Cell) → cellsCodec CellField tagSound 2 2048 .ok l ≡ memorySound 2048 tagSound (memoryOf l)
+registers-ok = cells-ok CellField tagSound tag-fits 2 2048 (omega arith)
 
 program-ok : (l : List ℕ) → wordsCodec 4 (2 ^ 20) .ok l ≡ wordsSound (2 ^ 20) l
 program-ok = words-ok 4 (2 ^ 20) (omega arith)
 
-dataWords-ok : (l : List Cell) → cellsCodec stateSound 4 (2 ^ 20) .ok l ≡ memorySound (2 ^ 20) stateSound (memoryOf l)
-dataWords-ok = cells-ok stateSound state-fits 4 (2 ^ 20) (omega arith)
+dataWords-ok : (l : List Cell) → cellsCodec CellField stateSound 4 (2 ^ 20) .ok l ≡ memorySound (2 ^ 20) stateSound (memoryOf l)
+dataWords-ok = cells-ok CellField stateSound state-fits 4 (2 ^ 20) (omega arith)
 
 pub image-passes : (i : Image) → imageCodec .ok i ≡ true → PassedImage i
 unfolding imageCodec via seq

@@ -140,11 +140,11 @@ pub words-refuse : (w most : ℕ) → Refuses (Only InputEnds) (wordsCodec w mos
 unfolding wordsCodec wordCodec
 words-refuse w most = uniform-refuses w most (input-ends InputEnds) (count-over InputEnds) (any-refuses 8 CellField (input-ends InputEnds))
 
-pub cells-refuse : (allowed : ℕ → Bool) (w most : ℕ) → Refuses (Only CellField) (cellsCodec allowed w most)
+pub cells-refuse : (x : Refusal) (allowed : ℕ → Bool) (w most : ℕ) → Refuses (Only x) (cellsCodec x allowed w most)
 unfolding cellsCodec cellCodec wordCodec
-cells-refuse allowed w most =
-    uniform-refuses w most (input-ends CellField) (count-over CellField)
-    (via-refuses toCell fromCell (seq-refuses (fielded CellField 1 allowed) λ _. any-refuses 8 CellField (input-ends CellField)))
+cells-refuse x allowed w most =
+    uniform-refuses w most (input-ends x) (count-over x)
+    (via-refuses toCell fromCell (seq-refuses (fielded x 1 allowed) λ _. any-refuses 8 _ (input-ends x)))
 
 -- ---- their numbers
 

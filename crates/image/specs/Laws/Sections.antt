@@ -6,11 +6,11 @@ use mathlib.Core.List.{List, [], _∷_, map}
 use mathlib.Core.Logic.{_⊎_, inl, inr, ⊎-elim, _↔_}
 use native.Mathlib.Omega.{arith}
 use lib.ListN.{length}
-use Rattle.window.specs.Sound.{tagSound, stateSound}
+use Rattle.window.specs.Sound.{qualitySound, tagSound, stateSound}
 use Rattle.window.specs.Limits.{mostConstants, mostRegisters, mostProgram, mostData}
 use Rattle.step.specs.Soundness.{distinct, totalSound, windowsSound}
 use Rattle.refusal.specs.declared.Refusal.{Refusal}
-use Rattle.refusal.specs.declared.Refusal.the-variants.{InputEnds, TaskField, ProcessField, CellField, BytesLeftOver, WindowPastMemory, ProcessesClash}
+use Rattle.refusal.specs.declared.Refusal.the-variants.{InputEnds, TaskField, ProcessField, ConstantField, CellField, BytesLeftOver, WindowPastMemory, ProcessesClash}
 use Rattle.refusal.specs.Numbers.{numberOf}
 use Rattle.image.specs.Codec.{Codec, Result, refused, accepted, bind, seq, via}
 use Rattle.image.specs.Image.{Image, bad, good, ptOf, afterSections, decode, cellsCodec, imageCodec}
@@ -26,11 +26,11 @@ Stops (refused e) behind = ⊥
 Stops (accepted a r) (inside s x) = ⊥
 Stops (accepted a r) behind = Unit {0}
 
--- what a field of a section is refused with; words never are
+-- what a field of a section is refused with; the words of the program never are
 fieldOf : Section → Refusal
 fieldOf Tasks = TaskField
 fieldOf Processes = ProcessField
-fieldOf Constants = InputEnds
+fieldOf Constants = ConstantField
 fieldOf Registers = CellField
 fieldOf Program = InputEnds
 fieldOf DataWords = CellField
@@ -78,7 +78,7 @@ image-stops b =
     seq-stops Constants _ _ _ (λ constants r₃.
     seq-stops Registers _ _ _ (λ registers r₄.
     seq-stops Program _ _ _ (λ program r₅.
-    last-stops DataWords (cellsCodec stateSound 4 mostData .dec r₅)) r₄) r₃) r₂) r₁) b)
+    last-stops DataWords (cellsCodec CellField stateSound 4 mostData .dec r₅)) r₄) r₃) r₂) r₁) b)
 
 reads-owned : {A : Type 0} (s : Section) (m : Result A) (next : A → List ℕ → Stop) → ((e : Refusal) → m ≡ refused e → Own s e) → ((a : A) (r : List ℕ) → Owned (next a r))
     → Owned (reads s m next)
@@ -91,10 +91,10 @@ unfolding fieldOf Own Owned stopOf
 stop-owned b =
     reads-owned Tasks _ _ (tasks-refuse .such b) λ rows r₁.
     reads-owned Processes _ _ (processes-refuse rows .such r₁) λ processes r₂.
-    reads-owned Constants _ _ (words-refuse 2 mostConstants .such r₂) λ constants r₃.
-    reads-owned Registers _ _ (cells-refuse tagSound 2 mostRegisters .such r₃) λ registers r₄.
+    reads-owned Constants _ _ (cells-refuse ConstantField qualitySound 2 mostConstants .such r₂) λ constants r₃.
+    reads-owned Registers _ _ (cells-refuse CellField tagSound 2 mostRegisters .such r₃) λ registers r₄.
     reads-owned Program _ _ (words-refuse 4 mostProgram .such r₄) λ program r₅.
-    reads-owned DataWords _ _ (cells-refuse stateSound 4 mostData .such r₅) λ dataWords r₆. tt
+    reads-owned DataWords _ _ (cells-refuse CellField stateSound 4 mostData .such r₅) λ dataWords r₆. tt
 
 -- ---- from the number to the section, and back
 
@@ -157,6 +157,15 @@ in-processes Registers h = absurd (omega arith)
 in-processes Program h = absurd (omega arith)
 in-processes DataWords h = absurd (omega arith)
 
+in-constants : (s : Section) → numberOf (fieldOf s) ≡ 14 → s ≡ Constants
+unfolding fieldOf numberOf
+in-constants Tasks h = absurd (omega arith)
+in-constants Processes h = absurd (omega arith)
+in-constants Constants h = refl
+in-constants Registers h = absurd (omega arith)
+in-constants Program h = absurd (omega arith)
+in-constants DataWords h = absurd (omega arith)
+
 in-cells : (s : Section) → numberOf (fieldOf s) ≡ 13 → (s ≡ Registers) ⊎ (s ≡ DataWords)
 unfolding fieldOf numberOf
 in-cells Tasks h = absurd (omega arith)
@@ -195,6 +204,13 @@ module _ (b : List ℕ) (e : Refusal) (d : decode b ≡ bad e) where
   twelve = (
     λ h. field-stop (inr (omega (arith, h))) λ s i j. i ∙ ap (λ (s : Section). inside s (fieldOf s)) (in-processes s (j ∙ h)),
     λ h. ap numberOf (stop-is Processes ProcessField h),
+  )
+
+  pub fourteen : (numberOf e ≡ 14) ↔ (stopOf b ≡ inside Constants ConstantField)
+  unfolding fieldOf numberOf
+  fourteen = (
+    λ h. field-stop (inr (omega (arith, h))) λ s i j. i ∙ ap (λ (s : Section). inside s (fieldOf s)) (in-constants s (j ∙ h)),
+    λ h. ap numberOf (stop-is Constants ConstantField h),
   )
 
   pub thirteen : (numberOf e ≡ 13) ↔ ((stopOf b ≡ inside Registers CellField) ⊎ (stopOf b ≡ inside DataWords CellField))

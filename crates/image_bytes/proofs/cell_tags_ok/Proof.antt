@@ -14,11 +14,11 @@ use Rattle.image_bytes.proofs.cell_tags_ok.Statement.{statement}
 use Rattle.image_bytes.proofs.cell_tags_ok.Tie as tie
 
 abbrev Inv-loop : tie.InvT-loop
-Inv-loop s at n register p₀ k₀ good₀ p k good = (9 * k ≤ (length s - p) + 8) × ((good && every (tagTest register) (tagsAt k p s)) ≡ every
-    (tagTest register) (tagsAt n at s))
+Inv-loop s at n kind p₀ k₀ good₀ p k good = (9 * k ≤ (length s - p) + 8) × ((good && every (tagTest kind) (tagsAt k p s)) ≡ every
+    (tagTest kind) (tagsAt n at s))
 
 abbrev μ-loop : tie.MeasureT-loop
-μ-loop s at n register p₀ k₀ good₀ p k good = k
+μ-loop s at n kind p₀ k₀ good₀ p k good = k
 
 loop-holds : tie.Need-loop-holds Inv-loop μ-loop
 loop-holds c = (search needs, refl)
@@ -44,7 +44,7 @@ loop-again c =
     let loop-test = c .before .before .loop-test in
     let args = c .before .before .before .before .before .args in (
       omega (arith, l .inv .0, loop-test .taken),
-      rw (c .still .ensures) (tags-step (tagTest (args .register)) (args .s .now) (l .p) (l .k) (l .good)
+      rw (c .still .ensures) (tags-step (tagTest (args .kind)) (args .s .now) (l .p) (l .k) (l .good)
           (loop-test .taken) ∙ l .inv .1),
     )
 

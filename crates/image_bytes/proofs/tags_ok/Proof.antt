@@ -12,7 +12,7 @@ use Rattle.image_bytes.proofs.tags_ok.Statement.{statement}
 use Rattle.image_bytes.proofs.tags_ok.Tie as tie
 
 abbrev Inv-loop : tie.InvT-loop
-Inv-loop register tags n good₀ i₀ good i = (good && every (tagTest register) (drop i tags)) ≡ every (tagTest register) tags
+Inv-loop kind tags n good₀ i₀ good i = (good && every (tagTest kind) (drop i tags)) ≡ every (tagTest kind) tags
 
 abbrev μ-loop : tie.MeasureT-loop
 μ-loop register tags n good₀ i₀ good i = n - i
@@ -37,7 +37,7 @@ loop-again c =
     let l = c .before .before .before .loop in
     let args = c .before .before .before .before .before .args in
     let loop-test = c .before .before .loop-test in
-    rw (c .still .ensures) (every-step (tagTest (args .register)) (args .tags .now) (l .i) (l .good) (loop-test .taken) ∙ l .inv)
+    rw (c .still .ensures) (every-step (tagTest (args .kind)) (args .tags .now) (l .i) (l .good) (loop-test .taken) ∙ l .inv)
 
 returns : tie.Need-returns Inv-loop μ-loop
 returns c = sym (every-end _ _ _ _ (c .loop-test .left)) ∙ c .before .loop .inv

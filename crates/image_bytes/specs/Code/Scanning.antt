@@ -1,10 +1,14 @@
 -- A check under way: what reading a format at a place tells of it.
 use Prim.Native.Nat.{ℕ, _+_, _-_, _≤_}
-use mathlib.Core.Bool.{Bool, true, false}
+use mathlib.Core.Bool.{Bool}
 use mathlib.Core.List.{List}
 use lib.ListN.{length, drop}
-use Rattle.window.specs.Sound.{tagSound, stateSound}
+use Rattle.window.specs.Sound.{qualitySound, tagSound, stateSound}
+use Rattle.refusal.specs.declared.Refusal.{Refusal}
+use Rattle.refusal.specs.declared.Refusal.the-variants.{ConstantField, CellField}
 use Rattle.image.specs.Codec.{Result, refused, accepted}
+use Rattle.image_bytes.specs.declared.CellKind.{CellKind}
+use Rattle.image_bytes.specs.declared.CellKind.the-variants.{Constant, Register, Data}
 use Rattle.image_bytes.specs.declared.Scan.{Scan}
 use Rattle.image_bytes.specs.declared.Scan.the-variants.{Refused, At}
 use Rattle.image_bytes.specs.Code.Reading.{numberAt}
@@ -29,7 +33,14 @@ unfoldable pub valueAt : (k w : ℕ) → (s : List ℕ) → Scan → ℕ
 valueAt k w s (Refused e) = 0
 valueAt k w s (At p) = numberAt w (p + k) s
 
--- the tag of a register, or the state of a data word
-unfoldable pub tagTest : (register : Bool) → ℕ → Bool
-tagTest true = tagSound
-tagTest false = stateSound
+-- the quality of a constant, the tag of a register, the state of a data word
+unfoldable pub tagTest : CellKind → ℕ → Bool
+tagTest Constant = qualitySound
+tagTest Register = tagSound
+tagTest Data = stateSound
+
+-- what they are refused by
+unfoldable pub tagRefusal : CellKind → Refusal
+tagRefusal Constant = ConstantField
+tagRefusal Register = CellField
+tagRefusal Data = CellField

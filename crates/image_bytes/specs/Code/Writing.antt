@@ -4,6 +4,7 @@ use mathlib.Core.Bool.{true, cond}
 use mathlib.Core.List.{List, _++_}
 use lib.ListN.{length, take, drop}
 use lib.Dec.{leb, eqb}
+use Rattle.refusal.specs.declared.Refusal.the-variants.{CellField}
 use Rattle.image.specs.Codec.{encMany, noState}
 use Rattle.image.specs.Image.{wordCodec, cellCodec, cellsOf}
 
@@ -21,7 +22,7 @@ wordBytes words = encMany (λ _. wordCodec) noState tt words
 
 -- the bytes of cells: they are written alike whatever their tags mean
 unfoldable pub cellBytes : (tags words : List ℕ) → List ℕ
-cellBytes tags words = encMany (λ _. cellCodec (λ _. true)) noState tt (cellsOf tags words)
+cellBytes tags words = encMany (λ _. cellCodec CellField (λ _. true)) noState tt (cellsOf tags words)
 
 -- the cells of tags and words of one length, put at a place
 unfoldable pub putCells : (at : ℕ) → (tags words l : List ℕ) → List ℕ

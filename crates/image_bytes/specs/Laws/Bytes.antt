@@ -1,5 +1,5 @@
 -- How many bytes values have, and that cells are written alike whatever their tags mean.
-use Prim.Native.Nat.{ℕ, zero, suc, _*_, _<_}
+use Prim.Native.Nat.{ℕ, zero, suc, _+_, _-_, _*_, _<_}
 use mathlib.Core.Path.{_≡_, refl, sym, ap, _∙_}
 use mathlib.Core.Bool.{Bool, true}
 use mathlib.Core.List.{List, [], _∷_, _++_}
@@ -8,8 +8,10 @@ use native.Mathlib.Omega.{arith}
 use lib.ListN.{length, getD, drop, length-append}
 use Rattle.window.specs.declared.Cell.{Cell}
 use Rattle.window.specs.Memories.{cell}
-use Rattle.image.specs.Codec.{Codec, num, seq, via, encMany, noState}
-use Rattle.image.specs.Image.{wordCodec, cellCodec, cellsOf}
+use Rattle.refusal.specs.declared.Refusal.{Refusal}
+use Rattle.refusal.specs.declared.Refusal.the-variants.{CellField}
+use Rattle.image.specs.Codec.{Codec, digits, num, count, seq, via, encMany, section, noHeader, listSection, noState, uniformSection}
+use Rattle.image.specs.Image.{wordCodec, wordsCodec, cellCodec, cellsCodec, cellsOf}
 use Rattle.image.specs.Laws.Numbers.{length-digits}
 use Rattle.image_bytes.specs.Code.Writing.{wordBytes, cellBytes}
 
@@ -17,9 +19,9 @@ pub word-length : (v : ℕ) → length (wordCodec .enc v) ≡ 8
 unfolding wordCodec num
 word-length v = length-digits 8 v
 
-pub cell-length : (f : ℕ → Bool) (c : Cell) → length (cellCodec f .enc c) ≡ 9
+pub cell-length : (e : Refusal) (f : ℕ → Bool) (c : Cell) → length (cellCodec e f .enc c) ≡ 9
 unfolding cellCodec via seq wordCodec num
-cell-length f c = rw (length-append, length-digits, length-digits)
+cell-length e f c = rw (length-append, length-digits, length-digits)
 
 -- values of one format, of `size` bytes each
 pub uniform-length : {A : Type 0} (c : Codec A) (size : ℕ) → ((a : A) → length (c .enc a) ≡ size) → (xs : List A)
@@ -50,14 +52,14 @@ word-bytes-length words = uniform-length wordCodec 8 word-length words
 pub cell-bytes-length : (tags words : List ℕ) → length tags ≡ length words → length (cellBytes tags words) ≡ 9 * length words
 unfolding cellBytes
 cell-bytes-length tags words e =
-    uniform-length (cellCodec (λ _. true)) 9 (cell-length (λ _. true)) (cellsOf tags words) ∙ ap (λ (n : ℕ). 9 * n) (cells-length tags words e)
+    uniform-length (cellCodec _ (λ _. true)) 9 (cell-length CellField (λ _. true)) (cellsOf tags words) ∙ ap (λ (n : ℕ). 9 * n) (cells-length tags words e)
 
 -- cells are written alike whatever their tags mean
-cells-alike : (f g : ℕ → Bool) (cs : List Cell) → encMany (λ _. cellCodec f) noState tt cs ≡ encMany (λ _. cellCodec g) noState tt cs
+cells-alike : (d e : Refusal) (f g : ℕ → Bool) (cs : List Cell) → encMany (λ _. cellCodec d f) noState tt cs ≡ encMany (λ _. cellCodec e g) noState tt cs
 unfolding encMany cellCodec via seq num
-cells-alike f g [] = refl
-cells-alike f g (c ∷ cs) = ap (λ (l : List ℕ). cellCodec f .enc c ++ l) (cells-alike f g cs)
+cells-alike d e f g [] = refl
+cells-alike d e f g (c ∷ cs) = ap (λ (l : List ℕ). cellCodec d f .enc c ++ l) (cells-alike d e f g cs)
 
-pub cell-bytes : (f : ℕ → Bool) (tags words : List ℕ) → encMany (λ _. cellCodec f) noState tt (cellsOf tags words) ≡ cellBytes tags words
+pub cell-bytes : (e : Refusal) (f : ℕ → Bool) (tags words : List ℕ) → encMany (λ _. cellCodec e f) noState tt (cellsOf tags words) ≡ cellBytes tags words
 unfolding cellBytes
-cell-bytes f tags words = cells-alike f (λ _. true) (cellsOf tags words)
+cell-bytes e f tags words = cells-alike e CellField f (λ _. true) (cellsOf tags words)

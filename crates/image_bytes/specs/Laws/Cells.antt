@@ -10,7 +10,8 @@ use lib.ListN.{length, drop, length-drop}
 use lib.Seq.{drop-drop}
 use borrow.Author.Tests.{le-ltb, lt-ltb}
 use Rattle.step.specs.Soundness.{every}
-use Rattle.refusal.specs.declared.Refusal.the-variants.{InputEnds, CellField}
+use Rattle.refusal.specs.declared.Refusal.{Refusal}
+use Rattle.refusal.specs.declared.Refusal.the-variants.{InputEnds}
 use Rattle.image.specs.Codec.{bind, field, num, seq, via, decMany, noState}
 use Rattle.image.specs.Image.{wordCodec, cellCodec, toCell, fromCell}
 use Rattle.image_bytes.specs.declared.Scan.{Scan}
@@ -22,11 +23,11 @@ use Rattle.image_bytes.specs.Laws.Scans.{scanned-map}
 
 pub word-spans : Spans wordCodec (field 8) (λ _. 8)
 unfolding wordCodec
-word-spans = num-spans 8 CellField _
+word-spans = num-spans 8 _ _
 
-pub cell-spans : (f : ℕ → Bool) → Spans (cellCodec f) (cellFrom 0) (λ _. 9)
+pub cell-spans : (e : Refusal) (f : ℕ → Bool) → Spans (cellCodec e f) (cellFrom 0) (λ _. 9)
 unfolding cellCodec
-cell-spans f = via-spans toCell fromCell (seq-spans (num-spans 1 CellField f) (λ _. word-spans))
+cell-spans e f = via-spans toCell fromCell (seq-spans (num-spans 1 e f) (λ _. word-spans))
 
 -- ---- words
 
@@ -56,11 +57,11 @@ module _ (s : List ℕ) where
       go (yes l) more = rw (lt-ltb (length (drop p s)) 8 (rw length-drop l))
       go (no l) more = word-there n p (omega arith) ∙ more (omega arith)
 
--- ---- cells whose tags are to pass f
+-- ---- cells whose tags are to pass f, and are refused by x
 
-module _ (f : ℕ → Bool) (s : List ℕ) where
+module _ (x : Refusal) (f : ℕ → Bool) (s : List ℕ) where
   abbrev cells : (n p : ℕ) → Scan
-  cells n p = scanned (length s) (decMany (λ _. cellCodec f) noState tt n (drop p s))
+  cells n p = scanned (length s) (decMany (λ _. cellCodec x f) noState tt n (drop p s))
 
   -- the tags of the first n
   abbrev tags : (n p : ℕ) → Bool
@@ -70,7 +71,7 @@ module _ (f : ℕ → Bool) (s : List ℕ) where
   unfolding decMany bind cellCodec via seq num scanned
   cell-none n p h = rw (lt-ltb (length (drop p s)) 1 (rw length-drop (omega arith)))
 
-  cell-bad : (n p : ℕ) → p < length s → f (fieldAt 1 p s) ≡ false → cells (suc n) p ≡ Refused CellField
+  cell-bad : (n p : ℕ) → p < length s → f (fieldAt 1 p s) ≡ false → cells (suc n) p ≡ Refused x
   unfolding decMany bind cellCodec via seq num scanned
   cell-bad n p h g = rw (le-ltb (length (drop p s)) 1 (rw length-drop (omega arith)), g)
 
@@ -91,30 +92,30 @@ module _ (f : ℕ → Bool) (s : List ℕ) where
         drop-drop 8 (p + 1) s,
         e,
       )
-      (scanned-map (length s) (decMany (λ _. cellCodec f) noState tt n (drop (p + 9) s)) (λ xs. cellFrom p s ∷ xs))
+      (scanned-map (length s) (decMany (λ _. cellCodec x f) noState tt n (drop (p + 9) s)) (λ xs. cellFrom p s ∷ xs))
 
   -- all n are there
-  whole : (n p : ℕ) → 9 * n ≤ length s - p → cells n p ≡ cond (tags n p) (At (length s - ((length s - p) - 9 * n))) (Refused CellField)
+  whole : (n p : ℕ) → 9 * n ≤ length s - p → cells n p ≡ cond (tags n p) (At (length s - ((length s - p) - 9 * n))) (Refused x)
   unfolding decMany scanned tagsAt listed every
   whole zero p h = rw (length-drop, sub-zero)
   whole (suc n) p h = go (f (fieldAt 1 p s)) refl (whole n (p + 9) (omega arith))
     where
-      go : (b : Bool) → f (fieldAt 1 p s) ≡ b → cells n (p + 9) ≡ cond (tags n (p + 9)) (At (length s - ((length s - (p + 9)) - 9 * n))) (Refused CellField)
-          → cells (suc n) p ≡ cond (tags (suc n) p) (At (length s - ((length s - p) - 9 * suc n))) (Refused CellField)
+      go : (b : Bool) → f (fieldAt 1 p s) ≡ b → cells n (p + 9) ≡ cond (tags n (p + 9)) (At (length s - ((length s - (p + 9)) - 9 * n))) (Refused x)
+          → cells (suc n) p ≡ cond (tags (suc n) p) (At (length s - ((length s - p) - 9 * suc n))) (Refused x)
       go true g i =
           let e : (length s - (p + 9)) - 9 * n ≡ (length s - p) - 9 * suc n = omega arith in
           cell-there n p (omega arith) g ∙ i ∙ rw (g, e)
       go false g i = cell-bad n p (omega arith) g ∙ rw g
 
   -- they are not: the tags that are there are those of (k + 8) / 9 cells, where k bytes are left
-  short : (n p : ℕ) → length s - p < 9 * n → cells n p ≡ cond (tags ((length s - p + 8) / 9) p) (Refused InputEnds) (Refused CellField)
+  short : (n p : ℕ) → length s - p < 9 * n → cells n p ≡ cond (tags ((length s - p + 8) / 9) p) (Refused InputEnds) (Refused x)
   unfolding tagsAt listed every
   short zero p h = absurd (omega arith)
   short (suc n) p h = go (decLt p (length s)) (decLt (length s - p) 9) (f (fieldAt 1 p s)) refl (short n (p + 9))
     where
       go : Dec (p < length s) → Dec (length s - p < 9) → (b : Bool) → f (fieldAt 1 p s) ≡ b
-          → (length s - (p + 9) < 9 * n → cells n (p + 9) ≡ cond (tags ((length s - (p + 9) + 8) / 9) (p + 9)) (Refused InputEnds) (Refused CellField))
-          → cells (suc n) p ≡ cond (tags ((length s - p + 8) / 9) p) (Refused InputEnds) (Refused CellField)
+          → (length s - (p + 9) < 9 * n → cells n (p + 9) ≡ cond (tags ((length s - (p + 9) + 8) / 9) (p + 9)) (Refused InputEnds) (Refused x))
+          → cells (suc n) p ≡ cond (tags ((length s - p + 8) / 9) p) (Refused InputEnds) (Refused x)
       go (no a) l b g i = let e : (length s - p + 8) / 9 ≡ 0 = omega arith in cell-none n p (omega arith) ∙ rw e
       go (yes a) (yes l) true g i = let e : (length s - p + 8) / 9 ≡ 1 = omega arith in cell-part n p a l g ∙ rw (e, g)
       go (yes a) (yes l) false g i = let e : (length s - p + 8) / 9 ≡ 1 = omega arith in cell-bad n p a g ∙ rw (e, g)
@@ -127,8 +128,8 @@ module _ (f : ℕ → Bool) (s : List ℕ) where
 
   -- what is found where `left` bytes are left and a loop has tested the tags that are there
   module _ (n p : ℕ) {left : ℕ} (rest : left ≡ length s - p) {ok : Bool} where
-    pub cells-whole : 9 * n ≤ left → ok ≡ tags n p → cells n p ≡ cond ok (At (length s - (left - 9 * n))) (Refused CellField)
+    pub cells-whole : 9 * n ≤ left → ok ≡ tags n p → cells n p ≡ cond ok (At (length s - (left - 9 * n))) (Refused x)
     cells-whole h e = rw (e, rest) (whole n p (omega (arith, rest)))
 
-    pub cells-short : left < 9 * n → ok ≡ tags ((left + 8) / 9) p → cells n p ≡ cond ok (Refused InputEnds) (Refused CellField)
+    pub cells-short : left < 9 * n → ok ≡ tags ((left + 8) / 9) p → cells n p ≡ cond ok (Refused InputEnds) (Refused x)
     cells-short h e = rw (e, rest) (short n p (omega (arith, rest)))

@@ -3,7 +3,7 @@
 use mathlib.Core.Path.{refl, sym, _∙_}
 use Rattle.image.specs.Codec.{noState, uniformSection}
 use Rattle.image.specs.Image.{cellCodec, cellsCodec}
-use Rattle.image_bytes.specs.Code.Scanning.{tagTest}
+use Rattle.image_bytes.specs.Code.Scanning.{tagTest, tagRefusal}
 use Rattle.image_bytes.specs.Laws.Scans.{listSection-scan}
 use borrow.Author.Needs.{needs}
 use Rattle.image_check.proofs.check_cells.Statement.{statement}
@@ -25,7 +25,7 @@ returns c =
     let pre = c .before .before .before .before .pre in
     let value = c .before .before .value in
     let check-number = c .before .check-number in
-    c .check-cells .ensures ∙ sym (listSection-scan (λ _. cellCodec (tagTest (args .register))) noState (args .s .now) (args .w) (args .most) (pre)
+    c .check-cells .ensures ∙ sym (listSection-scan (λ _. cellCodec (tagRefusal (args .kind)) (tagTest (args .kind))) noState (args .s .now) (args .w) (args .most) (pre)
     (args .c) (value .ensures .0) refl (check-number .ensures) tt)
 
 pub check-cells-spec : {M : Type 1} → statement M

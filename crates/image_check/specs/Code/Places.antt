@@ -52,7 +52,7 @@ unfoldable pub constantsPlace : Sizes → List ℕ → ℕ
 constantsPlace n s = processesPlace n + (2 + processLength * processCount n s)
 
 unfoldable pub registersPlace : Sizes → List ℕ → ℕ
-registersPlace n s = constantsPlace n s + (2 + 8 * n .constants)
+registersPlace n s = constantsPlace n s + (2 + 9 * n .constants)
 
 unfoldable pub programPlace : Sizes → List ℕ → ℕ
 programPlace n s = registersPlace n s + (2 + 9 * n .registers)
@@ -69,9 +69,9 @@ sizesIn s =
     let rows = fieldAt 1 0 s in
     let processes = fieldAt 1 (1 + rowLength * rows) s in
     let constants = fieldAt 2 (1 + rowLength * rows + (2 + processLength * processes)) s in
-    let registers = fieldAt 2 (1 + rowLength * rows + (2 + processLength * processes) + (2 + 8 * constants)) s in
-    let program = fieldAt 4 (1 + rowLength * rows + (2 + processLength * processes) + (2 + 8 * constants) + (2 + 9 * registers)) s in
-    let data-words = fieldAt 4 (1 + rowLength * rows + (2 + processLength * processes) + (2 + 8 * constants) + (2 + 9 * registers) + (4 + 8 * program)) s in
+    let registers = fieldAt 2 (1 + rowLength * rows + (2 + processLength * processes) + (2 + 9 * constants)) s in
+    let program = fieldAt 4 (1 + rowLength * rows + (2 + processLength * processes) + (2 + 9 * constants) + (2 + 9 * registers)) s in
+    let data-words = fieldAt 4 (1 + rowLength * rows + (2 + processLength * processes) + (2 + 9 * constants) + (2 + 9 * registers) + (4 + 8 * program)) s in
     record { rows = rows; constants = constants; registers = registers; program = program; data_words = data-words }
 
 -- the image whose sections have these sizes
@@ -80,7 +80,7 @@ imageAt n s = record {
   rows = rowsAt (n .rows) s;
   flag = fieldAt 1 (processesPlace n + 1) s;
   processes = processesAt (processCount n s) (processesPlace n + 2) s;
-  constants = wordsAt (n .constants) (constantsPlace n s + 2) s;
+  constants = cellsAt (n .constants) (constantsPlace n s + 2) s;
   registers = cellsAt (n .registers) (registersPlace n s + 2) s;
   program = wordsAt (n .program) (programPlace n s + 4) s;
   dataWords = cellsAt (n .data_words) (dataPlace n s + 4) s;

@@ -7,9 +7,10 @@ use native.Mathlib.Nat.{add-zero}
 use native.Mathlib.Omega.{arith}
 use lib.ListN.{drop, length-map}
 use lib.Seq.{drop-drop}
+use Rattle.refusal.specs.declared.Refusal.{Refusal}
 use Rattle.word.specs.Fields.{pswSound}
 use Rattle.window.specs.declared.Row.{Row}
-use Rattle.window.specs.Sound.{bits, tagSound, stateSound}
+use Rattle.window.specs.Sound.{bits, tagSound, stateSound, qualitySound}
 use Rattle.step.specs.Soundness.{taskSound, kindSound, recordSound, ptSound, flagSound}
 use Rattle.refusal.specs.declared.Refusal.the-variants.{TaskField, ProcessField}
 use Rattle.image.specs.Codec.{field, uniformSection, noState}
@@ -75,9 +76,9 @@ pub words-spans : (w most : ℕ) → Spans (wordsCodec w most) (λ b. listed 8 (
 unfolding wordsCodec uniformSection
 words-spans w most = listSection-spans noState (λ _. word-spans) w most tt
 
-pub cells-spans : (f : ℕ → Bool) (w most : ℕ) → Spans (cellsCodec f w most) (λ b. listed 9 (λ p. cellFrom 0 (drop p b)) (field w b) w) (λ b. w + 9 * field w b)
+pub cells-spans : (e : Refusal) (f : ℕ → Bool) (w most : ℕ) → Spans (cellsCodec e f w most) (λ b. listed 9 (λ p. cellFrom 0 (drop p b)) (field w b) w) (λ b. w + 9 * field w b)
 unfolding cellsCodec uniformSection
-cells-spans f w most = listSection-spans noState (λ _. cell-spans f) w most tt
+cells-spans e f w most = listSection-spans noState (λ _. cell-spans e f) w most tt
 
 -- the rows of the whole input
 pub first-rows : (s : List ℕ) (n : ℕ) → listed rowLength (λ p. rowAt 0 (drop p s)) n 1 ≡ rowsAt n s
@@ -102,10 +103,10 @@ module _ (s : List ℕ) where
     unfolding wordsAt
     words-placed w most = placed (words-spans w most) s p (listed-at 8 (field 8) (λ q. fieldAt 8 q s) s (λ q. refl) p (fieldAt w p s) w) refl
 
-    cells-placed : (f : ℕ → Bool) (w most : ℕ) → Placed s (cellsCodec f w most) p (cellsAt (fieldAt w p s) (p + w) s) (p + (w + 9 * fieldAt w p s))
+    cells-placed : (e : Refusal) (f : ℕ → Bool) (w most : ℕ) → Placed s (cellsCodec e f w most) p (cellsAt (fieldAt w p s) (p + w) s) (p + (w + 9 * fieldAt w p s))
     unfolding cellsAt
-    cells-placed f w most =
-        placed (cells-spans f w most) s p (listed-at 9 (cellFrom 0) (λ q. cellFrom q s) s (λ q. simp (drop-drop, add-zero)) p (fieldAt w p s) w) refl
+    cells-placed e f w most =
+        placed (cells-spans e f w most) s p (listed-at 9 (cellFrom 0) (λ q. cellFrom q s) s (λ q. simp (drop-drop, add-zero)) p (fieldAt w p s) w) refl
 
   -- the whole
   pub image-placed : Placed s imageCodec 0 (imageAt (sizesIn s) s) (endPlace (sizesIn s) s)
@@ -114,10 +115,10 @@ module _ (s : List ℕ) where
       via-placed toImage fromImage
       (seq-placed tasks-placed
       (λ rows. seq-placed (processes-placed _ rows)
-      (λ _. seq-placed (words-placed _ 2 4096)
-      (λ _. seq-placed (cells-placed _ tagSound 2 2048)
+      (λ _. seq-placed (cells-placed _ _ qualitySound 2 4096)
+      (λ _. seq-placed (cells-placed _ _ tagSound 2 2048)
       (λ _. seq-placed (words-placed _ 4 (2 ^ 20))
-      (λ _. cells-placed _ stateSound 4 (2 ^ 20)))))))
+      (λ _. cells-placed _ _ stateSound 4 (2 ^ 20)))))))
 
 -- its sizes are those that it was read by
 pub sizes-image : (n : Sizes) (s : List ℕ) → sizesOf (stateOf (imageAt n s)) ≡ n

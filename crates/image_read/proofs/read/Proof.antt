@@ -20,15 +20,10 @@ enum-known-found-2 : tie.Need-enum-known-found-2
 enum-known-found-2 c = search needs
 
 read-sound-requires : tie.Need-read-sound-requires
-read-sound-requires c κs = sym (c .before .before .before .before .before .before .before .before .before .check .ensures) ∙ c .before .before .before .before .before .before .before .found2 .given .1
+read-sound-requires c κs = sym (c .before .before .before .before .before .before .before .before .before .before .check .ensures) ∙ c .before .before .before .before .before .before .before .before .found2 .given .1
 
 returns : tie.Need-returns
-returns c =
-    let s = c .before .before .before .before .before .before .before .before .before .before .before .before in
-    let a = s .args in
-    let seven = sym (length-map (a .rows .at) _) ∙ s .good .0 .1 .1 .0 .1 .0 .1 in
-    rw (c .refused .ensures)
-    (read-refused _ (a .image .now) _ (sym (c .before .before .before .before .check .ensures) ∙ c .before .before .found .given .1), record { count = refl; places = seven; beyond = refl })
+returns c = let a = c .before .before .before .before .before .before .before .before .before .before .before .before .before .args in let seven = sym (length-map (a .rows .at) _) ∙ c .before .before .before .before .before .before .before .before .before .before .before .before .before .good .0 .1 .1 .0 .1 .0 .1 in rw (c .refused .ensures) (read-refused _ (a .image .now) _ (sym (c .before .before .before .before .check .ensures) ∙ c .before .before .found .given .1), record { count = refl; places = seven; beyond = refl })
 
 same-length : tie.Need-same-length
 same-length c = search needs
@@ -47,6 +42,9 @@ same-length-5 c = search needs
 
 same-length-6 : tie.Need-same-length-6
 same-length-6 c = search needs
+
+same-length-7 : tie.Need-same-length-7
+same-length-7 c = search needs
 
 returns-2 : tie.Need-returns-2
 returns-2 c = search needs
@@ -67,4 +65,5 @@ read-spec =
     same-length-4
     same-length-5
     same-length-6
+    same-length-7
     returns-2)

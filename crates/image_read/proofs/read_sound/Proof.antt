@@ -23,20 +23,10 @@ refused-requires : tie.Need-refused-requires
 refused-requires c κs = search needs
 
 returns : tie.Need-returns
-returns c =
-    let s = c .before .before .before .before .before .before .before .before .before .before .before in
-    let a = s .args in
-    let seven = sym (length-map (a .rows .at) _) ∙ s .good .0 .1 .1 .0 .1 .0 .1 in
-    let q : fits (a .n) (roomFrom (min (a .rows .n) 7) (length (a .constants .now)) (length (a .register-tags .now)) (length (a .register-words .now)) (length (a .program .now)) (length (a .data-tags .now)) (length (a .data-words .now))) ≡ false = rw (← c .before .before .before .row-count .ensures) (sym (c .before .before .fits2 .ensures) ∙ not-true _ (c .before .if1 .taken)) in
-    rw (c .refused .ensures)
-    (read-short (a .rows) (a .table) (a .constants .now) (a .register-tags .now) (a .register-words .now) (a .program .now) (a .data-tags .now) (a .data-words .now) (a .image .now) (a .n) seven (found (a .image .now) (a .n) (s .pre)) q, record { count = refl; places = seven; beyond = refl })
+returns c = let a = c .before .before .before .before .before .before .before .before .before .before .before .before .args in let seven = sym (length-map (a .rows .at) _) ∙ c .before .before .before .before .before .before .before .before .before .before .before .before .good .0 .1 .1 .0 .1 .0 .1 in let q : fits (a .n) (roomFrom (min (a .rows .n) 7) (length (a .constant-tags .now)) (length (a .constant-words .now)) (length (a .register-tags .now)) (length (a .register-words .now)) (length (a .program .now)) (length (a .data-tags .now)) (length (a .data-words .now))) ≡ false = rw (← c .before .before .before .row-count .ensures) (sym (c .before .before .fits2 .ensures) ∙ not-true _ (c .before .if1 .taken)) in rw (c .refused .ensures) (read-short (a .rows) (a .table) (a .constant-tags .now) (a .constant-words .now) (a .register-tags .now) (a .register-words .now) (a .program .now) (a .data-tags .now) (a .data-words .now) (a .image .now) (a .n) seven (found (a .image .now) (a .n) (c .before .before .before .before .before .before .before .before .before .before .before .before .pre)) q, record { count = refl; places = seven; beyond = refl })
 
 read-fitting-requires : tie.Need-read-fitting-requires
-read-fitting-requires c κs =
-    let s = c .before .before .before .before .before .before .before .before .before .before .before .before .before .before .before .before in
-    let a = s .args in
-    let q : fits (a .n) (roomFrom (min (a .rows .n) 7) (length (a .constants .now)) (length (a .register-tags .now)) (length (a .register-words .now)) (length (a .program .now)) (length (a .data-tags .now)) (length (a .data-words .now))) ≡ true = rw (← c .before .before .before .before .before .before .before .before .row-count .ensures) (sym (c .before .before .before .before .before .before .before .fits2 .ensures) ∙ not-false _ (c .before .before .before .before .before .before .if1 .left)) in
-    (s .pre, q)
+read-fitting-requires c κs = let a = c .before .before .before .before .before .before .before .before .before .before .before .before .before .before .before .before .before .before .args in let q : fits (a .n) (roomFrom (min (a .rows .n) 7) (length (a .constant-tags .now)) (length (a .constant-words .now)) (length (a .register-tags .now)) (length (a .register-words .now)) (length (a .program .now)) (length (a .data-tags .now)) (length (a .data-words .now))) ≡ true = rw (← c .before .before .before .before .before .before .before .before .before .row-count .ensures) (sym (c .before .before .before .before .before .before .before .before .fits2 .ensures) ∙ not-false _ (c .before .before .before .before .before .before .before .if1 .left)) in (c .before .before .before .before .before .before .before .before .before .before .before .before .before .before .before .before .before .before .pre, q)
 
 same-length : tie.Need-same-length
 same-length c = search needs
@@ -56,8 +46,11 @@ same-length-5 c = search needs
 same-length-6 : tie.Need-same-length-6
 same-length-6 c = search needs
 
+same-length-7 : tie.Need-same-length-7
+same-length-7 c = search needs
+
 returns-2 : tie.Need-returns-2
-returns-2 c = c .before .before .before .before .before .before .before .before .before .before .before .before .read-fitting .ensures (c .before .before .before .before .before .before .before .before .before .before .before .before .before .before .before .before .before .before .before .before .before .before .before .before .before .before .before .before .before .args .table)
+returns-2 c = c .before .before .before .before .before .before .before .before .before .before .before .before .before .before .read-fitting .ensures (c .before .before .before .before .before .before .before .before .before .before .before .before .before .before .before .before .before .before .before .before .before .before .before .before .before .before .before .before .before .before .before .before .before .args .table)
 
 pub read-sound-spec : {M : Type 1} → statement M
 read-sound-spec =
@@ -74,4 +67,5 @@ read-sound-spec =
     same-length-4
     same-length-5
     same-length-6
+    same-length-7
     returns-2)

@@ -8,12 +8,13 @@ use Rattle.image_bytes.specs.Code.Reading.{fieldAt}
 use Rattle.image.specs.Image.{rowLength, processLength}
 
 -- an image of these sizes and m processes, and buffers of these lengths
-pub record Room (n : Sizes) (m : ℕ) (s : List ℕ) (a b c d e f : ℕ) : Type 0 where
+pub record Room (n : Sizes) (m : ℕ) (s : List ℕ) (a b c d e f g : ℕ) : Type 0 where
   pub processes : m ≡ fieldAt 1 (1 + rowLength * n .rows) s
-  pub ends : 1 + rowLength * n .rows + (2 + processLength * m) + (2 + 8 * n .constants) + (2 + 9 * n .registers) + (4 + 8 * n .program) + (4 + 9 * n .data_words) ≡ length s
-  pub constants : n .constants ≤ a
-  pub registerTags : n .registers ≤ b
-  pub registerWords : n .registers ≤ c
-  pub program : n .program ≤ d
-  pub dataTags : n .data_words ≤ e
-  pub dataWords : n .data_words ≤ f
+  pub ends : 1 + rowLength * n .rows + (2 + processLength * m) + (2 + 9 * n .constants) + (2 + 9 * n .registers) + (4 + 8 * n .program) + (4 + 9 * n .data_words) ≡ length s
+  pub constantTags : n .constants ≤ a
+  pub constantWords : n .constants ≤ b
+  pub registerTags : n .registers ≤ c
+  pub registerWords : n .registers ≤ d
+  pub program : n .program ≤ e
+  pub dataTags : n .data_words ≤ f
+  pub dataWords : n .data_words ≤ g

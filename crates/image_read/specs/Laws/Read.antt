@@ -45,27 +45,27 @@ read-refused b bytes e h = go (decode bytes) refl h
     go (bad x) q h = decoded-promise b bytes (bad x) (Refused e) b q (sym h) refl
     go (good i) q h = let z : _≡_ {A = ℕ} 0 1 = cc in absurd (omega arith)
 
-module _ (v : Rows) (table : ProcessTable) (constants registerTags registerWords program dataTags dataWords : List ℕ) (bytes : List ℕ) (n : Sizes)
+module _ (v : Rows) (table : ProcessTable) (constantTags constantWords registerTags registerWords program dataTags dataWords : List ℕ) (bytes : List ℕ) (n : Sizes)
     (seven : length (v .at) ≡ 7) (found : Found n bytes) where
   abbrev held : Buffers
-  held = before v table constants registerTags registerWords program dataTags dataWords
+  held = before v table constantTags constantWords registerTags registerWords program dataTags dataWords
 
   abbrev image : Image
   image = imageAt n bytes
 
   -- the room for the image is that for its sizes
-  room : fits (sizesOf (stateOf image)) (roomOf held) ≡ fits n (lengths v table constants registerTags registerWords program dataTags dataWords)
-  room = rw (sizes-image n bytes, room-held v table constants registerTags registerWords program dataTags dataWords seven)
+  room : fits (sizesOf (stateOf image)) (roomOf held) ≡ fits n (lengths v table constantTags constantWords registerTags registerWords program dataTags dataWords)
+  room = rw (sizes-image n bytes, room-held v table constantTags constantWords registerTags registerWords program dataTags dataWords seven)
 
   -- 7
-  pub read-short : fits n (lengths v table constants registerTags registerWords program dataTags dataWords) ≡ false → ReadPromise held bytes (Refused ShortBuffer) held
+  pub read-short : fits n (lengths v table constantTags constantWords registerTags registerWords program dataTags dataWords) ≡ false → ReadPromise held bytes (Refused ShortBuffer) held
   unfolding readAnswered decodedAnswer decodedRefusal decodedLeaves unless leaving
   read-short e = decoded-promise held bytes (good image) (Refused ShortBuffer) held (found .accepts) (rw (room, e)) (rw (room, e))
 
   -- the rows of the image over the first of those that are held
-  module _ (fitted : fits n (lengths v table constants registerTags registerWords program dataTags dataWords) ≡ true) where
+  module _ (fitted : fits n (lengths v table constantTags constantWords registerTags registerWords program dataTags dataWords) ≡ true) where
     few : n .rows ≤ min (v .n) 7
-    few = fitting n (lengths v table constants registerTags registerWords program dataTags dataWords) fitted .rows
+    few = fitting n (lengths v table constantTags constantWords registerTags registerWords program dataTags dataWords) fitted .rows
 
     rows-length : length (rowsAt (n .rows) bytes) ≡ n .rows
     unfolding rowsAt
@@ -84,11 +84,11 @@ module _ (v : Rows) (table : ProcessTable) (constants registerTags registerWords
           ∙ drop-later (length (rowsAt (n .rows) bytes)) (v .n) (v .at) (over (rowsAt (n .rows) bytes) (v .at)) (omega (arith, rows-length, few)) (drop-append-seam (rowsAt (n .rows) bytes) _);
     }
 
-    pub read-image : {at : List Row} {t : ProcessTable} {constants′ registerTags′ registerWords′ program′ dataTags′ dataWords′ : List ℕ} → at ≡ over (rowsAt (n .rows) bytes) (v .at)
+    pub read-image : {at : List Row} {t : ProcessTable} {constantTags′ constantWords′ registerTags′ registerWords′ program′ dataTags′ dataWords′ : List ℕ} → at ≡ over (rowsAt (n .rows) bytes) (v .at)
         → t ≡ stateOf image .table
-        → ((rows : List Row) (t : ProcessTable) → lentBuffers (over (image .rows) rows) (stateOf image .table) constants′ registerTags′ registerWords′ program′ dataTags′ dataWords′
-        ≡ holding (stateOf image) (lentBuffers rows t constants registerTags registerWords program dataTags dataWords))
-        → ReadPromise held bytes (Read n) (lentBuffers (heldRows (record { at = at; n = v .n })) t constants′ registerTags′ registerWords′ program′ dataTags′ dataWords′)
+        → ((rows : List Row) (t : ProcessTable) → lentBuffers (over (image .rows) rows) (stateOf image .table) constantTags′ constantWords′ registerTags′ registerWords′ program′ dataTags′ dataWords′
+        ≡ holding (stateOf image) (lentBuffers rows t constantTags constantWords registerTags registerWords program dataTags dataWords))
+        → ReadPromise held bytes (Read n) (lentBuffers (heldRows (record { at = at; n = v .n })) t constantTags′ constantWords′ registerTags′ registerWords′ program′ dataTags′ dataWords′)
     unfolding readAnswered decodedAnswer decodedRefusal decodedLeaves unless leaving heldRows imageAt
     read-image e k f =
         decoded-promise held bytes (good image) (Read n) _ (found .accepts) (rw (room, fitted, sizes-image n bytes))

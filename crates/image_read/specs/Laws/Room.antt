@@ -13,14 +13,15 @@ use Rattle.image_check.specs.Code.Places.{processesPlace, constantsPlace, regis
 use Rattle.image_read.specs.Code.Room.{Room}
 use Rattle.image.specs.Image.{rowLength}
 
-pub room-of : (n : Sizes) (m : ℕ) (s : List ℕ) (r a b c d e f : ℕ) → m ≡ fieldAt 1 (1 + rowLength * n .rows) s → endPlace n s ≡ length s → fits n (roomFrom r a b c d e f) ≡ true → Room n m s a b c d e f
+pub room-of : (n : Sizes) (m : ℕ) (s : List ℕ) (r a b c d e f g : ℕ) → m ≡ fieldAt 1 (1 + rowLength * n .rows) s → endPlace n s ≡ length s → fits n (roomFrom r a b c d e f g) ≡ true → Room n m s a b c d e f g
 unfolding endPlace dataPlace programPlace registersPlace constantsPlace processesPlace
-room-of n m s r a b c d e f p ends h =
-    let u = fitting n (roomFrom r a b c d e f) h in
+room-of n m s r a b c d e f g p ends h =
+    let u = fitting n (roomFrom r a b c d e f g) h in
     record {
       processes = p;
       ends = rw p ends;
-      constants = u .constants;
+      constantTags = u .constantTags;
+      constantWords = u .constantWords;
       registerTags = u .registerTags;
       registerWords = u .registerWords;
       program = u .program;

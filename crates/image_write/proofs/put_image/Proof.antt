@@ -6,6 +6,7 @@ use native.Mathlib.Nat.{zero-add}
 use native.Mathlib.Omega.{arith}
 use lib.ListN.{length}
 use borrow.Author.Needs.{needs}
+use Rattle.window.specs.Memories.{memory}
 use Rattle.step.specs.State.{State}
 use Rattle.image.specs.Image.{processesFrom}
 use Rattle.step_soundness.specs.Code.Held.{stateIn}
@@ -20,37 +21,37 @@ use Rattle.image_write.proofs.put_image.Tie as tie
 abbrev held : tie.Start → State
 held c =
     let a = c .args in
-    stateIn (a .rows) (a .n) (a .table) (a .constants .now) (a .register-tags .now) (a .register-words .now) (a .program .now) (a .data-tags .now) (a .data-words .now)
+    stateIn (a .rows) (a .n) (a .table) (memory (a .constant-tags .now) (a .constant-words .now)) (a .register-tags .now) (a .register-words .now) (a .program .now) (a .data-tags .now) (a .data-words .now)
 
 -- what is left before the first section, and after each
 z₀ : (c : tie.Start) → Going 0 (imageBytes (held c)) (c .args .output .now) (c .args .output .now) 0 (tasksSection (held c .rows) ++ left₁ (held c))
 unfolding imageBytes
 z₀ c = start 0 _ _ (rw zero-add (c .pre .1))
 
-z₁ : (c : tie.After-put-tasks) → (let s = c .before .before .before .before .before .before .before .before .before in Going 0 (imageBytes (held s)) (s .args .output .now) (c .put-tasks .last .0) (c .put-tasks .result) (left₁ (held s)))
+z₁ : (c : tie.After-put-tasks) → (let s = c .before .before .before .before .before .before .before .before .before .before in Going 0 (imageBytes (held s)) (s .args .output .now) (c .put-tasks .last .0) (c .put-tasks .result) (left₁ (held s)))
 unfolding stateIn
-z₁ c = goes 0 _ _ (z₀ (c .before .before .before .before .before .before .before .before .before)) (record { is = refl }) (rw zero-add (c .put-tasks .ensures .0)) (c .put-tasks .ensures .1)
+z₁ c = goes 0 _ _ (z₀ (c .before .before .before .before .before .before .before .before .before .before)) (record { is = refl }) (rw zero-add (c .put-tasks .ensures .0)) (c .put-tasks .ensures .1)
 
-z₂ : (c : tie.After-put-processes) → (let s = c .before .before .before .before .before .before .before .before .before .before .before .before .before in Going 0 (imageBytes (held s)) (s .args .output .now) (c .put-processes .last .0) (c .put-processes .result) (left₂ (held s)))
+z₂ : (c : tie.After-put-processes) → (let s = c .before .before .before .before .before .before .before .before .before .before .before .before .before .before in Going 0 (imageBytes (held s)) (s .args .output .now) (c .put-processes .last .0) (c .put-processes .result) (left₂ (held s)))
 unfolding stateIn
 z₂ c = goes 0 _ _ (z₁ (c .before .before .before .before)) (record { is = refl }) (c .put-processes .ensures .0) (c .put-processes .ensures .1)
 
-z₃ : (c : tie.After-put-words) → (let s = c .before .before .before .before .before .before .before .before .before .before .before .before .before .before .before .before .before in Going 0 (imageBytes (held s)) (s .args .output .now) (c .put-words .last .0) (c .put-words .result) (left₃ (held s)))
+z₃ : (c : tie.After-put-cells) → (let s = c .before .before .before .before .before .before .before .before .before .before .before .before .before .before .before .before .before .before in Going 0 (imageBytes (held s)) (s .args .output .now) (c .put-cells .last .0) (c .put-cells .result) (left₃ (held s)))
 unfolding stateIn
-z₃ c = goes 0 _ _ (z₂ (c .before .before .before .before)) (record { is = refl }) (c .put-words .ensures .0) (c .put-words .ensures .1)
+z₃ c = goes 0 _ _ (z₂ (c .before .before .before .before)) (record { is = refl }) (c .put-cells .ensures .0) (c .put-cells .ensures .1)
 
-z₄ : (c : tie.After-put-cells) → (let s = c .before .before .before .before .before .before .before .before .before .before .before .before .before .before .before .before .before .before .before .before .before in Going 0 (imageBytes (held s)) (s .args .output .now) (c .put-cells .last .0) (c .put-cells .result) (left₄ (held s)))
+z₄ : (c : tie.After-put-cells2) → (let s = c .before .before .before .before .before .before .before .before .before .before .before .before .before .before .before .before .before .before .before .before .before .before in Going 0 (imageBytes (held s)) (s .args .output .now) (c .put-cells2 .last .0) (c .put-cells2 .result) (left₄ (held s)))
 unfolding stateIn
-z₄ c = goes 0 _ _ (z₃ (c .before .before .before .before)) (record { is = refl }) (c .put-cells .ensures .0) (c .put-cells .ensures .1)
+z₄ c = goes 0 _ _ (z₃ (c .before .before .before .before)) (record { is = refl }) (c .put-cells2 .ensures .0) (c .put-cells2 .ensures .1)
 
-z₅ : (c : tie.After-put-words2) → (let s = c .before .before .before .before .before .before .before .before .before .before .before .before .before .before .before .before .before .before .before .before .before .before .before .before .before in Going 0 (imageBytes (held s)) (s .args .output .now) (c .put-words2 .last .0) (c .put-words2 .result) (left₅ (held s)))
+z₅ : (c : tie.After-put-words) → (let s = c .before .before .before .before .before .before .before .before .before .before .before .before .before .before .before .before .before .before .before .before .before .before .before .before .before .before in Going 0 (imageBytes (held s)) (s .args .output .now) (c .put-words .last .0) (c .put-words .result) (left₅ (held s)))
 unfolding stateIn
-z₅ c = goes 0 _ _ (z₄ (c .before .before .before .before)) (record { is = refl }) (c .put-words2 .ensures .0) (c .put-words2 .ensures .1)
+z₅ c = goes 0 _ _ (z₄ (c .before .before .before .before)) (record { is = refl }) (c .put-words .ensures .0) (c .put-words .ensures .1)
 
 put-tasks-requires : tie.Need-put-tasks-requires
 unfolding stateIn
 put-tasks-requires c κs =
-    let s = c .before .before .before .before .before .before .before .before in
+    let s = c .before .before .before .before .before .before .before .before .before in
     let a = s .args in
     let h : a .n ≤ length (a .rows) = omega (arith, s .pre .0 .0, s .good) in
     let f : 0 + length (tasksSection (held s .rows)) ≤ length (a .output .now) = room 0 _ _ (z₀ s) {xs = tasksSection (held s .rows)} (record { is = refl }) in
@@ -59,38 +60,40 @@ put-tasks-requires c κs =
 put-processes-requires : tie.Need-put-processes-requires
 unfolding stateIn
 put-processes-requires c κs =
-    let s = c .before .before .before .before .before .before .before .before .before .before .before .before in
+    let s = c .before .before .before .before .before .before .before .before .before .before .before .before .before in
     let t = s .args .table in
     let z = z₁ (c .before .before .before) in
     let f = room 0 _ _ z {xs = processesSection (t .flag) (processesFrom (t .psw) 1 (t .queues))} (record { is = refl }) in
     (s .pre .0 .1 .0, rw (processes-size (t .psw) (t .flag) (t .queues) (s .args .m) (s .pre .0 .1 .0)) at f)
 
-put-words-requires : tie.Need-put-words-requires
-unfolding stateIn
-put-words-requires c κs =
-    let a = c .before .before .before .before .before .before .before .before .before .before .before .before .before .before .before .before .args in
-    rw (words-size 2 (a .constants .now)) at (room 0 _ _ (z₂ (c .before .before .before)) {xs = wordsSection 2 (a .constants .now)} (record { is = refl }))
-
 put-cells-requires : tie.Need-put-cells-requires
 unfolding stateIn
 put-cells-requires c κs =
-    let s = c .before .before .before .before .before .before .before .before .before .before .before .before .before .before .before .before .before .before .before .before in
+    let s = c .before .before .before .before .before .before .before .before .before .before .before .before .before .before .before .before .before in
     let a = s .args in
     let h = s .pre .0 .1 .1 .0 in
-    (h, rw (cells-size 2 (a .register-words .now) (a .register-tags .now) h) at (room 0 _ _ (z₃ (c .before .before .before)) {xs = cellsSection 2 (a .register-tags .now) (a .register-words .now)} (record { is = refl })))
-
-put-words-requires-2 : tie.Need-put-words-requires-2
-unfolding stateIn
-put-words-requires-2 c κs =
-    let a = c .before .before .before .before .before .before .before .before .before .before .before .before .before .before .before .before .before .before .before .before .before .before .before .before .args in
-    rw (words-size 4 (a .program .now)) at (room 0 _ _ (z₄ (c .before .before .before)) {xs = wordsSection 4 (a .program .now)} (record { is = refl }))
+    (h, rw (cells-size 2 (a .constant-words .now) (a .constant-tags .now) h) at (room 0 _ _ (z₂ (c .before .before .before)) {xs = cellsSection 2 (a .constant-tags .now) (a .constant-words .now)} (record { is = refl })))
 
 put-cells-requires-2 : tie.Need-put-cells-requires-2
 unfolding stateIn
 put-cells-requires-2 c κs =
-    let s = c .before .before .before .before .before .before .before .before .before .before .before .before .before .before .before .before .before .before .before .before .before .before .before .before .before .before .before .before in
+    let s = c .before .before .before .before .before .before .before .before .before .before .before .before .before .before .before .before .before .before .before .before .before in
     let a = s .args in
-    let h = s .pre .0 .1 .1 .1 in
+    let h = s .pre .0 .1 .1 .1 .0 in
+    (h, rw (cells-size 2 (a .register-words .now) (a .register-tags .now) h) at (room 0 _ _ (z₃ (c .before .before .before)) {xs = cellsSection 2 (a .register-tags .now) (a .register-words .now)} (record { is = refl })))
+
+put-words-requires : tie.Need-put-words-requires
+unfolding stateIn
+put-words-requires c κs =
+    let a = c .before .before .before .before .before .before .before .before .before .before .before .before .before .before .before .before .before .before .before .before .before .before .before .before .before .args in
+    rw (words-size 4 (a .program .now)) at (room 0 _ _ (z₄ (c .before .before .before)) {xs = wordsSection 4 (a .program .now)} (record { is = refl }))
+
+put-cells-requires-3 : tie.Need-put-cells-requires-3
+unfolding stateIn
+put-cells-requires-3 c κs =
+    let s = c .before .before .before .before .before .before .before .before .before .before .before .before .before .before .before .before .before .before .before .before .before .before .before .before .before .before .before .before .before in
+    let a = s .args in
+    let h = s .pre .0 .1 .1 .1 .1 in
     (h, rw (cells-size 4 (a .data-words .now) (a .data-tags .now) h) at (room-all 0 _ _ (z₅ (c .before .before .before))))
 
 same-length : tie.Need-same-length
@@ -100,7 +103,7 @@ returns : tie.Need-returns
 unfolding stateIn
 returns c =
     let z = z₅ (c .before .before .before .before .before .before) in
-    let e = c .before .before .put-cells2 .ensures in
+    let e = c .before .before .put-cells3 .ensures in
     (e .0 ∙ z .place ∙ zero-add _, last 0 _ _ z (e .1))
 
 pub put-image-spec : {M : Type 1} → statement M
@@ -109,9 +112,9 @@ put-image-spec =
     (tie.spec
     put-tasks-requires
     put-processes-requires
-    put-words-requires
     put-cells-requires
-    put-words-requires-2
     put-cells-requires-2
+    put-words-requires
+    put-cells-requires-3
     same-length
     returns)

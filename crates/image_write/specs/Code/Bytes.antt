@@ -50,7 +50,7 @@ unfoldable pub imageBytes : State → List ℕ
 imageBytes s =
     tasksSection (s .rows)
     ++ (processesSection (s .table .flag) (processesFrom (s .table .psw) 1 (s .table .queues))
-    ++ (wordsSection 2 (s .constants)
+    ++ (cellsSection 2 (s .constants .tags) (s .constants .words)
     ++ (cellsSection 2 (s .registers .tags) (s .registers .words)
     ++ (wordsSection 4 (s .program)
     ++ cellsSection 4 (s .dataWords .tags) (s .dataWords .words)))))

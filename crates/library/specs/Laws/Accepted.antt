@@ -32,7 +32,8 @@ roomFor i =
     let n : Sizes = sizesOf (stateOf i) in
     record {
       rows = n .rows;
-      constants = n .constants;
+      constantTags = n .constants;
+      constantWords = n .constants;
       registerTags = n .registers;
       registerWords = n .registers;
       program = n .program;
@@ -45,7 +46,7 @@ unfolding roomFor fits
 room-fits i =
     let n : Sizes = sizesOf (stateOf i) in
     let self : (k : ℕ) → leb k k ≡ true = λ k. le-leb k k (omega arith) in
-    also (self (n .rows)) (also (self (n .constants)) (also (self (n .registers)) (also (self (n .registers)) (also (self (n .program)) (also (self (n .data_words)) (self (n .data_words)))))))
+    also (self (n .rows)) (also (self (n .constants)) (also (self (n .constants)) (also (self (n .registers)) (also (self (n .registers)) (also (self (n .program)) (also (self (n .data_words)) (self (n .data_words))))))))
 
 pub read-decoded : (room : Room) (bytes : List ℕ) → readRefusal room bytes ≡ none → (i : Image) × (decode bytes ≡ good i)
 unfolding readRefusal decodedRefusal

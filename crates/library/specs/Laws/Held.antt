@@ -14,15 +14,15 @@ use Rattle.library.specs.Calls.{stateRefused}
 use Rattle.library.specs.Held.{lentBuffers, roomFrom}
 use Rattle.library.specs.Code.HeldRows.{heldRows}
 
-module _ (v : Rows) (table : ProcessTable) (constants registerTags registerWords program dataTags dataWords : List ℕ) where
+module _ (v : Rows) (table : ProcessTable) (constantTags constantWords registerTags registerWords program dataTags dataWords : List ℕ) where
   -- the buffers
   abbrev pub before : Buffers
-  before = lentBuffers (heldRows v) table constants registerTags registerWords program dataTags dataWords
+  before = lentBuffers (heldRows v) table constantTags constantWords registerTags registerWords program dataTags dataWords
 
   -- their lengths, as they are tested
   abbrev pub lengths : Room
   lengths =
-      roomFrom (min (v .n) 7) (length constants) (length registerTags) (length registerWords) (length program) (length dataTags) (length dataWords)
+      roomFrom (min (v .n) 7) (length constantTags) (length constantWords) (length registerTags) (length registerWords) (length program) (length dataTags) (length dataWords)
 
   pub room-held : length (v .at) ≡ 7 → roomOf before ≡ lengths
   unfolding roomOf heldRows

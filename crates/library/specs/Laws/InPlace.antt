@@ -33,7 +33,8 @@ module _ {A : Type 0} where
 -- a state with these counts
 pub record Sized (n : Sizes) (s : State) : Type 0 where
   pub rows : length (s .rows) ≡ n .rows
-  pub constants : length (s .constants) ≡ n .constants
+  pub constantTags : length (s .constants .tags) ≡ n .constants
+  pub constantWords : length (s .constants .words) ≡ n .constants
   pub registerTags : length (s .registers .tags) ≡ n .registers
   pub registerWords : length (s .registers .words) ≡ n .registers
   pub program : length (s .program) ≡ n .program
@@ -45,7 +46,8 @@ unfolding fieldsIn holding
 holding-fields n s b z =
     rw (
       over-take (n .rows) (s .rows) (b .rows) (z .rows),
-      over-take (n .constants) (s .constants) (b .constants) (z .constants),
+      over-take (n .constants) (s .constants .tags) (b .constantTags) (z .constantTags),
+      over-take (n .constants) (s .constants .words) (b .constantWords) (z .constantWords),
       over-take (n .registers) (s .registers .tags) (b .registerTags) (z .registerTags),
       over-take (n .registers) (s .registers .words) (b .registerWords) (z .registerWords),
       over-take (n .program) (s .program) (b .program) (z .program),
@@ -58,7 +60,8 @@ unfolding spareIn holding
 holding-spare n s b z =
     rw (
       over-drop (n .rows) (s .rows) (b .rows) (z .rows),
-      over-drop (n .constants) (s .constants) (b .constants) (z .constants),
+      over-drop (n .constants) (s .constants .tags) (b .constantTags) (z .constantTags),
+      over-drop (n .constants) (s .constants .words) (b .constantWords) (z .constantWords),
       over-drop (n .registers) (s .registers .tags) (b .registerTags) (z .registerTags),
       over-drop (n .registers) (s .registers .words) (b .registerWords) (z .registerWords),
       over-drop (n .program) (s .program) (b .program) (z .program),
@@ -74,7 +77,8 @@ fields-sized n b e =
     let f = fitting n (roomOf b) e in
     record {
       rows = length-take-le (n .rows) (b .rows) (f .rows);
-      constants = length-take-le (n .constants) (b .constants) (f .constants);
+      constantTags = length-take-le (n .constants) (b .constantTags) (f .constantTags);
+      constantWords = length-take-le (n .constants) (b .constantWords) (f .constantWords);
       registerTags = length-take-le (n .registers) (b .registerTags) (f .registerTags);
       registerWords = length-take-le (n .registers) (b .registerWords) (f .registerWords);
       program = length-take-le (n .program) (b .program) (f .program);
@@ -85,7 +89,8 @@ fields-sized n b e =
 pub lengths-sized : (n : Sizes) (s s′ : State) → Sized n s → SameLengths s′ s → Sized n s′
 lengths-sized n s s′ z k = record {
   rows = k .rows ∙ z .rows;
-  constants = k .constants ∙ z .constants;
+  constantTags = k .constantTags ∙ z .constantTags;
+  constantWords = k .constantWords ∙ z .constantWords;
   registerTags = k .registerTags ∙ z .registerTags;
   registerWords = k .registerWords ∙ z .registerWords;
   program = k .program ∙ z .program;
@@ -98,7 +103,8 @@ pub read-sized : (i : Image) → Sized (sizesOf (stateOf i)) (stateOf i)
 unfolding sizesOf stateOf memoryOf
 read-sized i = record {
   rows = refl;
-  constants = refl;
+  constantTags = length-map (i .constants) tagOf ∙ sym (length-map (i .constants) wordOf);
+  constantWords = refl;
   registerTags = length-map (i .registers) tagOf ∙ sym (length-map (i .registers) wordOf);
   registerWords = refl;
   program = refl;

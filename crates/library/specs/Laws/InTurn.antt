@@ -39,7 +39,8 @@ holding-room n s b z e =
     let u = fitting n (roomOf b) e in
     rw (
       over-length (s .rows) (b .rows) (omega (arith, z .rows, u .rows)),
-      over-length (s .constants) (b .constants) (omega (arith, z .constants, u .constants)),
+      over-length (s .constants .tags) (b .constantTags) (omega (arith, z .constantTags, u .constantTags)),
+      over-length (s .constants .words) (b .constantWords) (omega (arith, z .constantWords, u .constantWords)),
       over-length (s .registers .tags) (b .registerTags) (omega (arith, z .registerTags, u .registerTags)),
       over-length (s .registers .words) (b .registerWords) (omega (arith, z .registerWords, u .registerWords)),
       over-length (s .program) (b .program) (omega (arith, z .program, u .program)),

@@ -15,7 +15,8 @@ use Rattle.library.specs.Buffers.{Room, fits}
 -- counts that fit, one by one
 pub record Fitting (n : Sizes) (r : Room) : Type 0 where
   pub rows : n .rows ≤ r .rows
-  pub constants : n .constants ≤ r .constants
+  pub constantTags : n .constants ≤ r .constantTags
+  pub constantWords : n .constants ≤ r .constantWords
   pub registerTags : n .registers ≤ r .registerTags
   pub registerWords : n .registers ≤ r .registerWords
   pub program : n .program ≤ r .program
@@ -27,19 +28,21 @@ unfolding fits
 fitting n r e =
     let u =
     both (leb-true (n .rows) (r .rows))
-    (both (leb-true (n .constants) (r .constants))
+    (both (leb-true (n .constants) (r .constantTags))
+    (both (leb-true (n .constants) (r .constantWords))
     (both (leb-true (n .registers) (r .registerTags))
     (both (leb-true (n .registers) (r .registerWords))
     (both (leb-true (n .program) (r .program))
-    (both (leb-true (n .data_words) (r .dataTags)) (leb-true (n .data_words) (r .dataWords))))))) e in
+    (both (leb-true (n .data_words) (r .dataTags)) (leb-true (n .data_words) (r .dataWords)))))))) e in
     record {
       rows = u .0;
-      constants = u .1 .0;
-      registerTags = u .1 .1 .0;
-      registerWords = u .1 .1 .1 .0;
-      program = u .1 .1 .1 .1 .0;
-      dataTags = u .1 .1 .1 .1 .1 .0;
-      dataWords = u .1 .1 .1 .1 .1 .1;
+      constantTags = u .1 .0;
+      constantWords = u .1 .1 .0;
+      registerTags = u .1 .1 .1 .0;
+      registerWords = u .1 .1 .1 .1 .0;
+      program = u .1 .1 .1 .1 .1 .0;
+      dataTags = u .1 .1 .1 .1 .1 .1 .0;
+      dataWords = u .1 .1 .1 .1 .1 .1 .1;
     }
 
 module _ {A : Type 0} where

@@ -19,12 +19,7 @@ fits-requires : tie.Need-fits-requires
 fits-requires c κs = search needs
 
 returns : tie.Need-returns
-returns c =
-    let s = c .before .before .before .before .before .before .before .before .before in
-    let a = s .args in
-    let seven = sym (length-map (a .rows .at) _) ∙ s .good .0 .1 .1 .0 .1 .0 .1 in
-    let q : fits (a .n) (roomFrom (min (a .rows .n) 7) (length (a .constants .now)) (length (a .register-tags .now)) (length (a .register-words .now)) (length (a .program .now)) (length (a .data-tags .now)) (length (a .data-words .now))) ≡ false = rw (← c .before .before .row-count .ensures) (sym (c .before .fits2 .ensures) ∙ not-true _ (c .if1 .taken)) in
-    sym (unfit-refused (a .rows) (a .table) (a .constants .now) (a .register-tags .now) (a .register-words .now) (a .program .now) (a .data-tags .now) (a .data-words .now) (a .n) seven q)
+returns c = let a = c .before .before .before .before .before .before .before .before .before .before .args in let seven = sym (length-map (a .rows .at) _) ∙ c .before .before .before .before .before .before .before .before .before .before .good .0 .1 .1 .0 .1 .0 .1 in let q : fits (a .n) (roomFrom (min (a .rows .n) 7) (length (a .constant-tags .now)) (length (a .constant-words .now)) (length (a .register-tags .now)) (length (a .register-words .now)) (length (a .program .now)) (length (a .data-tags .now)) (length (a .data-words .now))) ≡ false = rw (← c .before .before .row-count .ensures) (sym (c .before .fits2 .ensures) ∙ not-true _ (c .if1 .taken)) in sym (unfit-refused (a .rows) (a .table) (a .constant-tags .now) (a .constant-words .now) (a .register-tags .now) (a .register-words .now) (a .program .now) (a .data-tags .now) (a .data-words .now) (a .n) seven q)
 
 cut-refused-requires : tie.Need-cut-refused-requires
 cut-refused-requires c κs = rw (← c .before .before .row-count .ensures) (sym (c .before .fits2 .ensures) ∙ not-false _ (c .if1 .left))

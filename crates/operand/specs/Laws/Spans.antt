@@ -52,6 +52,18 @@ destination-register row psw f o = go (constantOf f)
 pub destination-inside : (row : Row) (psw f : ℕ) (o : Operand) (d : ℕ) → lookupOf Destination row psw f ≡ Found o → o ≡ Register d → inside (registerWindow row) d ≡ true
 destination-inside row psw f o d e k = subst (λ (l : Lookup). Within row l) (e ∙ ap Found k) (lookup-within Destination row psw f)
 
+-- what a source is by its field
+pub source-constant : (row : Row) (psw f : ℕ) (o : Operand) → lookupOf Source row psw f ≡ Found o → constantOf f ≡ true → o ≡ Constant (numberIn o)
+unfolding lookupOf sourceLookup numberIn
+source-constant row psw f o e z = go (rw z at e)
+  where
+    go : Found (Constant (constantPlace row (effectiveOf psw f))) ≡ Found o → o ≡ Constant (numberIn o)
+    go e = let z : Constant (constantPlace row (effectiveOf psw f)) ≡ o = cc in subst (λ (x : Operand). x ≡ Constant (numberIn x)) z refl
+
+pub source-plain : (row : Row) (psw f : ℕ) (o : Operand) → lookupOf Source row psw f ≡ Found o → constantOf f ≡ false → o ≡ Register (numberIn o)
+unfolding lookupOf sourceLookup
+source-plain row psw f o e z = register-of _ o (rw z at e)
+
 -- a source under an access code is no constant, and so a register in the window
 pub source-register : (row : Row) (psw f : ℕ) (o : Operand) → lookupOf Source row psw f ≡ Found o → accessOf f ≡ 2 → o ≡ Register (numberIn o)
 unfolding lookupOf sourceLookup accessOf

@@ -1,6 +1,5 @@
 -- The fields of an instruction at the operands that they name, read from the memories themselves.
 use Prim.Native.Nat.{ℕ}
-use mathlib.Core.List.{List}
 use Rattle.word.specs.declared.Instruction.{Instruction}
 use Rattle.window.specs.declared.Cell.{Cell}
 use Rattle.window.specs.Memories.{Memory}
@@ -18,10 +17,10 @@ instruction code first second third = record { code = code; first = first; secon
 abbrev pub foundWith : Role → (f : ℕ) → Operand → Cell → FoundOperand
 foundWith role f o c = record { role = role; access = accessOf f; operand = o; cell = c }
 
-unfoldable pub foundAt : Memory → List ℕ → Role → (f : ℕ) → Operand → FoundOperand
+unfoldable pub foundAt : (registers constants : Memory) → Role → (f : ℕ) → Operand → FoundOperand
 foundAt registers constants role f o = foundWith role f o (operandCell registers constants o)
 
-unfoldable pub allFoundAt : Memory → List ℕ → Roles → (first second third : ℕ) → (a b c : Operand) → FoundOperands
+unfoldable pub allFoundAt : (registers constants : Memory) → Roles → (first second third : ℕ) → (a b c : Operand) → FoundOperands
 allFoundAt registers constants r first second third a b c = record {
   first = foundAt registers constants (r .first) first a;
   second = foundAt registers constants (r .second) second b;

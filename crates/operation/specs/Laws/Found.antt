@@ -38,7 +38,7 @@ use Rattle.operation.specs.Code.FoundOperands.{foundAt, allFoundAt}
 pub told : {A : Type 0} {x y z : A} → x ≡ y → x ≡ z → y ≡ z
 told e f = sym e ∙ f
 
-module _ (r : Roles) (op : Operation) (row : Row) (psw flag : ℕ) (program constants : List ℕ) (registers dataWords : Memory) (i : Instruction) where
+module _ (r : Roles) (op : Operation) (row : Row) (psw flag : ℕ) (program : List ℕ) (constants registers dataWords : Memory) (i : Instruction) where
   pub refused : illegalInstruction r op i ≡ true
       → Traps trap.IllegalInstruction psw ≡ decideListed r op (environmentOf row psw flag program constants registers dataWords) i
   unfolding decideListed environmentOf

@@ -6,7 +6,7 @@ use Rattle.word.specs.Integers.{within, addFits, subFits, qualityOf, addOf, sub
 use Rattle.word.specs.Tests.{tests, holdsOf}
 use Rattle.window.specs.Windows.{windowOf, inside, placeIn, registerWindow, programWindow, dataWindow, dataWordWindow, bytePlace, constantPlace, meets}
 use Rattle.window.specs.Memories.{cellAt, constantAt, seen, cellIn, stored, storedOne, storedAll, written}
-use Rattle.window.specs.Sound.{bits, wordSound, tagSound, stateSound}
+use Rattle.window.specs.Sound.{bits, wordSound, qualitySound, tagSound, stateSound}
 use Rattle.operand.specs.Field.{indexedOf, constantOf, accessOf, illegalOf, effectiveOf, illegalField, registerLookup, sourceLookup, destinationLookup, lookupOf}
 use Rattle.operand.specs.Access.{visibleCell, accessCodes, codeLine, sourceWaits, destinationWaits, waitsOf, maskedOf, emptying, sourceLeft, destinationTag, destinationLeft}
 use Rattle.operand.specs.Code.Cells.{operandCell}
@@ -20,5 +20,5 @@ use Prim.Native.Nat.{ℕ}
 
 -- naming this opens all definitions
 unfoldable pub opened : ℕ
-unfolding instructionOf ciOf riOf utmOf pcOf pswOf pswSound nextOf digitOf digitsBy vectorOf bitsetOf bitclrOf encode1Of encode0Of bitOf parityOf within addFits subFits qualityOf addOf subOf magnitudeOf sameSign mostOf mulFits mulOf integerOf tests holdsOf windowOf inside placeIn registerWindow programWindow dataWindow dataWordWindow bytePlace constantPlace meets cellAt constantAt seen cellIn stored storedOne storedAll written bits wordSound tagSound stateSound indexedOf constantOf accessOf illegalOf effectiveOf illegalField registerLookup sourceLookup destinationLookup lookupOf operandCell visibleCell accessCodes codeLine sourceWaits destinationWaits waitsOf maskedOf emptying sourceLeft destinationTag destinationLeft find privileged simulated singleCodes callOf quitOf dataCodeOf families familyOf singleOf codeOf vectorRoles bitRoles integerRoles rolesOf svcRoles illegalLoad illegalStore illegalAccess illegalFields illegalInstruction environmentOf kindOf leftOf executed resultIn performResult testOf branched performBranch called performCall created createWaits createFate performCreate performQuit indirectAddress indexedAddress loadWaits loadLeaves loadWord storeWaits storeWord wordPlace loadFrom performLoad storeTo performStore perform foundOperand operandWaits operandsWait operandMasked operandsMasked decideFound foundOperands decideLookups decideOperands decideListed decideCode decideFetched decide leadingZeros onesIn
+unfolding instructionOf ciOf riOf utmOf pcOf pswOf pswSound nextOf digitOf digitsBy vectorOf bitsetOf bitclrOf encode1Of encode0Of bitOf parityOf within addFits subFits qualityOf addOf subOf magnitudeOf sameSign mostOf mulFits mulOf integerOf tests holdsOf windowOf inside placeIn registerWindow programWindow dataWindow dataWordWindow bytePlace constantPlace meets cellAt constantAt seen cellIn stored storedOne storedAll written bits wordSound qualitySound tagSound stateSound indexedOf constantOf accessOf illegalOf effectiveOf illegalField registerLookup sourceLookup destinationLookup lookupOf operandCell visibleCell accessCodes codeLine sourceWaits destinationWaits waitsOf maskedOf emptying sourceLeft destinationTag destinationLeft find privileged simulated singleCodes callOf quitOf dataCodeOf families familyOf singleOf codeOf vectorRoles bitRoles integerRoles rolesOf svcRoles illegalLoad illegalStore illegalAccess illegalFields illegalInstruction environmentOf kindOf leftOf executed resultIn performResult testOf branched performBranch called performCall created createWaits createFate performCreate performQuit indirectAddress indexedAddress loadWaits loadLeaves loadWord storeWaits storeWord wordPlace loadFrom performLoad storeTo performStore perform foundOperand operandWaits operandsWait operandMasked operandsMasked decideFound foundOperands decideLookups decideOperands decideListed decideCode decideFetched decide leadingZeros onesIn
 opened = 0

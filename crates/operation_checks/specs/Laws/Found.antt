@@ -37,7 +37,7 @@ use Rattle.operation.specs.Decide.{operandWaits, operandsWait, operandMasked, o
 use Rattle.step.specs.Code.Performs.{trapCourse, fateCourse, Performs}
 use Rattle.step.specs.Code.Parts.{fatePsws}
 use Rattle.step.specs.Laws.Performs.{performs-along, performs-waits, performs-traps, performs-executes}
-use Rattle.operation_checks.specs.Code.Operands.{Destined, waitsIn, maskedIn, leftIn}
+use Rattle.operation_checks.specs.Code.Operands.{Destined, tagIn, waitsIn, maskedIn, leftIn}
 use Rattle.operation_checks.specs.Laws.Operands.{Operated, waits-in, masked-in}
 
 -- the three operands with what stands there
@@ -64,28 +64,38 @@ pub continued : (pt fresh q p : ℕ) (psws psws′ : List ℕ) → psws′ ≡ s
 unfolding fatePsws
 continued pt fresh q p psws psws′ e f = e ∙ ap (set psws pt) f
 
-module _ (row : Row) (tags words constants : List ℕ) (first second third : ℕ)
+module _ (row : Row) (tags words : List ℕ) (constants : Memory) (first second third : ℕ)
     (r1 : Role) (o1 : Operand) (a1 x1 w1 : ℕ) (p1 : Operated row tags words constants r1 first o1 a1 x1 w1)
     (r2 : Role) (o2 : Operand) (a2 x2 w2 : ℕ) (p2 : Operated row tags words constants r2 second o2 a2 x2 w2)
     (r3 : Role) (o3 : Operand) (a3 x3 w3 : ℕ) (p3 : Operated row tags words constants r3 third o3 a3 x3 w3)
     (n : Memory) (pt fresh : ℕ) (psws : List ℕ) where
-  found-here : allFoundAt (memory tags words) constants (roles r1 r2 r3) first second third o1 o2 o3 ≡ operandsAt r1 r2 r3 first second third o1 o2 o3 x1 w1 x2 w2 x3 w3
+  -- the tags before the step
+  abbrev t1 : ℕ
+  t1 = tagIn r1 first a1 x1 (constants .tags)
+
+  abbrev t2 : ℕ
+  t2 = tagIn r2 second a2 x2 (constants .tags)
+
+  abbrev t3 : ℕ
+  t3 = tagIn r3 third a3 x3 (constants .tags)
+
+  found-here : allFoundAt (memory tags words) constants (roles r1 r2 r3) first second third o1 o2 o3 ≡ operandsAt r1 r2 r3 first second third o1 o2 o3 t1 w1 t2 w2 t3 w3
   unfolding allFoundAt foundAt
   found-here = rw (p1 .holds, p2 .holds, p3 .holds)
 
   -- sources are set empty first, then the destination is written
-  sources-tags : storedOne tagOf (registerWindow row) (leftOf (foundWith r3 third o3 (cell x3 w3))) (storedOne tagOf (registerWindow row) (leftOf (foundWith r2 second o2 (cell x2 w2))) (storedOne tagOf (registerWindow row) (leftOf (foundWith r1 first o1 (cell x1 w1))) tags)) ≡ leftIn r3 third a3 x3 (leftIn r2 second a2 x2 (leftIn r1 first a1 x1 tags))
+  sources-tags : storedOne tagOf (registerWindow row) (leftOf (foundWith r3 third o3 (cell t3 w3))) (storedOne tagOf (registerWindow row) (leftOf (foundWith r2 second o2 (cell t2 w2))) (storedOne tagOf (registerWindow row) (leftOf (foundWith r1 first o1 (cell t1 w1))) tags)) ≡ leftIn r3 third a3 x3 (leftIn r2 second a2 x2 (leftIn r1 first a1 x1 tags))
   unfolding leftOf
   sources-tags = rw (p1 .tagsLeft tags, p2 .tagsLeft (leftIn r1 first a1 x1 tags), p3 .tagsLeft (leftIn r2 second a2 x2 (leftIn r1 first a1 x1 tags)))
 
-  sources-words : storedOne wordOf (registerWindow row) (leftOf (foundWith r3 third o3 (cell x3 w3))) (storedOne wordOf (registerWindow row) (leftOf (foundWith r2 second o2 (cell x2 w2))) (storedOne wordOf (registerWindow row) (leftOf (foundWith r1 first o1 (cell x1 w1))) words)) ≡ words
+  sources-words : storedOne wordOf (registerWindow row) (leftOf (foundWith r3 third o3 (cell t3 w3))) (storedOne wordOf (registerWindow row) (leftOf (foundWith r2 second o2 (cell t2 w2))) (storedOne wordOf (registerWindow row) (leftOf (foundWith r1 first o1 (cell t1 w1))) words)) ≡ words
   unfolding leftOf
   sources-words = rw (p1 .wordsLeft, p2 .wordsLeft, p3 .wordsLeft)
 
   -- an execution without a destination
   pub executes-sources : (datum : Write) (fate : Fate) (r : Course) (psws′ tags′ : List ℕ) (n′ : Memory) → r ≡ fateCourse fate → psws′ ≡ fatePsws pt fresh fate psws
       → tags′ ≡ leftIn r3 third a3 x3 (leftIn r2 second a2 x2 (leftIn r1 first a1 x1 tags)) → n′ ≡ written (dataWordWindow row) (datum ∷ []) n
-      → Performs row (executed (operandsAt r1 r2 r3 first second third o1 o2 o3 x1 w1 x2 w2 x3 w3) Nothing datum fate) pt fresh r psws psws′ (memory tags words) (memory tags′ words) n n′
+      → Performs row (executed (operandsAt r1 r2 r3 first second third o1 o2 o3 t1 w1 t2 w2 t3 w3) Nothing datum fate) pt fresh r psws psws′ (memory tags words) (memory tags′ words) n n′
   unfolding executed written storedAll storedOne
   executes-sources datum fate r psws′ tags′ n′ c f t h =
       performs-executes row pt fresh psws (memory tags words) n _ r psws′ (memory tags′ words) n′ c f (rw (t, sources-tags, sources-words)) h
@@ -95,7 +105,7 @@ module _ (row : Row) (tags words constants : List ℕ) (first second third : ℕ
       → r ≡ fateCourse fate → psws′ ≡ fatePsws pt fresh fate psws
       → tags′ ≡ set (leftIn r3 third a3 x3 (leftIn r2 second a2 x2 (leftIn r1 first a1 x1 tags))) d (destinationTag (accessOf first) (out .quality))
       → words′ ≡ set words d (out .word) → n′ ≡ written (dataWordWindow row) (datum ∷ []) n
-      → Performs row (executed (operandsAt r1 r2 r3 first second third o1 o2 o3 x1 w1 x2 w2 x3 w3) (resultIn (foundWith r1 first o1 (cell x1 w1)) out) datum fate)
+      → Performs row (executed (operandsAt r1 r2 r3 first second third o1 o2 o3 t1 w1 t2 w2 t3 w3) (resultIn (foundWith r1 first o1 (cell t1 w1)) out) datum fate)
       pt fresh r psws psws′ (memory tags words) (memory tags′ words′) n n′
   unfolding executed written storedAll storedOne resultIn
   executes-result d z out datum fate r psws′ tags′ words′ n′ c f t w h =
@@ -112,9 +122,10 @@ module _ (row : Row) (tags words constants : List ℕ) (first second third : ℕ
 
   module _ (op : Operation) (v : Environment) (i : Instruction) (waits : Bool)
       (w : waits ≡ waitsIn r1 (accessOf first) x1 || (waitsIn r2 (accessOf second) x2 || waitsIn r3 (accessOf third) x3)) where
-    here-waits : operandsWait (operandsAt r1 r2 r3 first second third o1 o2 o3 x1 w1 x2 w2 x3 w3) ≡ waits
+    here-waits : operandsWait (operandsAt r1 r2 r3 first second third o1 o2 o3 t1 w1 t2 w2 t3 w3) ≡ waits
     unfolding operandsWait operandWaits
-    here-waits = rw (waits-in r1 (accessOf first) x1, waits-in r2 (accessOf second) x2, waits-in r3 (accessOf third) x3) (sym w)
+    here-waits =
+        rw (waits-in r1 (accessOf first) t1, waits-in r2 (accessOf second) t2, waits-in r3 (accessOf third) t3, p1 .waits, p2 .waits, p3 .waits) (sym w)
 
     pub found-waits : waits ≡ true
         → Performs row (decideFound op v i (allFoundAt (memory tags words) constants (roles r1 r2 r3) first second third o1 o2 o3))
@@ -125,10 +136,10 @@ module _ (row : Row) (tags words constants : List ℕ) (first second third : ℕ
         (performs-waits row pt fresh psws (memory tags words) n Access)
 
     module _ (free : waits ≡ false) (psw : ℕ) (of : v .psw ≡ psw) (masked : Bool)
-        (m : masked ≡ maskedIn r1 psw x1 || (maskedIn r2 psw x2 || maskedIn r3 psw x3)) where
-      here-masked : operandsMasked (v .psw) (operandsAt r1 r2 r3 first second third o1 o2 o3 x1 w1 x2 w2 x3 w3) ≡ masked
+        (m : masked ≡ maskedIn r1 psw t1 || (maskedIn r2 psw t2 || maskedIn r3 psw t3)) where
+      here-masked : operandsMasked (v .psw) (operandsAt r1 r2 r3 first second third o1 o2 o3 t1 w1 t2 w2 t3 w3) ≡ masked
       unfolding operandsMasked operandMasked
-      here-masked = rw (of, masked-in r1 psw x1, masked-in r2 psw x2, masked-in r3 psw x3) (sym m)
+      here-masked = rw (of, masked-in r1 psw t1, masked-in r2 psw t2, masked-in r3 psw t3) (sym m)
 
       pub found-masked : masked ≡ true → psw ≡ getD psws pt 0
           → Performs row (decideFound op v i (allFoundAt (memory tags words) constants (roles r1 r2 r3) first second third o1 o2 o3))
@@ -139,7 +150,7 @@ module _ (row : Row) (tags words constants : List ℕ) (first second third : ℕ
           (performs-traps row pt fresh psws (memory tags words) n trap.DataException (v .psw) go.DataException refl (of ∙ own))
 
       -- else it does what the operation performs
-      pub found-performs : masked ≡ false → (d : Decision) → d ≡ perform op v i (operandsAt r1 r2 r3 first second third o1 o2 o3 x1 w1 x2 w2 x3 w3)
+      pub found-performs : masked ≡ false → (d : Decision) → d ≡ perform op v i (operandsAt r1 r2 r3 first second third o1 o2 o3 t1 w1 t2 w2 t3 w3)
           → (r : Course) (psws′ : List ℕ) (m′ n′ : Memory) → Performs row d pt fresh r psws psws′ (memory tags words) m′ n n′
           → Performs row (decideFound op v i (allFoundAt (memory tags words) constants (roles r1 r2 r3) first second third o1 o2 o3))
           pt fresh r psws psws′ (memory tags words) m′ n n′
@@ -148,7 +159,7 @@ module _ (row : Row) (tags words constants : List ℕ) (first second third : ℕ
           performs-along row d _ pt fresh r psws psws′ (memory tags words) m′ n n′ (rw (found-here, here-waits, free, here-masked, e) k) p
 
       -- an operation without a destination that leaves the data words
-      pub found-executes : masked ≡ false → (f : Fate) → executed (operandsAt r1 r2 r3 first second third o1 o2 o3 x1 w1 x2 w2 x3 w3) Nothing Nothing f ≡ perform op v i (operandsAt r1 r2 r3 first second third o1 o2 o3 x1 w1 x2 w2 x3 w3)
+      pub found-executes : masked ≡ false → (f : Fate) → executed (operandsAt r1 r2 r3 first second third o1 o2 o3 t1 w1 t2 w2 t3 w3) Nothing Nothing f ≡ perform op v i (operandsAt r1 r2 r3 first second third o1 o2 o3 t1 w1 t2 w2 t3 w3)
           → (r : Course) (psws′ tags′ : List ℕ) → r ≡ fateCourse f → psws′ ≡ fatePsws pt fresh f psws → tags′ ≡ leftIn r3 third a3 x3 (leftIn r2 second a2 x2 (leftIn r1 first a1 x1 tags))
           → Performs row (decideFound op v i (allFoundAt (memory tags words) constants (roles r1 r2 r3) first second third o1 o2 o3))
           pt fresh r psws psws′ (memory tags words) (memory tags′ words) n n
@@ -157,7 +168,7 @@ module _ (row : Row) (tags words constants : List ℕ) (first second third : ℕ
 
       -- an operation that writes a result and leaves the data words
       pub found-writes : masked ≡ false → (out : Outcome) (f : Fate)
-          → executed (operandsAt r1 r2 r3 first second third o1 o2 o3 x1 w1 x2 w2 x3 w3) (resultIn (foundWith r1 first o1 (cell x1 w1)) out) Nothing f ≡ perform op v i (operandsAt r1 r2 r3 first second third o1 o2 o3 x1 w1 x2 w2 x3 w3)
+          → executed (operandsAt r1 r2 r3 first second third o1 o2 o3 t1 w1 t2 w2 t3 w3) (resultIn (foundWith r1 first o1 (cell t1 w1)) out) Nothing f ≡ perform op v i (operandsAt r1 r2 r3 first second third o1 o2 o3 t1 w1 t2 w2 t3 w3)
           → (d : ℕ) → Destined row o1 d → (r : Course) (psws′ tags′ words′ : List ℕ) → r ≡ fateCourse f → psws′ ≡ fatePsws pt fresh f psws
           → tags′ ≡ set (leftIn r3 third a3 x3 (leftIn r2 second a2 x2 (leftIn r1 first a1 x1 tags))) d (destinationTag (accessOf first) (out .quality)) → words′ ≡ set words d (out .word)
           → Performs row (decideFound op v i (allFoundAt (memory tags words) constants (roles r1 r2 r3) first second third o1 o2 o3))
@@ -166,7 +177,7 @@ module _ (row : Row) (tags words constants : List ℕ) (first second third : ℕ
           found-performs e _ k r psws′ (memory tags′ words′) n (executes-result d z out Nothing f r psws′ tags′ words′ n c g t w (no-datum row n))
 
       -- the same, ending with PC + 1
-      pub found-result : masked ≡ false → (out : Outcome) → performResult v (operandsAt r1 r2 r3 first second third o1 o2 o3 x1 w1 x2 w2 x3 w3) out ≡ perform op v i (operandsAt r1 r2 r3 first second third o1 o2 o3 x1 w1 x2 w2 x3 w3) → (d : ℕ) → Destined row o1 d
+      pub found-result : masked ≡ false → (out : Outcome) → performResult v (operandsAt r1 r2 r3 first second third o1 o2 o3 t1 w1 t2 w2 t3 w3) out ≡ perform op v i (operandsAt r1 r2 r3 first second third o1 o2 o3 t1 w1 t2 w2 t3 w3) → (d : ℕ) → Destined row o1 d
           → (r : Course) (next : ℕ) (psws′ tags′ words′ : List ℕ) → r ≡ go.Continues → next ≡ nextOf psw → psws′ ≡ set psws pt next
           → tags′ ≡ set (leftIn r3 third a3 x3 (leftIn r2 second a2 x2 (leftIn r1 first a1 x1 tags))) d (destinationTag (accessOf first) (out .quality))
           → words′ ≡ set words d (out .word)

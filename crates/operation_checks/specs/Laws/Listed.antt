@@ -25,7 +25,7 @@ use Rattle.operation.specs.Laws.Found.{refused, no-first, no-second, no-third, 
 use Rattle.step.specs.Code.Performs.{trapCourse, Performs}
 use Rattle.step.specs.Laws.Performs.{performs-along, performs-traps}
 
-module _ (r : Roles) (op : Operation) (row : Row) (psw flag : ℕ) (program constants : List ℕ) (m n : Memory) (i : Instruction) (pt fresh : ℕ) (psws : List ℕ) where
+module _ (r : Roles) (op : Operation) (row : Row) (psw flag : ℕ) (program : List ℕ) (constants m n : Memory) (i : Instruction) (pt fresh : ℕ) (psws : List ℕ) where
   pub listed-illegal : psw ≡ getD psws pt 0 → illegalInstruction r op i ≡ true
       → Performs row (decideListed r op (environmentOf row psw flag program constants m n) i) pt fresh go.IllegalInstruction psws psws m m n n
   unfolding trapCourse

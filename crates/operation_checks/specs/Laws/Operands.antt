@@ -1,31 +1,33 @@
 -- Operands by numbers against what the definitions say of them, for any role.
-use Prim.Native.Nat.{ℕ, _+_, _/_, _%_, _^_}
+use Prim.Native.Nat.{ℕ, _+_, _/_, _%_, _^_, _<_}
 use mathlib.Core.Path.{_≡_, refl, sym, ap, _∙_, subst}
 use mathlib.Core.Bool.{Bool, true, false, cond, _||_, _&&_}
 use mathlib.Core.List.{List}
 use lib.Dec.{eqb}
 use lib.ListN.{getD, set}
 use lib.Seq.{set-getD}
-use borrow.Author.Tests.{eqb-true}
+use native.Mathlib.Omega.{arith}
+use borrow.Author.Tests.{eqb-true, lt-leb, lt-ltb}
+use Rattle.word.specs.Tests.{tests, holdsOf}
 use Rattle.word.specs.Laws.Bools.{Eq?, same, differ, eq?, and-left, and-right}
 use Rattle.window.specs.declared.Row.{Row}
 use Rattle.window.specs.declared.Cell.{Cell}
 use Rattle.window.specs.declared.Window.{Window}
 use Rattle.window.specs.declared.Write.the-variants.{Nothing}
 use Rattle.window.specs.Windows.{inside, registerWindow}
-use Rattle.window.specs.Memories.{memory, cell, cellAt, stored, storedOne, tagOf, wordOf}
+use Rattle.window.specs.Memories.{Memory, memory, cell, cellAt, constantAt, qualityIn, stored, storedOne, tagOf, wordOf}
 use Rattle.operand.specs.declared.Role.{Role}
 use Rattle.operand.specs.declared.Role.the-variants.{Unused, Free, Destination, Source}
 use Rattle.operand.specs.declared.Operand.{Operand}
-use Rattle.operand.specs.declared.Operand.the-variants.{Register, Absent}
+use Rattle.operand.specs.declared.Operand.the-variants.{Register, Constant, Absent}
 use Rattle.operand.specs.declared.Lookup.the-variants.{Found}
 use Rattle.operand.specs.Field.{constantOf, accessOf, lookupOf}
 use Rattle.operand.specs.Access.{accessCodes, codeLine, sourceWaits, destinationWaits, waitsOf, maskedOf, emptying, sourceLeft, destinationTag}
-use Rattle.operand.specs.Code.Cells.{operandCell}
+use Rattle.operand.specs.Code.Cells.{operandCell, heldCell, sourceTag}
 use Rattle.operand.specs.Laws.Access.{source-emptied-by}
 use Rattle.operand.specs.Code.Spans.{numberIn, released}
-use Rattle.operand.specs.Laws.Spans.{destination-register, destination-inside, source-register, source-inside}
-use Rattle.operation_checks.specs.Code.Operands.{Destined, Sourced, waitsIn, maskedIn, leftIn}
+use Rattle.operand.specs.Laws.Spans.{destination-register, destination-inside, source-constant, source-plain, source-register, source-inside}
+use Rattle.operation_checks.specs.Code.Operands.{Destined, Sourced, tagIn, waitsIn, maskedIn, leftIn}
 
 pub waits-in : (r : Role) (ac tag : ℕ) → waitsOf r ac tag ≡ waitsIn r ac tag
 unfolding waitsOf
@@ -118,58 +120,104 @@ released-told f a x g b y l m n e k = e ∙ ap (released g b y) k
 pub put-told : (d t u : ℕ) (l m n : List ℕ) → n ≡ set m d t → m ≡ l → t ≡ u → n ≡ set l d u
 put-told d t u l m n e f g = rw (← f, ← g) e
 
+-- ---- the tag that code holds of a source, and its tag before the step: they differ where it is a constant
+
+-- a constant has no access code
+constant-access : (f : ℕ) → constantOf f ≡ true → accessOf f ≡ 0
+unfolding accessOf
+constant-access f e = rw e
+
+-- one that has an access code is no constant
+tag-tested : (f a x : ℕ) (q : List ℕ) → (accessOf f ≡ 0 → ⊥) → sourceTag f a x q ≡ x
+unfolding sourceTag
+tag-tested f a x q n = go (constantOf f) refl
+  where
+    go : (b : Bool) → constantOf f ≡ b → cond b (qualityIn (getD q a 0)) x ≡ x
+    go true e = absurd (n (constant-access f e))
+    go false e = refl
+
+held-waits : (f a x : ℕ) (q : List ℕ) → waitsOf Source (accessOf f) (sourceTag f a x q) ≡ waitsOf Source (accessOf f) x
+unfolding sourceTag waitsOf sourceWaits codeLine accessCodes
+held-waits f a x q = go (constantOf f) refl
+  where
+    go : (b : Bool) → constantOf f ≡ b → waitsOf Source (accessOf f) (cond b (qualityIn (getD q a 0)) x) ≡ waitsOf Source (accessOf f) x
+    go true e = rw (constant-access f e)
+    go false e = refl
+
+-- a test sees of a tag only whether it is full
+full-alike : (c w t u psw : ℕ) → t < 8 → u < 8 → holdsOf c w t psw ≡ holdsOf c w u psw
+unfolding holdsOf tests
+full-alike c w t u psw h k = rw (lt-leb 8 t h, lt-leb 8 u k, lt-ltb t 8 h, lt-ltb u 8 k)
+
+tested-alike : (f a x : ℕ) (q : List ℕ) → (constantOf f ≡ true → x ≡ 0) → (c w psw : ℕ) → holdsOf c w x psw ≡ holdsOf c w (sourceTag f a x q) psw
+unfolding sourceTag
+tested-alike f a x q h c w psw = go (constantOf f) refl
+  where
+    go : (b : Bool) → constantOf f ≡ b → holdsOf c w x psw ≡ holdsOf c w (cond b (qualityIn (getD q a 0)) x) psw
+    go true e = full-alike c w x (getD q a 0 % 8) psw (omega (arith, h e)) (omega arith)
+    go false e = refl
+
 -- ---- an operand of any role: its cell, and the tags and words once it is let go
-pub record Operated (row : Row) (tags words constants : List ℕ) (role : Role) (f : ℕ) (o : Operand) (a x s : ℕ) : Type 0 where
-  pub holds : operandCell (memory tags words) constants o ≡ cell x s
-  pub tagsLeft : (l : List ℕ) → storedOne tagOf (registerWindow row) (sourceLeft role (accessOf f) o (cell x s)) l ≡ leftIn role f a x l
-  pub wordsLeft : storedOne wordOf (registerWindow row) (sourceLeft role (accessOf f) o (cell x s)) words ≡ words
+pub record Operated (row : Row) (tags words : List ℕ) (constants : Memory) (role : Role) (f : ℕ) (o : Operand) (a x s : ℕ) : Type 0 where
+  pub holds : operandCell (memory tags words) constants o ≡ cell (tagIn role f a x (constants .tags)) s
+  pub waits : waitsIn role (accessOf f) (tagIn role f a x (constants .tags)) ≡ waitsIn role (accessOf f) x
+  pub tagsLeft : (l : List ℕ) → storedOne tagOf (registerWindow row) (sourceLeft role (accessOf f) o (cell (tagIn role f a x (constants .tags)) s)) l ≡ leftIn role f a x l
+  pub wordsLeft : storedOne wordOf (registerWindow row) (sourceLeft role (accessOf f) o (cell (tagIn role f a x (constants .tags)) s)) words ≡ words
 
 empties : (f : Cell → ℕ) (w : Window) (o : Operand) (a : ℕ) (c : Cell) (l : List ℕ) → o ≡ Register a → inside w a ≡ true
     → storedOne f w (emptying o c) l ≡ set l a (f (cell (c .tag % 8 + 8) (c .word)))
 unfolding emptying storedOne stored
 empties f w o a c l e i = rw (e, i)
 
-module _ (row : Row) (tags words constants : List ℕ) (f : ℕ) where
+module _ (row : Row) (tags words : List ℕ) (constants : Memory) (f : ℕ) where
   pub unused-operated : Operated row tags words constants Unused f Absent 0 0 0
   unfolding operandCell sourceLeft storedOne
-  unused-operated = record { holds = refl; tagsLeft = λ l. refl; wordsLeft = refl }
+  unused-operated = record { holds = refl; waits = refl; tagsLeft = λ l. refl; wordsLeft = refl }
 
   pub free-operated : Operated row tags words constants Free f Absent 0 0 0
   unfolding operandCell sourceLeft storedOne
-  free-operated = record { holds = refl; tagsLeft = λ l. refl; wordsLeft = refl }
+  free-operated = record { holds = refl; waits = refl; tagsLeft = λ l. refl; wordsLeft = refl }
 
   pub destination-operated : (o : Operand) (d : ℕ) → Destined row o d → Operated row tags words constants Destination f o d (getD tags d 0) (getD words d 0)
   unfolding operandCell cellAt sourceLeft storedOne
-  destination-operated o d p = record { holds = rw (p .register); tagsLeft = λ l. refl; wordsLeft = refl }
+  destination-operated o d p = record { holds = rw (p .register); waits = refl; tagsLeft = λ l. refl; wordsLeft = refl }
 
   module _ (o : Operand) (a x s : ℕ) (p : Sourced row tags words constants f o a x s) where
+    -- its tag before the step
+    abbrev held : ℕ
+    held = sourceTag f a x (constants .tags)
+
     -- the word that stands there is the word that is written
     its-word : accessOf f ≡ 2 → s ≡ getD words a 0
     unfolding operandCell cellAt
     its-word e =
-        let h : operandCell (memory tags words) constants (Register a) ≡ cell x s = subst (λ (z : Operand). operandCell (memory tags words) constants z ≡ cell x s) (p .register e) (p .holds) in
+        let h : operandCell (memory tags words) constants (Register a) ≡ cell held s = subst (λ (z : Operand). operandCell (memory tags words) constants z ≡ cell held s) (p .register e) (p .holds) in
         sym (ap (λ (c : Cell). c .word) h)
 
-    tags-left : (l : List ℕ) → storedOne tagOf (registerWindow row) (sourceLeft Source (accessOf f) o (cell x s)) l ≡ released f a x l
+    tags-left : (l : List ℕ) → storedOne tagOf (registerWindow row) (sourceLeft Source (accessOf f) o (cell held s)) l ≡ released f a x l
     unfolding sourceLeft released storedOne
     tags-left l = rw (source-emptied-by (accessOf f)) (go (eqb (accessOf f) 2) (eq? (accessOf f) 2))
       where
         go : (t : Bool) → Eq? (accessOf f) 2 t
-            → storedOne tagOf (registerWindow row) (cond t (emptying o (cell x s)) Nothing) l ≡ cond t (set l a (x % 8 + 8)) l
-        go true (same e) = empties tagOf (registerWindow row) o a (cell x s) l (p .register e) (p .within e)
+            → storedOne tagOf (registerWindow row) (cond t (emptying o (cell held s)) Nothing) l ≡ cond t (set l a (x % 8 + 8)) l
+        go true (same e) = empties tagOf (registerWindow row) o a (cell held s) l (p .register e) (p .within e) ∙ ap (λ (t : ℕ). set l a (t % 8 + 8)) (tag-tested f a x (constants .tags) (λ z. omega (arith, e, z)))
         go false (differ h) = refl
 
-    words-left : storedOne wordOf (registerWindow row) (sourceLeft Source (accessOf f) o (cell x s)) words ≡ words
+    words-left : storedOne wordOf (registerWindow row) (sourceLeft Source (accessOf f) o (cell held s)) words ≡ words
     unfolding sourceLeft storedOne
     words-left = rw (source-emptied-by (accessOf f)) (go (eqb (accessOf f) 2) (eq? (accessOf f) 2))
       where
-        go : (t : Bool) → Eq? (accessOf f) 2 t → storedOne wordOf (registerWindow row) (cond t (emptying o (cell x s)) Nothing) words ≡ words
+        go : (t : Bool) → Eq? (accessOf f) 2 t → storedOne wordOf (registerWindow row) (cond t (emptying o (cell held s)) Nothing) words ≡ words
         go true (same e) =
-            empties wordOf (registerWindow row) o a (cell x s) words (p .register e) (p .within e) ∙ ap (set words a) (its-word e) ∙ set-getD words a 0
+            empties wordOf (registerWindow row) o a (cell held s) words (p .register e) (p .within e) ∙ ap (set words a) (its-word e) ∙ set-getD words a 0
         go false (differ h) = refl
 
     pub source-operated : Operated row tags words constants Source f o a x s
-    source-operated = record { holds = p .holds; tagsLeft = tags-left; wordsLeft = words-left }
+    source-operated = record { holds = p .holds; waits = held-waits f a x (constants .tags); tagsLeft = tags-left; wordsLeft = words-left }
+
+    -- every test sees a constant as full
+    pub held-test : (c w psw : ℕ) → holdsOf c w x psw ≡ holdsOf c w held psw
+    held-test c w psw = tested-alike f a x (constants .tags) (p .full) c w psw
 
 -- ---- what a lookup finds
 pub destined : (row : Row) (psw f : ℕ) (o : Operand) (d : ℕ) → lookupOf Destination row psw f ≡ Found o → d ≡ numberIn o → Destined row o d
@@ -177,10 +225,21 @@ destined row psw f o d e k =
     let r : o ≡ Register d = destination-register row psw f o e ∙ ap Register (sym k) in
     record { register = r; within = destination-inside row psw f o d e r }
 
-pub sourced : (row : Row) (tags words constants : List ℕ) (psw f : ℕ) (o : Operand) (c : Cell) (a : ℕ) → lookupOf Source row psw f ≡ Found o
-    → c ≡ operandCell (memory tags words) constants o → a ≡ numberIn o → Sourced row tags words constants f o a (c .tag) (c .word)
+pub sourced : (row : Row) (tags words : List ℕ) (constants : Memory) (psw f : ℕ) (o : Operand) (c : Cell) (a : ℕ) → lookupOf Source row psw f ≡ Found o
+    → c ≡ heldCell (memory tags words) (constants .words) o → a ≡ numberIn o → Sourced row tags words constants f o a (c .tag) (c .word)
+unfolding operandCell heldCell constantAt sourceTag
 sourced row tags words constants psw f o c a e h k = record {
   register = λ two. source-register row psw f o e two ∙ ap Register (sym k);
   within = λ two. source-inside row psw f o a e (source-register row psw f o e two ∙ ap Register (sym k));
-  holds = sym h;
+  full = λ z. ap (λ (y : Cell). y .tag) (h ∙ ap (heldCell (memory tags words) (constants .words)) (source-constant row psw f o e z));
+  holds = go (constantOf f) refl;
 }
+  where
+    go : (b : Bool) → constantOf f ≡ b → operandCell (memory tags words) constants o ≡ cell (cond b (qualityIn (getD (constants .tags) a 0)) (c .tag)) (c .word)
+    go true z =
+        let q : o ≡ Constant a = source-constant row psw f o e z ∙ ap Constant (sym k) in
+        ap (operandCell (memory tags words) constants) q
+        ∙ ap (cell (qualityIn (getD (constants .tags) a 0))) (sym (ap (λ (y : Cell). y .word) (h ∙ ap (heldCell (memory tags words) (constants .words)) q)))
+    go false z =
+        let q : o ≡ Register a = source-plain row psw f o e z ∙ ap Register (sym k) in
+        ap (operandCell (memory tags words) constants) q ∙ sym (h ∙ ap (heldCell (memory tags words) (constants .words)) q)

@@ -34,19 +34,19 @@ module _ (v : Environment) (i : Instruction) (s : FoundOperands) (psw : ℕ) (of
   unfolding perform
   nop-performed = rw of
 
-  pub branch-performed : (c p first : ℕ) → i .first ≡ first
+  pub branch-performed : (c p first y : ℕ) → i .first ≡ first → holdsOf c (s .third .cell .word) y psw ≡ holdsOf c (s .third .cell .word) (s .third .cell .tag) psw
       → executed s Nothing Nothing
-      (Continues (cond (holdsOf c (s .third .cell .word) (s .third .cell .tag) psw) (branched psw (p * 2 ^ 16 + first) (s .second .cell .word)) (nextOf psw)))
+      (Continues (cond (holdsOf c (s .third .cell .word) y psw) (branched psw (p * 2 ^ 16 + first) (s .second .cell .word)) (nextOf psw)))
       ≡ perform (operation.Branch c p) v i s
   unfolding perform performBranch testOf
-  branch-performed c p first e = rw (of, e)
+  branch-performed c p first y e h = rw (of, e, h)
 
-  pub call-performed : (c w : ℕ) → w ≡ nextOf psw
+  pub call-performed : (c w y : ℕ) → w ≡ nextOf psw → holdsOf c (s .third .cell .word) y psw ≡ holdsOf c (s .third .cell .word) (s .third .cell .tag) psw
       → executed s (resultIn (s .first) (quality0 w)) Nothing
-      (Continues (cond (holdsOf c (s .third .cell .word) (s .third .cell .tag) psw) (called psw (s .second .cell .word)) (nextOf psw)))
+      (Continues (cond (holdsOf c (s .third .cell .word) y psw) (called psw (s .second .cell .word)) (nextOf psw)))
       ≡ perform (operation.Call c) v i s
   unfolding perform performCall testOf
-  call-performed c w e = rw (of, e)
+  call-performed c w y e h = rw (of, e, h)
 
   module _ (c : ℕ) (t : Bool) (h : t ≡ holdsOf c (s .third .cell .word) (s .third .cell .tag) psw) where
     pub quits : t ≡ true → executed s Nothing Nothing Quits ≡ perform (operation.Quit c) v i s

@@ -22,7 +22,7 @@ same-length : tie.Need-same-length
 same-length c = search needs
 
 returns : tie.Need-returns
-returns c = λ row i flag fresh program constants od oa ob span own dd pa pb. found-waits _ _ _ _ _ _ _ _ _ _ _ _ (destination-operated _ _ _ _ _ _ _ dd) _ _ _ _ _ (source-operated _ _ _ _ _ _ _ _ _ pa) _ _ _ _ _ (source-operated _ _ _ _ _ _ _ _ _ pb) _ _ _ _ _ _ _ _ (c .before .waits-d-s1-s2 .ensures) (c .if1 .taken)
+returns c = λ row i flag fresh program constantWords od oa ob span own dd pa pb. found-waits _ _ _ _ _ _ _ _ _ _ _ _ (destination-operated _ _ _ _ _ _ _ dd) _ _ _ _ _ (source-operated _ _ _ _ _ _ _ _ _ pa) _ _ _ _ _ (source-operated _ _ _ _ _ _ _ _ _ pb) _ _ _ _ _ _ _ _ (c .before .waits-d-s1-s2 .ensures) (c .if1 .taken)
 
 masked-s1-s2-requires : tie.Need-masked-s1-s2-requires
 masked-s1-s2-requires c κs = search needs
@@ -32,7 +32,7 @@ same-length-2 c = search needs
 
 returns-2 : tie.Need-returns-2
 unfolding environmentOf
-returns-2 c = λ row i flag fresh program constants od oa ob span own dd pa pb. found-masked _ _ _ _ _ _ _ _ _ _ _ _ (destination-operated _ _ _ _ _ _ _ dd) _ _ _ _ _ (source-operated _ _ _ _ _ _ _ _ _ pa) _ _ _ _ _ (source-operated _ _ _ _ _ _ _ _ _ pb) _ _ _ _ _ _ _ _ (c .before .before .before .waits-d-s1-s2 .ensures) (c .before .before .if1 .left) _ refl _ (c .before .masked-s1-s2 .ensures) (c .if2 .taken) own
+returns-2 c = λ row i flag fresh program constantWords od oa ob span own dd pa pb. found-masked _ _ _ _ _ _ _ _ _ _ _ _ (destination-operated _ _ _ _ _ _ _ dd) _ _ _ _ _ (source-operated _ _ _ _ _ _ _ _ _ pa) _ _ _ _ _ (source-operated _ _ _ _ _ _ _ _ _ pb) _ _ _ _ _ _ _ _ (c .before .before .before .waits-d-s1-s2 .ensures) (c .before .before .if1 .left) _ refl _ (c .before .masked-s1-s2 .ensures) (c .if2 .taken) own
 
 indexed-address-requires : tie.Need-indexed-address-requires
 indexed-address-requires c κs = search needs
@@ -63,7 +63,7 @@ same-length-4 c = search needs
 
 returns-3 : tie.Need-returns-3
 unfolding environmentOf
-returns-3 c = λ row i flag fresh program constants od oa ob span own dd pa pb. found-performs _ _ _ _ _ _ _ _ _ _ _ _ (destination-operated _ _ _ _ _ _ _ dd) _ _ _ _ _ (source-operated _ _ _ _ _ _ _ _ _ pa) _ _ _ _ _ (source-operated _ _ _ _ _ _ _ _ _ pb) _ _ _ _ _ _ _ _ (c .before .before .before .before .before .before .before .before .before .before .before .before .waits-d-s1-s2 .ensures) (c .before .before .before .before .before .before .before .before .before .before .before .if1 .left) _ refl _ (c .before .before .before .before .before .before .before .before .before .before .masked-s1-s2 .ensures) (c .before .before .before .before .before .before .before .before .before .if2 .left) _ (load-seen row _ _ _ _ _ _ _ _ _ _ _ (reach row _ _ _ _ span _ _ (c .before .before .before .before .before .before .before .word-place .ensures) (c .before .before .before .before .before .p .given .1)) _ (c .before .before .tag-at .ensures) _ _ _ refl (c .before .load-waits .ensures) (c .if3 .taken) ∙ loads-indexed row _ _ _ _ _ _ _ _ _ _ _ _ (reach row _ _ _ _ span _ _ (c .before .before .before .before .before .before .before .word-place .ensures) (c .before .before .before .before .before .p .given .1)) (c .before .before .before .before .before .before .before .before .indexed-address .ensures)) _ _ _ _ (performs-waits row _ _ _ _ _ Data)
+returns-3 c = λ row i flag fresh program constantWords od oa ob span own dd pa pb. found-performs _ _ _ _ _ _ _ _ _ _ _ _ (destination-operated _ _ _ _ _ _ _ dd) _ _ _ _ _ (source-operated _ _ _ _ _ _ _ _ _ pa) _ _ _ _ _ (source-operated _ _ _ _ _ _ _ _ _ pb) _ _ _ _ _ _ _ _ (c .before .before .before .before .before .before .before .before .before .before .before .before .waits-d-s1-s2 .ensures) (c .before .before .before .before .before .before .before .before .before .before .before .if1 .left) _ refl _ (c .before .before .before .before .before .before .before .before .before .before .masked-s1-s2 .ensures) (c .before .before .before .before .before .before .before .before .before .if2 .left) _ (load-seen row _ _ _ _ _ _ _ _ _ _ _ (reach row _ _ _ _ span _ _ (c .before .before .before .before .before .before .before .word-place .ensures) (c .before .before .before .before .before .p .given .1)) _ (c .before .before .tag-at .ensures) _ _ _ refl (c .before .load-waits .ensures) (c .if3 .taken) ∙ loads-indexed row _ _ _ _ _ _ _ _ _ _ _ _ (reach row _ _ _ _ span _ _ (c .before .before .before .before .before .before .before .word-place .ensures) (c .before .before .before .before .before .p .given .1)) (c .before .before .before .before .before .before .before .before .indexed-address .ensures)) _ _ _ _ (performs-waits row _ _ _ _ _ Data)
 
 word-at-requires : tie.Need-word-at-requires
 word-at-requires c κs = search needs
@@ -85,14 +85,14 @@ same-length-5 c = search needs
 
 returns-4 : tie.Need-returns-4
 unfolding environmentOf reachOf loadFrom trapCourse
-returns-4 c = λ row i flag fresh program constants od oa ob span own dd pa pb. found-performs _ _ _ _ _ _ _ _ _ _ _ _ (destination-operated _ _ _ _ _ _ _ dd) _ _ _ _ _ (source-operated _ _ _ _ _ _ _ _ _ pa) _ _ _ _ _ (source-operated _ _ _ _ _ _ _ _ _ pb) _ _ _ _ _ _ _ _ (c .before .before .before .before .before .before .before .waits-d-s1-s2 .ensures) (c .before .before .before .before .before .before .if1 .left) _ refl _ (c .before .before .before .before .before .masked-s1-s2 .ensures) (c .before .before .before .before .if2 .left) _ (loads-indexed row _ _ _ _ _ _ _ _ _ _ _ Violation (reach row _ _ _ _ span _ _ (c .before .before .word-place .ensures) (c .enum-told .given .1)) (c .before .before .before .indexed-address .ensures)) _ _ _ _ (performs-traps row _ _ _ _ _ ProtectionViolation _ _ refl own)
+returns-4 c = λ row i flag fresh program constantWords od oa ob span own dd pa pb. found-performs _ _ _ _ _ _ _ _ _ _ _ _ (destination-operated _ _ _ _ _ _ _ dd) _ _ _ _ _ (source-operated _ _ _ _ _ _ _ _ _ pa) _ _ _ _ _ (source-operated _ _ _ _ _ _ _ _ _ pb) _ _ _ _ _ _ _ _ (c .before .before .before .before .before .before .before .waits-d-s1-s2 .ensures) (c .before .before .before .before .before .before .if1 .left) _ refl _ (c .before .before .before .before .before .masked-s1-s2 .ensures) (c .before .before .before .before .if2 .left) _ (loads-indexed row _ _ _ _ _ _ _ _ _ _ _ Violation (reach row _ _ _ _ span _ _ (c .before .before .word-place .ensures) (c .enum-told .given .1)) (c .before .before .before .indexed-address .ensures)) _ _ _ _ (performs-traps row _ _ _ _ _ ProtectionViolation _ _ refl own)
 
 same-length-6 : tie.Need-same-length-6
 same-length-6 c = search needs
 
 returns-5 : tie.Need-returns-5
 unfolding environmentOf reachOf loadFrom trapCourse
-returns-5 c = λ row i flag fresh program constants od oa ob span own dd pa pb. found-performs _ _ _ _ _ _ _ _ _ _ _ _ (destination-operated _ _ _ _ _ _ _ dd) _ _ _ _ _ (source-operated _ _ _ _ _ _ _ _ _ pa) _ _ _ _ _ (source-operated _ _ _ _ _ _ _ _ _ pb) _ _ _ _ _ _ _ _ (c .before .before .before .before .before .before .before .waits-d-s1-s2 .ensures) (c .before .before .before .before .before .before .if1 .left) _ refl _ (c .before .before .before .before .before .masked-s1-s2 .ensures) (c .before .before .before .before .if2 .left) _ (loads-indexed row _ _ _ _ _ _ _ _ _ _ _ Simulated (reach row _ _ _ _ span _ _ (c .before .before .word-place .ensures) (c .enum-told2 .given .1)) (c .before .before .before .indexed-address .ensures)) _ _ _ _ (performs-traps row _ _ _ _ _ SimulatedInstruction _ _ refl own)
+returns-5 c = λ row i flag fresh program constantWords od oa ob span own dd pa pb. found-performs _ _ _ _ _ _ _ _ _ _ _ _ (destination-operated _ _ _ _ _ _ _ dd) _ _ _ _ _ (source-operated _ _ _ _ _ _ _ _ _ pa) _ _ _ _ _ (source-operated _ _ _ _ _ _ _ _ _ pb) _ _ _ _ _ _ _ _ (c .before .before .before .before .before .before .before .waits-d-s1-s2 .ensures) (c .before .before .before .before .before .before .if1 .left) _ refl _ (c .before .before .before .before .before .masked-s1-s2 .ensures) (c .before .before .before .before .if2 .left) _ (loads-indexed row _ _ _ _ _ _ _ _ _ _ _ Simulated (reach row _ _ _ _ span _ _ (c .before .before .word-place .ensures) (c .enum-told2 .given .1)) (c .before .before .before .indexed-address .ensures)) _ _ _ _ (performs-traps row _ _ _ _ _ SimulatedInstruction _ _ refl own)
 
 same-length-7 : tie.Need-same-length-7
 same-length-7 c = search needs
@@ -108,7 +108,7 @@ same-length-10 c = search needs
 
 returns-6 : tie.Need-returns-6
 unfolding environmentOf fateCourse
-returns-6 c = λ row i flag fresh program constants od oa ob span own dd pa pb. found-performs _ _ _ _ _ _ _ _ _ _ _ _ (destination-operated _ _ _ _ _ _ _ dd) _ _ _ _ _ (source-operated _ _ _ _ _ _ _ _ _ pa) _ _ _ _ _ (source-operated _ _ _ _ _ _ _ _ _ pb) _ _ _ _ _ _ _ _ (c .before .before .before .before .before .before .before .before .before .before .before .before .before .before .before .before .before .before .before .before .before .before .before .before .before .before .before .before .before .waits-d-s1-s2 .ensures) (c .before .before .before .before .before .before .before .before .before .before .before .before .before .before .before .before .before .before .before .before .before .before .before .before .before .before .before .before .if1 .left) _ refl _ (c .before .before .before .before .before .before .before .before .before .before .before .before .before .before .before .before .before .before .before .before .before .before .before .before .before .before .before .masked-s1-s2 .ensures) (c .before .before .before .before .before .before .before .before .before .before .before .before .before .before .before .before .before .before .before .before .before .before .before .before .before .before .if2 .left) _ (load-seen row _ _ _ _ _ _ _ _ _ _ _ (reach row _ _ _ _ span _ _ (c .before .before .before .before .before .before .before .before .before .before .before .before .before .before .before .before .before .before .before .before .before .before .before .before .word-place .ensures) (c .before .before .before .before .before .before .before .before .before .before .before .before .before .before .before .before .before .before .before .before .before .before .p .given .1)) _ (c .before .before .before .before .before .before .before .before .before .before .before .before .before .before .before .before .before .before .before .tag-at .ensures) _ _ _ (c .before .before .before .before .before .before .before .before .before .before .before .before .before .before .before .before .word-at .ensures) (c .before .before .before .before .before .before .before .before .before .before .before .before .before .before .before .before .before .before .load-waits .ensures) (c .before .before .before .before .before .before .before .before .before .before .before .before .before .before .before .before .before .if3 .left) ∙ loads-indexed row _ _ _ _ _ _ _ _ _ _ _ _ (reach row _ _ _ _ span _ _ (c .before .before .before .before .before .before .before .before .before .before .before .before .before .before .before .before .before .before .before .before .before .before .before .before .word-place .ensures) (c .before .before .before .before .before .before .before .before .before .before .before .before .before .before .before .before .before .before .before .before .before .before .p .given .1)) (c .before .before .before .before .before .before .before .before .before .before .before .before .before .before .before .before .before .before .before .before .before .before .before .before .before .indexed-address .ensures)) _ _ _ _ (executes-result _ _ _ _ _ _ _ _ _ _ _ _ (destination-operated _ _ _ _ _ _ _ dd) _ _ _ _ _ (source-operated _ _ _ _ _ _ _ _ _ pa) _ _ _ _ _ (source-operated _ _ _ _ _ _ _ _ _ pb) _ _ _ _ _ dd _ _ _ _ _ _ _ _ (c .before .before .continues .ensures .0) (goes-on _ _ _ _ _ _ (c .before .before .continues .ensures .1) (c .before .before .before .next .ensures)) (c .before .before .before .before .before .before .before .before .before .before .before .before .before .write-d-s1-s2 .ensures .0) (c .before .before .before .before .before .before .before .before .before .before .before .before .before .write-d-s1-s2 .ensures .1) (load-left row _ _ _ (reach row _ _ _ _ span _ _ (c .before .before .before .before .before .before .before .before .before .before .before .before .before .before .before .before .before .before .before .before .before .before .before .before .word-place .ensures) (c .before .before .before .before .before .before .before .before .before .before .before .before .before .before .before .before .before .before .before .before .before .before .p .given .1)) _ _ _ _ (c .before .before .before .before .before .before .before .before .before .before .before .before .before .before .before .before .word-at .ensures) (c .before .before .before .before .before .before .before .load-leaves .ensures)))
+returns-6 c = λ row i flag fresh program constantWords od oa ob span own dd pa pb. found-performs _ _ _ _ _ _ _ _ _ _ _ _ (destination-operated _ _ _ _ _ _ _ dd) _ _ _ _ _ (source-operated _ _ _ _ _ _ _ _ _ pa) _ _ _ _ _ (source-operated _ _ _ _ _ _ _ _ _ pb) _ _ _ _ _ _ _ _ (c .before .before .before .before .before .before .before .before .before .before .before .before .before .before .before .before .before .before .before .before .before .before .before .before .before .before .before .before .before .waits-d-s1-s2 .ensures) (c .before .before .before .before .before .before .before .before .before .before .before .before .before .before .before .before .before .before .before .before .before .before .before .before .before .before .before .before .if1 .left) _ refl _ (c .before .before .before .before .before .before .before .before .before .before .before .before .before .before .before .before .before .before .before .before .before .before .before .before .before .before .before .masked-s1-s2 .ensures) (c .before .before .before .before .before .before .before .before .before .before .before .before .before .before .before .before .before .before .before .before .before .before .before .before .before .before .if2 .left) _ (load-seen row _ _ _ _ _ _ _ _ _ _ _ (reach row _ _ _ _ span _ _ (c .before .before .before .before .before .before .before .before .before .before .before .before .before .before .before .before .before .before .before .before .before .before .before .before .word-place .ensures) (c .before .before .before .before .before .before .before .before .before .before .before .before .before .before .before .before .before .before .before .before .before .before .p .given .1)) _ (c .before .before .before .before .before .before .before .before .before .before .before .before .before .before .before .before .before .before .before .tag-at .ensures) _ _ _ (c .before .before .before .before .before .before .before .before .before .before .before .before .before .before .before .before .word-at .ensures) (c .before .before .before .before .before .before .before .before .before .before .before .before .before .before .before .before .before .before .load-waits .ensures) (c .before .before .before .before .before .before .before .before .before .before .before .before .before .before .before .before .before .if3 .left) ∙ loads-indexed row _ _ _ _ _ _ _ _ _ _ _ _ (reach row _ _ _ _ span _ _ (c .before .before .before .before .before .before .before .before .before .before .before .before .before .before .before .before .before .before .before .before .before .before .before .before .word-place .ensures) (c .before .before .before .before .before .before .before .before .before .before .before .before .before .before .before .before .before .before .before .before .before .before .p .given .1)) (c .before .before .before .before .before .before .before .before .before .before .before .before .before .before .before .before .before .before .before .before .before .before .before .before .before .indexed-address .ensures)) _ _ _ _ (executes-result _ _ _ _ _ _ _ _ _ _ _ _ (destination-operated _ _ _ _ _ _ _ dd) _ _ _ _ _ (source-operated _ _ _ _ _ _ _ _ _ pa) _ _ _ _ _ (source-operated _ _ _ _ _ _ _ _ _ pb) _ _ _ _ _ dd _ _ _ _ _ _ _ _ (c .before .before .continues .ensures .0) (goes-on _ _ _ _ _ _ (c .before .before .continues .ensures .1) (c .before .before .before .next .ensures)) (c .before .before .before .before .before .before .before .before .before .before .before .before .before .write-d-s1-s2 .ensures .0) (c .before .before .before .before .before .before .before .before .before .before .before .before .before .write-d-s1-s2 .ensures .1) (load-left row _ _ _ (reach row _ _ _ _ span _ _ (c .before .before .before .before .before .before .before .before .before .before .before .before .before .before .before .before .before .before .before .before .before .before .before .before .word-place .ensures) (c .before .before .before .before .before .before .before .before .before .before .before .before .before .before .before .before .before .before .before .before .before .before .p .given .1)) _ _ _ _ (c .before .before .before .before .before .before .before .before .before .before .before .before .before .before .before .before .word-at .ensures) (c .before .before .before .before .before .before .before .load-leaves .ensures)))
 
 pub load-indexed-found-spec : {M : Type 1} → statement M
 load-indexed-found-spec =

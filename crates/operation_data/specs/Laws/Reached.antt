@@ -33,7 +33,7 @@ pub reach : (row : Row) (low e base end : ℕ) → Span (dataWindow row) base en
     → wordPlace low e (bytePlace row e) ≡ reachOf y
 reach row low e base end span x y r q = ap (wordPlace low e) (sym (byte-below row base end span e)) ∙ sym r ∙ ap reachOf q
 
-module _ (row : Row) (psw flag : ℕ) (program constants : List ℕ) (m : Memory) (tags words : List ℕ) (s : FoundOperands) (low e : ℕ) where
+module _ (row : Row) (psw flag : ℕ) (program : List ℕ) (constants m : Memory) (tags words : List ℕ) (s : FoundOperands) (low e : ℕ) where
   -- the four operations by what is reached, e being the byte address
   module _ (i : Instruction) (y : Reached) (at : wordPlace low e (bytePlace row e) ≡ reachOf y) where
     pub loads-indirect : e ≡ s .second .cell .word % 2 ^ 32

@@ -48,7 +48,7 @@ code-traps row v i pt fresh psws m n k l t r e d f own =
     (performs-along row _ _ pt fresh r psws psws m m n n (sym d) (performs-traps row pt fresh psws m n t (v .psw) r f own))
 
 -- ---- the instruction at PC
-module _ (row : Row) (psw flag : ℕ) (program constants : List ℕ) (m n : Memory) (base end pc : ℕ) (s : Span (programWindow row) base end) (q : pc ≡ pcOf psw)
+module _ (row : Row) (psw flag : ℕ) (program : List ℕ) (constants m n : Memory) (base end pc : ℕ) (s : Span (programWindow row) base end) (q : pc ≡ pcOf psw)
     (pt fresh : ℕ) (psws : List ℕ) where
   at-pc : (p x : Place) → p ≡ placeBelow base end pc → p ≡ x → placeIn (programWindow row) (pcOf psw) ≡ x
   at-pc p x e f = sym (place-below (programWindow row) base end s (pcOf psw)) ∙ ap (placeBelow base end) (sym q) ∙ sym e ∙ f

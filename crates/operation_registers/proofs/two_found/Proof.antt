@@ -15,7 +15,7 @@ same-length : tie.Need-same-length
 same-length c = search needs
 
 returns : tie.Need-returns
-returns c = λ op row v i constants n fresh third od oa g h k e own dd pa. found-waits _ _ _ _ _ _ _ _ _ _ _ _ (destination-operated _ _ _ _ _ _ _ dd) _ _ _ _ _ (source-operated _ _ _ _ _ _ _ _ _ pa) _ _ _ _ _ (unused-operated _ _ _ _ _) _ _ _ _ _ _ _ _ (or-one _ _ _ _ _ (c .before .waits-d-s1 .ensures)) (c .if1 .taken)
+returns c = λ op row v i constantWords n fresh third od oa g h k e own dd pa. found-waits _ _ _ _ _ _ _ _ _ _ _ _ (destination-operated _ _ _ _ _ _ _ dd) _ _ _ _ _ (source-operated _ _ _ _ _ _ _ _ _ pa) _ _ _ _ _ (unused-operated _ _ _ _ _) _ _ _ _ _ _ _ _ (or-one _ _ _ _ _ (c .before .waits-d-s1 .ensures)) (c .if1 .taken)
 
 masked-requires : tie.Need-masked-requires
 masked-requires c κs = search needs
@@ -24,7 +24,7 @@ same-length-2 : tie.Need-same-length-2
 same-length-2 c = search needs
 
 returns-2 : tie.Need-returns-2
-returns-2 c = λ op row v i constants n fresh third od oa g h k e own dd pa. found-masked _ _ _ _ _ _ _ _ _ _ _ _ (destination-operated _ _ _ _ _ _ _ dd) _ _ _ _ _ (source-operated _ _ _ _ _ _ _ _ _ pa) _ _ _ _ _ (unused-operated _ _ _ _ _) _ _ _ _ _ _ _ _ (or-one _ _ _ _ _ (c .before .before .before .waits-d-s1 .ensures)) (c .before .before .if1 .left) _ e _ (c .before .masked .ensures ∙ or-none _) (c .if2 .taken) own
+returns-2 c = λ op row v i constantWords n fresh third od oa g h k e own dd pa. found-masked _ _ _ _ _ _ _ _ _ _ _ _ (destination-operated _ _ _ _ _ _ _ dd) _ _ _ _ _ (source-operated _ _ _ _ _ _ _ _ _ pa) _ _ _ _ _ (unused-operated _ _ _ _ _) _ _ _ _ _ _ _ _ (or-one _ _ _ _ _ (c .before .before .before .waits-d-s1 .ensures)) (c .before .before .if1 .left) _ e _ (c .before .masked .ensures ∙ or-none _) (c .if2 .taken) own
 
 result-two-requires : tie.Need-result-two-requires
 result-two-requires c κs = search needs
@@ -48,7 +48,7 @@ same-length-5 : tie.Need-same-length-5
 same-length-5 c = search needs
 
 returns-3 : tie.Need-returns-3
-returns-3 c = λ op row v i constants n fresh third od oa g h k e own dd pa. found-result _ _ _ _ _ _ _ _ _ _ _ _ (destination-operated _ _ _ _ _ _ _ dd) _ _ _ _ _ (source-operated _ _ _ _ _ _ _ _ _ pa) _ _ _ _ _ (unused-operated _ _ _ _ _) _ _ _ _ _ _ _ _ (or-one _ _ _ _ _ (c .before .before .before .before .before .before .before .before .before .before .before .before .before .before .before .before .waits-d-s1 .ensures)) (c .before .before .before .before .before .before .before .before .before .before .before .before .before .before .before .if1 .left) _ e _ (c .before .before .before .before .before .before .before .before .before .before .before .before .before .before .masked .ensures ∙ or-none _) (c .before .before .before .before .before .before .before .before .before .before .before .before .before .if2 .left) _ (number-performs op _ k (few _ 16 h (omega arith)) _ _ _ _ (c .before .before .before .before .before .before .before .before .before .before .before .before .result-two .ensures g h)) _ dd _ _ _ _ _ (c .before .before .continues .ensures .0) (c .before .before .before .next .ensures) (c .before .before .continues .ensures .1) (c .before .before .before .before .before .before .before .before .before .write-d-s1 .ensures .0) (c .before .before .before .before .before .before .before .before .before .write-d-s1 .ensures .1)
+returns-3 c = λ op row v i constantWords n fresh third od oa g h k e own dd pa. found-result _ _ _ _ _ _ _ _ _ _ _ _ (destination-operated _ _ _ _ _ _ _ dd) _ _ _ _ _ (source-operated _ _ _ _ _ _ _ _ _ pa) _ _ _ _ _ (unused-operated _ _ _ _ _) _ _ _ _ _ _ _ _ (or-one _ _ _ _ _ (c .before .before .before .before .before .before .before .before .before .before .before .before .before .before .before .before .waits-d-s1 .ensures)) (c .before .before .before .before .before .before .before .before .before .before .before .before .before .before .before .if1 .left) _ e _ (c .before .before .before .before .before .before .before .before .before .before .before .before .before .before .masked .ensures ∙ or-none _) (c .before .before .before .before .before .before .before .before .before .before .before .before .before .if2 .left) _ (number-performs op _ k (few _ 16 h (omega arith)) _ _ _ _ (c .before .before .before .before .before .before .before .before .before .before .before .before .result-two .ensures g h)) _ dd _ _ _ _ _ (c .before .before .continues .ensures .0) (c .before .before .before .next .ensures) (c .before .before .continues .ensures .1) (c .before .before .before .before .before .before .before .before .before .write-d-s1 .ensures .0) (c .before .before .before .before .before .before .before .before .before .write-d-s1 .ensures .1)
 
 pub two-found-spec : {M : Type 1} → statement M
 two-found-spec =

@@ -126,7 +126,7 @@ room-down live fl e z = go (leb 64 live) (le? 64 live) (ap (λ (b : Bool). not (
     go true (below k) p = absurd (false≢true p)
     go false (above k) p = k
 
-module _ (rs : List Row) (sp ks ss a b c ps : List ℕ) (fl z : ℕ) (cs g w pr u v : List ℕ) (h : Numbers rs sp ks ss a b c ps fl z cs g w pr u v)
+module _ (rs : List Row) (sp ks ss a b c ps : List ℕ) (fl z : ℕ) (cs : Memory) (g w pr u v : List ℕ) (h : Numbers rs sp ks ss a b c ps fl z cs g w pr u v)
     (t : ℕ) (low : 1 ≤ t) (high : t ≤ 7) where
   abbrev now : State
   now = state (rowsIn ks ss rs) (tableOf ps (queuesIn a b c) fl) cs (memory g w) pr (memory u v)

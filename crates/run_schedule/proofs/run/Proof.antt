@@ -28,7 +28,7 @@ same-length-4 : tie.Need-same-length-4
 same-length-4 c = search needs
 
 returns : tie.Need-returns
-returns c = let s = c .before .before .before .before .before .before .before .before .before .before .before .before .before .before in let a = s .args in rw (c .refused2 .ensures) (unsound (a .n) (before (a .rows) (a .table) (a .constants .now) (a .register-tags .now) (a .register-words .now) (a .program .now) (a .data-tags .now) (a .data-words .now)) (a .schedule .now) (sym (c .before .before .refused .ensures) ∙ c .before .if1 .taken), record { count = refl; places = sym (length-map (a .rows .at) _) ∙ s .good .0 .1 .1 .0 .1 .0 .1; beyond = refl })
+returns c = let a = c .before .before .before .before .before .before .before .before .before .before .before .before .before .before .before .args in rw (c .refused2 .ensures) (unsound (a .n) (before (a .rows) (a .table) (a .constant-tags .now) (a .constant-words .now) (a .register-tags .now) (a .register-words .now) (a .program .now) (a .data-tags .now) (a .data-words .now)) (a .schedule .now) (sym (c .before .before .refused .ensures) ∙ c .before .if1 .taken), record { count = refl; places = sym (length-map (a .rows .at) _) ∙ c .before .before .before .before .before .before .before .before .before .before .before .before .before .before .before .good .0 .1 .1 .0 .1 .0 .1; beyond = refl })
 
 refused-requires-3 : tie.Need-refused-requires-3
 refused-requires-3 c κs = search needs
@@ -46,7 +46,7 @@ same-length-8 : tie.Need-same-length-8
 same-length-8 c = search needs
 
 returns-2 : tie.Need-returns-2
-returns-2 c = let s = c .before .before .before .before .before .before .before .before .before .before .before .before .before .before .before in let a = s .args in rw (c .refused3 .ensures) (too-long (a .n) (before (a .rows) (a .table) (a .constants .now) (a .register-tags .now) (a .register-words .now) (a .program .now) (a .data-tags .now) (a .data-words .now)) (a .schedule .now) (sym (c .before .before .before .refused .ensures) ∙ c .before .before .if1 .left) (c .before .if2 .taken), record { count = refl; places = sym (length-map (a .rows .at) _) ∙ s .good .0 .1 .1 .0 .1 .0 .1; beyond = refl })
+returns-2 c = let a = c .before .before .before .before .before .before .before .before .before .before .before .before .before .before .before .before .args in rw (c .refused3 .ensures) (too-long (a .n) (before (a .rows) (a .table) (a .constant-tags .now) (a .constant-words .now) (a .register-tags .now) (a .register-words .now) (a .program .now) (a .data-tags .now) (a .data-words .now)) (a .schedule .now) (sym (c .before .before .before .refused .ensures) ∙ c .before .before .if1 .left) (c .before .if2 .taken), record { count = refl; places = sym (length-map (a .rows .at) _) ∙ c .before .before .before .before .before .before .before .before .before .before .before .before .before .before .before .before .good .0 .1 .1 .0 .1 .0 .1; beyond = refl })
 
 items-sound-requires : tie.Need-items-sound-requires
 items-sound-requires c κs = search needs
@@ -67,7 +67,7 @@ same-length-12 : tie.Need-same-length-12
 same-length-12 c = search needs
 
 returns-3 : tie.Need-returns-3
-returns-3 c = let s = c .before .before .before .before .before .before .before .before .before .before .before .before .before .before .before .before .before in let a = s .args in rw (c .refused4 .ensures) (out-of-range (a .n) (before (a .rows) (a .table) (a .constants .now) (a .register-tags .now) (a .register-words .now) (a .program .now) (a .data-tags .now) (a .data-words .now)) (a .schedule .now) (sym (c .before .before .before .before .before .refused .ensures) ∙ c .before .before .before .before .if1 .left) (c .before .before .before .if2 .left) (sym (c .before .before .items-sound .ensures) ∙ not-true (c .before .before .items-sound .result) (c .before .if3 .taken)), record { count = refl; places = sym (length-map (a .rows .at) _) ∙ s .good .0 .1 .1 .0 .1 .0 .1; beyond = refl })
+returns-3 c = let a = c .before .before .before .before .before .before .before .before .before .before .before .before .before .before .before .before .before .before .args in rw (c .refused4 .ensures) (out-of-range (a .n) (before (a .rows) (a .table) (a .constant-tags .now) (a .constant-words .now) (a .register-tags .now) (a .register-words .now) (a .program .now) (a .data-tags .now) (a .data-words .now)) (a .schedule .now) (sym (c .before .before .before .before .before .refused .ensures) ∙ c .before .before .before .before .if1 .left) (c .before .before .before .if2 .left) (sym (c .before .before .items-sound .ensures) ∙ not-true (c .before .before .items-sound .result) (c .before .if3 .taken)), record { count = refl; places = sym (length-map (a .rows .at) _) ∙ c .before .before .before .before .before .before .before .before .before .before .before .before .before .before .before .before .before .before .good .0 .1 .1 .0 .1 .0 .1; beyond = refl })
 
 run-cut-requires : tie.Need-run-cut-requires
 run-cut-requires c κs = (sym (c .before .before .before .before .before .before .before .before .refused .ensures) ∙ c .before .before .before .before .before .before .before .if1 .left, c .before .before .before .before .before .before .if2 .left, (sym (c .before .before .before .before .before .items-sound .ensures) ∙ not-false (c .before .before .before .before .before .items-sound .result) (c .before .before .before .before .if3 .left)))

@@ -6,6 +6,7 @@ use mathlib.Core.List.{List, _++_}
 use native.Mathlib.Omega.{arith}
 use lib.ListN.{length, take, drop, length-take, length-drop}
 use borrow.Author.Tests.{not-false}
+use Rattle.window.specs.Memories.{memory}
 use Rattle.window.specs.declared.Row.{Row}
 use Rattle.step.specs.declared.ProcessTable.{ProcessTable}
 use Rattle.step.specs.State.{State}
@@ -29,24 +30,24 @@ use Rattle.library.specs.Laws.Numbers.{run-promise}
 use Rattle.library_state.specs.Laws.Cut.{cut, cut-fields, cut-refused}
 use Rattle.run_schedule.specs.Laws.Answers.{runs}
 
-module _ (v : Rows) (table : ProcessTable) (constants tags words program dataTags dataWords : List ℕ) (n : Sizes) (seven : length (v .at) ≡ 7)
-    (sound : stateRefused n (before v table constants tags words program dataTags dataWords) ≡ false) where
+module _ (v : Rows) (table : ProcessTable) (constantTags constantWords tags words program dataTags dataWords : List ℕ) (n : Sizes) (seven : length (v .at) ≡ 7)
+    (sound : stateRefused n (before v table constantTags constantWords tags words program dataTags dataWords) ≡ false) where
   abbrev held : Buffers
-  held = before v table constants tags words program dataTags dataWords
+  held = before v table constantTags constantWords tags words program dataTags dataWords
 
   abbrev given : State
-  given = cut v table constants tags words program dataTags dataWords n
+  given = cut v table constantTags constantWords tags words program dataTags dataWords n
 
-  fit : fits n (lengths v table constants tags words program dataTags dataWords) ≡ true
-  fit = sym (ap (fits n) (room-held v table constants tags words program dataTags dataWords seven)) ∙ accepted n held sound .0
+  fit : fits n (lengths v table constantTags constantWords tags words program dataTags dataWords) ≡ true
+  fit = sym (ap (fits n) (room-held v table constantTags constantWords tags words program dataTags dataWords seven)) ∙ accepted n held sound .0
 
   -- no size is above its buffer
-  pub sizes-fit : Fitting n (lengths v table constants tags words program dataTags dataWords)
-  sizes-fit = fitting n (lengths v table constants tags words program dataTags dataWords) fit
+  pub sizes-fit : Fitting n (lengths v table constantTags constantWords tags words program dataTags dataWords)
+  sizes-fit = fitting n (lengths v table constantTags constantWords tags words program dataTags dataWords) fit
 
   -- the state that is cut is sound
   pub cut-sound : soundIn (n .rows) given ≡ true
-  cut-sound = not-false (soundIn (n .rows) given) (cut-refused v table constants tags words program dataTags dataWords n seven fit ∙ sound)
+  cut-sound = not-false (soundIn (n .rows) given) (cut-refused v table constantTags constantWords tags words program dataTags dataWords n seven fit ∙ sound)
 
   -- the rows that are not held stay
   pub rows-beyond : (rows′ : List Row) → drop (n .rows) rows′ ≡ drop (n .rows) (v .at) → drop (v .n) rows′ ≡ drop (v .n) (v .at)
@@ -54,11 +55,11 @@ module _ (v : Rows) (table : ProcessTable) (constants tags words program dataTag
 
   module _ (l : List ℕ) (rows′ : List Row) (table′ : ProcessTable) (c : Counts) (tags′ words′ dataTags′ dataWords′ : List ℕ) where
     abbrev cutAfter : State
-    cutAfter = stateIn rows′ (n .rows) table′ (take (n .constants) constants) tags′ words′ (take (n .program) program) dataTags′ dataWords′
+    cutAfter = stateIn rows′ (n .rows) table′ (memory (take (n .constants) constantTags) (take (n .constants) constantWords)) tags′ words′ (take (n .program) program) dataTags′ dataWords′
 
     abbrev after : Buffers
     after =
-        lentBuffers (take (v .n) rows′) table′ constants (tags′ ++ drop (n .registers) tags) (words′ ++ drop (n .registers) words) program
+        lentBuffers (take (v .n) rows′) table′ constantTags constantWords (tags′ ++ drop (n .registers) tags) (words′ ++ drop (n .registers) words) program
         (dataTags′ ++ drop (n .data_words) dataTags) (dataWords′ ++ drop (n .data_words) dataWords)
 
     -- there are seven rows still
@@ -88,7 +89,8 @@ module _ (v : Rows) (table : ProcessTable) (constants tags words program dataTag
           let h : n .rows ≤ min (v .n) 7 = f .rows in
           rw (
             ← over-places (n .rows) (v .n) (v .at) rows′ (omega (arith, h)) (omega (arith, h, i)) d (omega (arith, h, seven)),
-            over-first (n .constants) constants (f .constants),
+            over-first (n .constants) constantTags (f .constantTags),
+            over-first (n .constants) constantWords (f .constantWords),
             ← over-cut (n .registers) tags tags′ k₁ (f .registerTags),
             ← over-cut (n .registers) words words′ k₂ (f .registerWords),
             over-first (n .program) program (f .program),
@@ -101,7 +103,7 @@ module _ (v : Rows) (table : ProcessTable) (constants tags words program dataTag
           → RunPromise n held l (Counted c) after
       run-cuts m i s d =
           let h : n .rows ≤ min (v .n) 7 = sizes-fit .rows in
-          let q : run l (fieldsIn n held) ≡ record { state = cutAfter; counts = c } = ap (run l) (sym (cut-fields v table constants tags words program dataTags dataWords n (omega (arith, h)))) ∙ sym s in
+          let q : run l (fieldsIn n held) ≡ record { state = cutAfter; counts = c } = ap (run l) (sym (cut-fields v table constantTags constantWords tags words program dataTags dataWords n (omega (arith, h)))) ∙ sym s in
           let p = runs n held l sound m i in
           run-promise (ap (λ (y : Ran). Counted (y .counts)) (sym q) ∙ p .answer)
           (held-after (rows-left s d) d ∙ ap (λ (y : Ran). holding (y .state) held) (sym q) ∙ p .leaves)

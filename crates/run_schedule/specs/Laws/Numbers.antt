@@ -10,7 +10,7 @@ use lib.ListN.{length, take}
 use borrow.Author.Tests.{leb-true}
 use Rattle.word.specs.Laws.Bools.{and-left, and-right}
 use Rattle.window.specs.declared.Row.{Row}
-use Rattle.window.specs.Memories.{memory}
+use Rattle.window.specs.Memories.{Memory, memory}
 use Rattle.window.specs.Sound.{stateSound}
 use Rattle.step.specs.declared.Queue.{Queue}
 use Rattle.step.specs.Queues.{livePts}
@@ -31,7 +31,7 @@ use Rattle.run_rings.specs.Laws.Spans.{told-none}
 use Rattle.run_rings.specs.Laws.Laid.{tasks-told}
 use Rattle.step_soundness.specs.Code.Held.{stateIn, soundIn}
 
-module _ (rows : List Row) (n : ℕ) (qs : List Queue) (fl : ℕ) (ps cs g w pr u v : List ℕ) (h : soundIn n (stateIn rows n (tableOf ps qs fl) cs g w pr u v) ≡ true) where
+module _ (rows : List Row) (n : ℕ) (qs : List Queue) (fl : ℕ) (ps : List ℕ) (cs : Memory) (g w pr u v : List ℕ) (h : soundIn n (stateIn rows n (tableOf ps qs fl) cs g w pr u v) ≡ true) where
   pub few : n ≤ 7
   unfolding soundIn
   few = leb-true n 7 (and-left (leb n 7) _ h)
@@ -76,7 +76,7 @@ module _ (rows : List Row) (n : ℕ) (qs : List Queue) (fl : ℕ) (ps cs g w pr 
     }
 
 -- the state of the numbers at the end
-pub state-end : (rows rows′ : List Row) (n : ℕ) (qs : List Queue) (ks ss a b c ps : List ℕ) (fl : ℕ) (cs g w pr u v : List ℕ)
+pub state-end : (rows rows′ : List Row) (n : ℕ) (qs : List Queue) (ks ss a b c ps : List ℕ) (fl : ℕ) (cs : Memory) (g w pr u v : List ℕ)
     → take n rows′ ≡ rowsIn ks ss (take n rows) → qs ≡ queuesIn a b c
     → stateFrom (take n rows) ks ss a b c ps fl cs g w pr u v ≡ stateIn rows′ n (tableOf ps qs fl) cs g w pr u v
 unfolding stateFrom stateIn

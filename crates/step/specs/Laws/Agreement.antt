@@ -62,7 +62,7 @@ module _ (A : ℕ → Bool) where
   }
 
 -- the cell at an operand, where the two register lists and the constants agree
-visible-same : (w : Window) (m n : Memory) (c d : List ℕ)
+visible-same : (w : Window) (m n c d : Memory)
     → ((a : ℕ) → inside w a ≡ true → getElem? (m .tags) a ≡ getElem? (n .tags) a) → ((a : ℕ) → inside w a ≡ true → getElem? (m .words) a ≡ getElem? (n .words) a)
     → ((a : ℕ) → constantAt c a ≡ constantAt d a) → (o : Operand) → visibleCell w m c o ≡ visibleCell w n d o
 unfolding visibleCell cellIn
@@ -81,7 +81,7 @@ module _ (instructions : Environment → Decision) where
       → Agree A s (stepBy instructions u s .state)
   step-outside A u s out inv k z = record {
     owns = λ t m. sym (own-step-other instructions u t s (λ e. true≢false (sym m ∙ ap A (sym e) ∙ out)) inv z);
-    constants = λ a. ap (λ (l : List ℕ). constantAt l a) (sym (constants-step instructions u s));
+    constants = λ a. ap (λ (m : Memory). constantAt m a) (sym (constants-step instructions u s));
     cells = λ x t m r e a i. sym (step-outside-window instructions x u s a (λ y f. k .windows x t u m out r y e f a i));
     code = λ t m r e a i. ap (λ (l : List ℕ). getElem? l a) (sym (program-step instructions u s));
   }
@@ -122,7 +122,7 @@ module _ (instructions : Environment → Decision) where
     step-inside inv inv′ z z′ = record {
       owns = λ u n. go u n (eqb t u) (eq? t u);
       constants = λ a.
-          ap (λ (l : List ℕ). constantAt l a) (constants-step instructions t s) ∙ g .constants a ∙ sym (ap (λ (l : List ℕ). constantAt l a) (constants-step instructions t s′));
+          ap (λ (m : Memory). constantAt m a) (constants-step instructions t s) ∙ g .constants a ∙ sym (ap (λ (m : Memory). constantAt m a) (constants-step instructions t s′));
       cells = λ x u n r e a i.
           list-step instructions x t s a
           ∙ (λ j. hitsIn instructions x (decided-same j) (g .owns t m j) a (g .cells x u n r (sym (fixed-step instructions t u s inv z) ∙ e) a i j))

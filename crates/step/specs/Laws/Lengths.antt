@@ -18,7 +18,8 @@ use Rattle.step.specs.Laws.Step.{idles, acts, steps}
 
 pub record SameLengths (s s′ : State) : Type 0 where
   pub rows : length (s .rows) ≡ length (s′ .rows)
-  pub constants : length (s .constants) ≡ length (s′ .constants)
+  pub constantTags : length (s .constants .tags) ≡ length (s′ .constants .tags)
+  pub constantWords : length (s .constants .words) ≡ length (s′ .constants .words)
   pub registerTags : length (s .registers .tags) ≡ length (s′ .registers .tags)
   pub registerWords : length (s .registers .words) ≡ length (s′ .registers .words)
   pub program : length (s .program) ≡ length (s′ .program)
@@ -26,12 +27,13 @@ pub record SameLengths (s s′ : State) : Type 0 where
   pub dataWords : length (s .dataWords .words) ≡ length (s′ .dataWords .words)
 
 pub same-lengths : (s : State) → SameLengths s s
-same-lengths s = record { rows = refl; constants = refl; registerTags = refl; registerWords = refl; program = refl; dataTags = refl; dataWords = refl }
+same-lengths s = record { rows = refl; constantTags = refl; constantWords = refl; registerTags = refl; registerWords = refl; program = refl; dataTags = refl; dataWords = refl }
 
 pub lengths-join : {a b c : State} → SameLengths a b → SameLengths b c → SameLengths a c
 lengths-join p q = record {
   rows = p .rows ∙ q .rows;
-  constants = p .constants ∙ q .constants;
+  constantTags = p .constantTags ∙ q .constantTags;
+  constantWords = p .constantWords ∙ q .constantWords;
   registerTags = p .registerTags ∙ q .registerTags;
   registerWords = p .registerWords ∙ q .registerWords;
   program = p .program ∙ q .program;
@@ -52,7 +54,8 @@ act-lengths : (s : State) (r : Row) (d : Decision) → SameLengths (act s r d .s
 unfolding act written
 act-lengths s r d = record {
   rows = length-put (r .task) (changeOf (s .table) r d .row) (s .rows);
-  constants = refl;
+  constantTags = refl;
+  constantWords = refl;
   registerTags = length-storedAll tagOf (registerWindow r) (registerWrites d) (s .registers .tags);
   registerWords = length-storedAll wordOf (registerWindow r) (registerWrites d) (s .registers .words);
   program = refl;

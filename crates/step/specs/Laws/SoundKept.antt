@@ -6,12 +6,13 @@ use mathlib.Core.Bool.{Bool, true, false, cond}
 use mathlib.Core.Option.{none, some}
 use mathlib.Core.List.{List, [], _∷_}
 use lib.Dec.{eqb}
+use Rattle.window.specs.Laws.Sound.{quality-tag}
 use Rattle.word.specs.Fields.{pswSound}
 use Rattle.window.specs.declared.Row.{Row}
 use Rattle.window.specs.Windows.{registerWindow, dataWordWindow}
 use Rattle.window.specs.Memories.{cellIn, constantAt, written}
 use Rattle.window.specs.Laws.Memories.{length-storedAll}
-use Rattle.window.specs.Sound.{bits, wordSound, tagSound, stateSound}
+use Rattle.window.specs.Sound.{bits, wordSound, tagSound, stateSound, qualitySound}
 use Rattle.operand.specs.declared.Operand.the-variants.{Register, Constant, Absent}
 use Rattle.operand.specs.Access.{visibleCell}
 use Rattle.operation.specs.declared.Decision.{Decision}
@@ -41,21 +42,26 @@ zero-word : wordSound 0 ≡ true
 unfolding wordSound bits
 zero-word = refl
 
+zero-quality : qualitySound 0 ≡ true
+unfolding qualitySound
+zero-quality = refl
+
 environment-sound : (s : State) (r : Row) (psw : ℕ) → SoundMemories s → pswSound psw ≡ true → SoundEnvironment (environment s r psw)
 unfolding environment environmentOf visibleCell cellIn constantAt
 environment-sound s r psw m h =
+    let constants = memory-parts 4096 qualitySound (s .constants) (m .constants) in
     let registers = memory-parts 2048 tagSound (s .registers) (m .registers) in
     let dataWords = memory-parts (2 ^ 20) stateSound (s .dataWords) (m .dataWords) in
     record {
       psw = h;
       tags = λ o. elim o [
         | Register a ↦ every-seen tagSound (registerWindow r) (s .registers .tags) a zero-tag (registers .tags)
-        | Constant a ↦ zero-tag
+        | Constant a ↦ quality-tag _ (every-getD qualitySound (s .constants .tags) a zero-quality (constants .tags))
         | Absent ↦ zero-tag
       ];
       words = λ o. elim o [
         | Register a ↦ every-seen wordSound (registerWindow r) (s .registers .words) a zero-word (registers .words)
-        | Constant a ↦ every-getD wordSound (s .constants) a zero-word (words-parts 4096 (s .constants) (m .constants) .1)
+        | Constant a ↦ every-getD wordSound (s .constants .words) a zero-word (constants .words)
         | Absent ↦ zero-word
       ];
       dataWords = λ a. every-seen wordSound (dataWordWindow r) (s .dataWords .words) a zero-word (dataWords .words);

@@ -54,10 +54,7 @@ same-length-5 : tie.Need-same-length-5
 same-length-5 c = search needs
 
 returns : tie.Need-returns
-returns c = λ n.
-    let a = c .before .before .before .before .before .before .before .before .before .before .before .before .before .before .before .before .before .before .before .before .before .before .before .before .before .before .args in
-    let w = subst (λ (l : List ℕ). Windows l 0 (a .row)) (sym (c .before .before .before .before .before .before .before .before .before .before .before .before .before .before .before .before .before .before .span .ensures)) (row-windows (a .row) n) in
-    rw (← c .before .before .before .before .before .before .before .before .before .before .before .before .before .before .before .before .word-at .ensures) (c .before .before .before .before .before .before .before .before .before .before .perform .ensures (a .row) (w .registers) (w .program) (w .bytes) (c .before .before .before .before .before .before .before .before .before .before .before .before .before .before .before .before .word-at .ensures))
+returns c = λ n. let a = c .before .before .before .before .before .before .before .before .before .before .before .before .before .before .before .before .before .before .before .before .before .before .before .before .before .before .before .args in let w = subst (λ (l : List ℕ). Windows l 0 (a .row)) (sym (c .before .before .before .before .before .before .before .before .before .before .before .before .before .before .before .before .before .before .span .ensures)) (row-windows (a .row) n) in rw (← c .before .before .before .before .before .before .before .before .before .before .before .before .before .before .before .before .word-at .ensures) (c .before .before .before .before .before .before .before .before .before .before .perform .ensures (a .row) (w .registers) (w .program) (w .bytes) (c .before .before .before .before .before .before .before .before .before .before .before .before .before .before .before .before .word-at .ensures))
 
 pub perform-head-spec : {M : Type 1} → statement M
 perform-head-spec =

@@ -26,7 +26,7 @@ same-length-4 : tie.Need-same-length-4
 same-length-4 c = search needs
 
 returns : tie.Need-returns
-returns c = let a = c .before .before .before .before .before .before .before .before .before .before .before .before .before .args in rw (c .refused2 .ensures) (unsound-kept (a .rows) (a .row) (a .table) (a .constants .now) (a .register-tags .now) (a .register-words .now) (a .program .now) (a .data-tags .now) (a .data-words .now) (a .n) (a .task) (sym (c .before .before .refused .ensures) ∙ c .before .if1 .taken), λ _. refl)
+returns c = let a = c .before .before .before .before .before .before .before .before .before .before .before .before .before .before .args in rw (c .refused2 .ensures) (unsound-kept (a .rows) (a .row) (a .table) (a .constant-tags .now) (a .constant-words .now) (a .register-tags .now) (a .register-words .now) (a .program .now) (a .data-tags .now) (a .data-words .now) (a .n) (a .task) (sym (c .before .before .refused .ensures) ∙ c .before .if1 .taken), λ _. refl)
 
 item-sound-requires : tie.Need-item-sound-requires
 item-sound-requires c κs = search needs
@@ -47,40 +47,43 @@ same-length-8 : tie.Need-same-length-8
 same-length-8 c = search needs
 
 returns-2 : tie.Need-returns-2
-returns-2 c = let a = c .before .before .before .before .before .before .before .before .before .before .before .before .before .before .before .args in rw (c .refused3 .ensures) (item-kept (a .rows) (a .row) (a .table) (a .constants .now) (a .register-tags .now) (a .register-words .now) (a .program .now) (a .data-tags .now) (a .data-words .now) (a .n) (a .task) (sym (c .before .before .before .before .refused .ensures) ∙ c .before .before .before .if1 .left) (sym (c .before .before .item-sound .ensures) ∙ not-true _ (c .before .if2 .taken)), λ _. refl)
+returns-2 c = let a = c .before .before .before .before .before .before .before .before .before .before .before .before .before .before .before .before .args in rw (c .refused3 .ensures) (item-kept (a .rows) (a .row) (a .table) (a .constant-tags .now) (a .constant-words .now) (a .register-tags .now) (a .register-words .now) (a .program .now) (a .data-tags .now) (a .data-words .now) (a .n) (a .task) (sym (c .before .before .before .before .refused .ensures) ∙ c .before .before .before .if1 .left) (sym (c .before .before .item-sound .ensures) ∙ not-true _ (c .before .if2 .taken)), λ _. refl)
 
 slice-aggregate-step-of : tie.Need-slice-aggregate-step-of
-slice-aggregate-step-of c = let a = c .before .before .before .before .before .before .before .before .before .before .before .before .before .before .before .args in let f = fitted (a .rows) (a .table) (a .constants .now) (a .register-tags .now) (a .register-words .now) (a .program .now) (a .data-tags .now) (a .data-words .now) (a .n) (c .before .before .before .before .refused .result) (c .before .before .before .before .refused .ensures) (c .before .before .before .if1 .left) in sym (length-take-le (a .n .constants) (a .constants .now) (f .constants))
-
-slice-relend-prefix-step-of : tie.Need-slice-relend-prefix-step-of
-slice-relend-prefix-step-of c = let a = c .before .before .before .before .before .before .before .before .before .before .before .before .before .before .before .args in let f = fitted (a .rows) (a .table) (a .constants .now) (a .register-tags .now) (a .register-words .now) (a .program .now) (a .data-tags .now) (a .data-words .now) (a .n) (c .before .before .before .before .refused .result) (c .before .before .before .before .refused .ensures) (c .before .before .before .if1 .left) in f .registerTags
+slice-aggregate-step-of c = let a = c .before .before .before .before .before .before .before .before .before .before .before .before .before .before .before .before .args in let f = fitted (a .rows) (a .table) (a .constant-tags .now) (a .constant-words .now) (a .register-tags .now) (a .register-words .now) (a .program .now) (a .data-tags .now) (a .data-words .now) (a .n) (c .before .before .before .before .refused .result) (c .before .before .before .before .refused .ensures) (c .before .before .before .if1 .left) in sym (length-take-le (a .n .constants) (a .constant-tags .now) (f .constantTags))
 
 slice-aggregate-step-of-2 : tie.Need-slice-aggregate-step-of-2
-slice-aggregate-step-of-2 c = let a = c .before .before .before .before .before .before .before .before .before .before .before .before .before .before .before .before .args in let f = fitted (a .rows) (a .table) (a .constants .now) (a .register-tags .now) (a .register-words .now) (a .program .now) (a .data-tags .now) (a .data-words .now) (a .n) (c .before .before .before .before .before .refused .result) (c .before .before .before .before .before .refused .ensures) (c .before .before .before .before .if1 .left) in sym (length-take-le (a .n .registers) (a .register-tags .now) (f .registerTags))
+slice-aggregate-step-of-2 c = let a = c .before .before .before .before .before .before .before .before .before .before .before .before .before .before .before .before .before .args in let f = fitted (a .rows) (a .table) (a .constant-tags .now) (a .constant-words .now) (a .register-tags .now) (a .register-words .now) (a .program .now) (a .data-tags .now) (a .data-words .now) (a .n) (c .before .before .before .before .before .refused .result) (c .before .before .before .before .before .refused .ensures) (c .before .before .before .before .if1 .left) in sym (length-take-le (a .n .constants) (a .constant-words .now) (f .constantWords))
 
-slice-relend-prefix-step-of-2 : tie.Need-slice-relend-prefix-step-of-2
-slice-relend-prefix-step-of-2 c = let a = c .before .before .before .before .before .before .before .before .before .before .before .before .before .before .before .before .args in let f = fitted (a .rows) (a .table) (a .constants .now) (a .register-tags .now) (a .register-words .now) (a .program .now) (a .data-tags .now) (a .data-words .now) (a .n) (c .before .before .before .before .before .refused .result) (c .before .before .before .before .before .refused .ensures) (c .before .before .before .before .if1 .left) in f .registerWords
+slice-relend-prefix-step-of : tie.Need-slice-relend-prefix-step-of
+slice-relend-prefix-step-of c = let a = c .before .before .before .before .before .before .before .before .before .before .before .before .before .before .before .before .before .args in let f = fitted (a .rows) (a .table) (a .constant-tags .now) (a .constant-words .now) (a .register-tags .now) (a .register-words .now) (a .program .now) (a .data-tags .now) (a .data-words .now) (a .n) (c .before .before .before .before .before .refused .result) (c .before .before .before .before .before .refused .ensures) (c .before .before .before .before .if1 .left) in f .registerTags
 
 slice-aggregate-step-of-3 : tie.Need-slice-aggregate-step-of-3
-slice-aggregate-step-of-3 c = let a = c .before .before .before .before .before .before .before .before .before .before .before .before .before .before .before .before .before .args in let f = fitted (a .rows) (a .table) (a .constants .now) (a .register-tags .now) (a .register-words .now) (a .program .now) (a .data-tags .now) (a .data-words .now) (a .n) (c .before .before .before .before .before .before .refused .result) (c .before .before .before .before .before .before .refused .ensures) (c .before .before .before .before .before .if1 .left) in sym (length-take-le (a .n .registers) (a .register-words .now) (f .registerWords))
+slice-aggregate-step-of-3 c = let a = c .before .before .before .before .before .before .before .before .before .before .before .before .before .before .before .before .before .before .args in let f = fitted (a .rows) (a .table) (a .constant-tags .now) (a .constant-words .now) (a .register-tags .now) (a .register-words .now) (a .program .now) (a .data-tags .now) (a .data-words .now) (a .n) (c .before .before .before .before .before .before .refused .result) (c .before .before .before .before .before .before .refused .ensures) (c .before .before .before .before .before .if1 .left) in sym (length-take-le (a .n .registers) (a .register-tags .now) (f .registerTags))
+
+slice-relend-prefix-step-of-2 : tie.Need-slice-relend-prefix-step-of-2
+slice-relend-prefix-step-of-2 c = let a = c .before .before .before .before .before .before .before .before .before .before .before .before .before .before .before .before .before .before .args in let f = fitted (a .rows) (a .table) (a .constant-tags .now) (a .constant-words .now) (a .register-tags .now) (a .register-words .now) (a .program .now) (a .data-tags .now) (a .data-words .now) (a .n) (c .before .before .before .before .before .before .refused .result) (c .before .before .before .before .before .before .refused .ensures) (c .before .before .before .before .before .if1 .left) in f .registerWords
 
 slice-aggregate-step-of-4 : tie.Need-slice-aggregate-step-of-4
-slice-aggregate-step-of-4 c = let a = c .before .before .before .before .before .before .before .before .before .before .before .before .before .before .before .before .before .before .args in let f = fitted (a .rows) (a .table) (a .constants .now) (a .register-tags .now) (a .register-words .now) (a .program .now) (a .data-tags .now) (a .data-words .now) (a .n) (c .before .before .before .before .before .before .before .refused .result) (c .before .before .before .before .before .before .before .refused .ensures) (c .before .before .before .before .before .before .if1 .left) in sym (length-take-le (a .n .program) (a .program .now) (f .program))
-
-slice-relend-prefix-step-of-3 : tie.Need-slice-relend-prefix-step-of-3
-slice-relend-prefix-step-of-3 c = let a = c .before .before .before .before .before .before .before .before .before .before .before .before .before .before .before .before .before .before .args in let f = fitted (a .rows) (a .table) (a .constants .now) (a .register-tags .now) (a .register-words .now) (a .program .now) (a .data-tags .now) (a .data-words .now) (a .n) (c .before .before .before .before .before .before .before .refused .result) (c .before .before .before .before .before .before .before .refused .ensures) (c .before .before .before .before .before .before .if1 .left) in f .dataTags
+slice-aggregate-step-of-4 c = let a = c .before .before .before .before .before .before .before .before .before .before .before .before .before .before .before .before .before .before .before .args in let f = fitted (a .rows) (a .table) (a .constant-tags .now) (a .constant-words .now) (a .register-tags .now) (a .register-words .now) (a .program .now) (a .data-tags .now) (a .data-words .now) (a .n) (c .before .before .before .before .before .before .before .refused .result) (c .before .before .before .before .before .before .before .refused .ensures) (c .before .before .before .before .before .before .if1 .left) in sym (length-take-le (a .n .registers) (a .register-words .now) (f .registerWords))
 
 slice-aggregate-step-of-5 : tie.Need-slice-aggregate-step-of-5
-slice-aggregate-step-of-5 c = let a = c .before .before .before .before .before .before .before .before .before .before .before .before .before .before .before .before .before .before .before .args in let f = fitted (a .rows) (a .table) (a .constants .now) (a .register-tags .now) (a .register-words .now) (a .program .now) (a .data-tags .now) (a .data-words .now) (a .n) (c .before .before .before .before .before .before .before .before .refused .result) (c .before .before .before .before .before .before .before .before .refused .ensures) (c .before .before .before .before .before .before .before .if1 .left) in sym (length-take-le (a .n .data_words) (a .data-tags .now) (f .dataTags))
+slice-aggregate-step-of-5 c = let a = c .before .before .before .before .before .before .before .before .before .before .before .before .before .before .before .before .before .before .before .before .args in let f = fitted (a .rows) (a .table) (a .constant-tags .now) (a .constant-words .now) (a .register-tags .now) (a .register-words .now) (a .program .now) (a .data-tags .now) (a .data-words .now) (a .n) (c .before .before .before .before .before .before .before .before .refused .result) (c .before .before .before .before .before .before .before .before .refused .ensures) (c .before .before .before .before .before .before .before .if1 .left) in sym (length-take-le (a .n .program) (a .program .now) (f .program))
 
-slice-relend-prefix-step-of-4 : tie.Need-slice-relend-prefix-step-of-4
-slice-relend-prefix-step-of-4 c = let a = c .before .before .before .before .before .before .before .before .before .before .before .before .before .before .before .before .before .before .before .args in let f = fitted (a .rows) (a .table) (a .constants .now) (a .register-tags .now) (a .register-words .now) (a .program .now) (a .data-tags .now) (a .data-words .now) (a .n) (c .before .before .before .before .before .before .before .before .refused .result) (c .before .before .before .before .before .before .before .before .refused .ensures) (c .before .before .before .before .before .before .before .if1 .left) in f .dataWords
+slice-relend-prefix-step-of-3 : tie.Need-slice-relend-prefix-step-of-3
+slice-relend-prefix-step-of-3 c = let a = c .before .before .before .before .before .before .before .before .before .before .before .before .before .before .before .before .before .before .before .before .args in let f = fitted (a .rows) (a .table) (a .constant-tags .now) (a .constant-words .now) (a .register-tags .now) (a .register-words .now) (a .program .now) (a .data-tags .now) (a .data-words .now) (a .n) (c .before .before .before .before .before .before .before .before .refused .result) (c .before .before .before .before .before .before .before .before .refused .ensures) (c .before .before .before .before .before .before .before .if1 .left) in f .dataTags
 
 slice-aggregate-step-of-6 : tie.Need-slice-aggregate-step-of-6
-slice-aggregate-step-of-6 c = let a = c .before .before .before .before .before .before .before .before .before .before .before .before .before .before .before .before .before .before .before .before .args in let f = fitted (a .rows) (a .table) (a .constants .now) (a .register-tags .now) (a .register-words .now) (a .program .now) (a .data-tags .now) (a .data-words .now) (a .n) (c .before .before .before .before .before .before .before .before .before .refused .result) (c .before .before .before .before .before .before .before .before .before .refused .ensures) (c .before .before .before .before .before .before .before .before .if1 .left) in sym (length-take-le (a .n .data_words) (a .data-words .now) (f .dataWords))
+slice-aggregate-step-of-6 c = let a = c .before .before .before .before .before .before .before .before .before .before .before .before .before .before .before .before .before .before .before .before .before .args in let f = fitted (a .rows) (a .table) (a .constant-tags .now) (a .constant-words .now) (a .register-tags .now) (a .register-words .now) (a .program .now) (a .data-tags .now) (a .data-words .now) (a .n) (c .before .before .before .before .before .before .before .before .before .refused .result) (c .before .before .before .before .before .before .before .before .before .refused .ensures) (c .before .before .before .before .before .before .before .before .if1 .left) in sym (length-take-le (a .n .data_words) (a .data-tags .now) (f .dataTags))
+
+slice-relend-prefix-step-of-4 : tie.Need-slice-relend-prefix-step-of-4
+slice-relend-prefix-step-of-4 c = let a = c .before .before .before .before .before .before .before .before .before .before .before .before .before .before .before .before .before .before .before .before .before .args in let f = fitted (a .rows) (a .table) (a .constant-tags .now) (a .constant-words .now) (a .register-tags .now) (a .register-words .now) (a .program .now) (a .data-tags .now) (a .data-words .now) (a .n) (c .before .before .before .before .before .before .before .before .before .refused .result) (c .before .before .before .before .before .before .before .before .before .refused .ensures) (c .before .before .before .before .before .before .before .before .if1 .left) in f .dataWords
+
+slice-aggregate-step-of-7 : tie.Need-slice-aggregate-step-of-7
+slice-aggregate-step-of-7 c = let a = c .before .before .before .before .before .before .before .before .before .before .before .before .before .before .before .before .before .before .before .before .before .before .args in let f = fitted (a .rows) (a .table) (a .constant-tags .now) (a .constant-words .now) (a .register-tags .now) (a .register-words .now) (a .program .now) (a .data-tags .now) (a .data-words .now) (a .n) (c .before .before .before .before .before .before .before .before .before .before .refused .result) (c .before .before .before .before .before .before .before .before .before .before .refused .ensures) (c .before .before .before .before .before .before .before .before .before .if1 .left) in sym (length-take-le (a .n .data_words) (a .data-words .now) (f .dataWords))
 
 step-of-requires : tie.Need-step-of-requires
-step-of-requires c κs = task-range (c .before .before .before .before .before .before .before .before .before .before .before .before .before .before .before .before .before .before .before .before .args .task) (sym (c .before .before .before .before .before .before .before .item-sound .ensures) ∙ not-false _ (c .before .before .before .before .before .before .if2 .left))
+step-of-requires c κs = task-range (c .before .before .before .before .before .before .before .before .before .before .before .before .before .before .before .before .before .before .before .before .before .before .args .task) (sym (c .before .before .before .before .before .before .before .before .item-sound .ensures) ∙ not-false _ (c .before .before .before .before .before .before .before .if2 .left))
 
 same-length-9 : tie.Need-same-length-9
 same-length-9 c = search needs
@@ -95,15 +98,7 @@ same-length-12 : tie.Need-same-length-12
 same-length-12 c = search needs
 
 returns-3 : tie.Need-returns-3
-returns-3 c = let a = c .before .before .before .before .before .before .before .before .before .before .before .before .before .before .before .before .before .before .before .before .before .before .before .before .before .before .before .before .before .before .before .args in
-    let x = c .before .before .before .before .before .before .before .before .before .before .step-of in
-    let q = sym (c .before .before .before .before .before .before .before .before .before .before .before .before .before .before .before .before .before .before .before .before .refused .ensures) ∙ c .before .before .before .before .before .before .before .before .before .before .before .before .before .before .before .before .before .before .before .if1 .left in
-    let k = sym (c .before .before .before .before .before .before .before .before .before .before .before .before .before .before .before .before .before .before .item-sound .ensures) ∙ not-false _ (c .before .before .before .before .before .before .before .before .before .before .before .before .before .before .before .before .before .if2 .left) in
-    let l = x .kept .1 .1 .1 .1 in
-    let s = x .ensures _ in (
-      step-kept (a .rows) (a .row) (a .table) (a .constants .now) (a .register-tags .now) (a .register-words .now) (a .program .now) (a .data-tags .now) (a .data-words .now) (a .n) (a .task) q k (x .result) _ _ _ _ s (l .0) (l .1 .0) (l .1 .1 .1 .0) (l .1 .1 .1 .1 .0),
-      row-kept (a .rows) (a .row) (a .table) (a .constants .now) (a .register-tags .now) (a .register-words .now) (a .program .now) (a .data-tags .now) (a .data-words .now) (a .n) (a .task) q k (x .result) _ _ _ _ s,
-    )
+returns-3 c = let a = c .before .before .before .before .before .before .before .before .before .before .before .before .before .before .before .before .before .before .before .before .before .before .before .before .before .before .before .before .before .before .before .before .before .args in let x = c .before .before .before .before .before .before .before .before .before .before .step-of in let q = sym (c .before .before .before .before .before .before .before .before .before .before .before .before .before .before .before .before .before .before .before .before .before .refused .ensures) ∙ c .before .before .before .before .before .before .before .before .before .before .before .before .before .before .before .before .before .before .before .before .if1 .left in let k = sym (c .before .before .before .before .before .before .before .before .before .before .before .before .before .before .before .before .before .before .before .item-sound .ensures) ∙ not-false _ (c .before .before .before .before .before .before .before .before .before .before .before .before .before .before .before .before .before .before .if2 .left) in let l = x .kept .1 .1 .1 .1 .1 in let s = x .ensures _ in (step-kept (a .rows) (a .row) (a .table) (a .constant-tags .now) (a .constant-words .now) (a .register-tags .now) (a .register-words .now) (a .program .now) (a .data-tags .now) (a .data-words .now) (a .n) (a .task) q k (x .result) _ _ _ _ s (l .0) (l .1 .0) (l .1 .1 .1 .0) (l .1 .1 .1 .1 .0), row-kept (a .rows) (a .row) (a .table) (a .constant-tags .now) (a .constant-words .now) (a .register-tags .now) (a .register-words .now) (a .program .now) (a .data-tags .now) (a .data-words .now) (a .n) (a .task) q k (x .result) _ _ _ _ s)
 
 pub step-spec : {M : Type 1} → statement M
 step-spec =
@@ -124,15 +119,16 @@ step-spec =
     same-length-8
     returns-2
     slice-aggregate-step-of
-    slice-relend-prefix-step-of
     slice-aggregate-step-of-2
-    slice-relend-prefix-step-of-2
+    slice-relend-prefix-step-of
     slice-aggregate-step-of-3
+    slice-relend-prefix-step-of-2
     slice-aggregate-step-of-4
-    slice-relend-prefix-step-of-3
     slice-aggregate-step-of-5
-    slice-relend-prefix-step-of-4
+    slice-relend-prefix-step-of-3
     slice-aggregate-step-of-6
+    slice-relend-prefix-step-of-4
+    slice-aggregate-step-of-7
     step-of-requires
     same-length-9
     same-length-10

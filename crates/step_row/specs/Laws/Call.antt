@@ -39,20 +39,20 @@ unfolding itemSound
 task-range t e = (leb-true 1 t (and-left (leb 1 t) (leb t 7) e), leb-true t 7 (and-right (leb 1 t) (leb t 7) e))
 
 -- the counts of a state that isn't refused fit
-pub fitted : (v : Rows) (table : ProcessTable) (constants registerTags registerWords program dataTags dataWords : List ℕ) (n : Sizes) (r : Bool)
-    → r ≡ stateRefused n (before v table constants registerTags registerWords program dataTags dataWords) → r ≡ false
-    → Fitting n (roomFrom (length (heldRows v)) (length constants) (length registerTags) (length registerWords) (length program) (length dataTags) (length dataWords))
+pub fitted : (v : Rows) (table : ProcessTable) (constantTags constantWords registerTags registerWords program dataTags dataWords : List ℕ) (n : Sizes) (r : Bool)
+    → r ≡ stateRefused n (before v table constantTags constantWords registerTags registerWords program dataTags dataWords) → r ≡ false
+    → Fitting n (roomFrom (length (heldRows v)) (length constantTags) (length constantWords) (length registerTags) (length registerWords) (length program) (length dataTags) (length dataWords))
 unfolding roomOf
-fitted v table constants registerTags registerWords program dataTags dataWords n r e f =
-    fitting n _ (accepted n (before v table constants registerTags registerWords program dataTags dataWords) (sym e ∙ f) .0)
+fitted v table constantTags constantWords registerTags registerWords program dataTags dataWords n r e f =
+    fitting n _ (accepted n (before v table constantTags constantWords registerTags registerWords program dataTags dataWords) (sym e ∙ f) .0)
 
-module _ (v : Rows) (row : Row) (table : ProcessTable) (constants registerTags registerWords program dataTags dataWords : List ℕ) (n : Sizes) (t : ℕ) where
+module _ (v : Rows) (row : Row) (table : ProcessTable) (constantTags constantWords registerTags registerWords program dataTags dataWords : List ℕ) (n : Sizes) (t : ℕ) where
   abbrev held : Buffers
-  held = before v table constants registerTags registerWords program dataTags dataWords
+  held = before v table constantTags constantWords registerTags registerWords program dataTags dataWords
 
   -- the buffers with a row at place i
   abbrev withRow : (i : ℕ) → Buffers
-  withRow i = lentBuffers (set (heldRows v) i row) table constants registerTags registerWords program dataTags dataWords
+  withRow i = lentBuffers (set (heldRows v) i row) table constantTags constantWords registerTags registerWords program dataTags dataWords
 
   refused-kept : (e : Refusal) → stepRefusal n held t ≡ some e → (i : ℕ) → StandsAt t (n .rows) (heldRows v) i row → StepPromise n held t (Refused e) (withRow i)
   unfolding stepAnswered stepAnswer stepLeaves unless leaving
@@ -71,7 +71,7 @@ module _ (v : Rows) (row : Row) (table : ProcessTable) (constants registerTags r
 
   -- the step
   module _ (q : stateRefused n held ≡ false) (k : itemSound t ≡ true) (x : SteppedRow) (registerTags′ registerWords′ dataTags′ dataWords′ : List ℕ)
-      (steps : StepsRow t row x (state (take (n .rows) (heldRows v)) table (take (n .constants) constants) (memory (take (n .registers) registerTags) (take (n .registers) registerWords)) (take (n .program) program) (memory (take (n .data_words) dataTags) (take (n .data_words) dataWords))) (memory registerTags′ registerWords′) (memory dataTags′ dataWords′)) where
+      (steps : StepsRow t row x (state (take (n .rows) (heldRows v)) table (memory (take (n .constants) constantTags) (take (n .constants) constantWords)) (memory (take (n .registers) registerTags) (take (n .registers) registerWords)) (take (n .program) program) (memory (take (n .data_words) dataTags) (take (n .data_words) dataWords))) (memory registerTags′ registerWords′) (memory dataTags′ dataWords′)) where
     pub row-kept : hasRow t (take (n .rows) (heldRows v)) ≡ false → x .row ≡ row
     unfolding fieldsIn
     row-kept = steps .unlisted (accepted n held q .1)
@@ -82,12 +82,12 @@ module _ (v : Rows) (row : Row) (table : ProcessTable) (constants registerTags r
         (s : StandsAt t (n .rows) (heldRows v) i row) where
       abbrev after : Buffers
       after =
-          lentBuffers (set (heldRows v) i (x .row)) (x .table) constants (registerTags′ ++ drop (n .registers) registerTags) (registerWords′ ++ drop (n .registers) registerWords) program
+          lentBuffers (set (heldRows v) i (x .row)) (x .table) constantTags constantWords (registerTags′ ++ drop (n .registers) registerTags) (registerWords′ ++ drop (n .registers) registerWords) program
           (dataTags′ ++ drop (n .data_words) dataTags) (dataWords′ ++ drop (n .data_words) dataWords)
 
       abbrev left : State
       left =
-          state (putRow t (x .row) (take (n .rows) (heldRows v))) (x .table) (take (n .constants) constants) (memory registerTags′ registerWords′) (take (n .program) program)
+          state (putRow t (x .row) (take (n .rows) (heldRows v))) (x .table) (memory (take (n .constants) constantTags) (take (n .constants) constantWords)) (memory registerTags′ registerWords′) (take (n .program) program)
           (memory dataTags′ dataWords′)
 
       stepped : step t (fieldsIn n held) ≡ record { state = left; ending = x .ending }
@@ -97,10 +97,11 @@ module _ (v : Rows) (row : Row) (table : ProcessTable) (constants registerTags r
       holds : after ≡ holding left held
       unfolding holding
       holds =
-          let f = fitted v table constants registerTags registerWords program dataTags dataWords n (stateRefused n held) refl q in
+          let f = fitted v table constantTags constantWords registerTags registerWords program dataTags dataWords n (stateRefused n held) refl q in
           rw (
             stored-at t (n .rows) i row (x .row) (heldRows v) (f .rows) s row-kept,
-            over-first (n .constants) constants (f .constants),
+            over-first (n .constants) constantTags (f .constantTags),
+            over-first (n .constants) constantWords (f .constantWords),
             ← over-cut (n .registers) registerTags registerTags′ l₁ (f .registerTags),
             ← over-cut (n .registers) registerWords registerWords′ l₂ (f .registerWords),
             over-first (n .program) program (f .program),

@@ -5,14 +5,14 @@ use mathlib.Core.List.{List}
 use lib.Dec.{eqb, leb}
 use lib.ListN.{take}
 use Rattle.window.specs.declared.Row.{Row}
-use Rattle.window.specs.Memories.{memory}
+use Rattle.window.specs.Memories.{Memory, memory}
 use Rattle.step.specs.declared.Queue.{Queue}
 use Rattle.step.specs.declared.ProcessTable.{ProcessTable}
 use Rattle.step.specs.State.{State}
 use Rattle.step.specs.Soundness.{hasRow, queueShaped, sound}
 
 -- the state that is held
-unfoldable pub stateIn : (rows : List Row) → (n : ℕ) → ProcessTable → (constants tags words program dataTags dataWords : List ℕ) → State
+unfoldable pub stateIn : (rows : List Row) → (n : ℕ) → ProcessTable → (constants : Memory) → (tags words program dataTags dataWords : List ℕ) → State
 stateIn rows n table constants tags words program dataTags dataWords = record {
   rows = take n rows;
   table = table;
