@@ -37,7 +37,8 @@ fn task(n: u16) -> Task {
 
 /// `tasks` tasks without processes; the nth runs the nth program.
 fn draft(programs: &[Vec<u64>]) -> Draft {
-    let mut draft = Draft { constants: CONSTANTS.to_vec(), ..Draft::default() };
+    let constants = CONSTANTS.map(|word| (0, word)).to_vec();
+    let mut draft = Draft { constants, ..Draft::default() };
     for (n, program) in programs.iter().enumerate() {
         draft.tasks.push(task(n as u16));
         draft.registers.extend((0..16).map(|i| (0, 0x1234_5678_9ABC * i + 7)));
@@ -111,7 +112,7 @@ pub fn loadstore_over(data_words: usize) -> (Vec<u8>, Vec<u8>) {
     let mut draft = draft(&[looped(data_operation)]);
     draft.tasks[0].dl = (data_words / 32 - 1) as u32;
     // An eighth of the memory apart: the sum of two is inside it.
-    (4..8).for_each(|i| draft.constants[i] = (i as u64 - 4) * data_words as u64);
+    (4..8).for_each(|i| draft.constants[i].1 = (i as u64 - 4) * data_words as u64);
     draft.data = vec![(1, 0); data_words];
     start(&mut draft, 1, 0);
     (draft.bytes(), in_turn(1))

@@ -138,7 +138,7 @@ fn generated_files() {
     let path = folder.to_str().unwrap();
     let generate = |arguments: &[&str]| run(env!("CARGO_BIN_EXE_hep-generate"), arguments, b"");
     assert!(generate(&["--refused", path]).status.success());
-    for number in [1, 2, 3, 4, 5, 6, 12, 13] {
+    for number in [1, 2, 3, 4, 5, 6, 12, 13, 14] {
         let image = fs::read(folder.join(format!("R{number}.bin"))).unwrap();
         assert_eq!(image::read(&image).err().map(|refusal| refusal.number), Some(number));
     }

@@ -1,9 +1,12 @@
 //! The trials, the comparison and isolation, on the emulator and on faulty ones.
 
-use hep_tools::compare::isolation;
+use hep_tools::compare::isolation::{self, Broken};
 use hep_tools::compare::{self, Emulator, Implementation, Lines, Program};
 use hep_tools::emulator::batch::{self, Answer};
+use hep_tools::emulator::draft::{Draft, Task};
+use hep_tools::generate::Pair;
 use hep_tools::tool;
+use hep_tools::tool::text::Source;
 use hep_tools::trials;
 
 #[test]
@@ -56,6 +59,7 @@ fn cases_are_shrunk() {
         (told_apart(|_, answer| renumbered(answer, b"R3\n", b"R2\n")), 20),
         (told_apart(|_, answer| renumbered(answer, b"R12\n", b"R3\n")), 20),
         (told_apart(|_, answer| renumbered(answer, b"R13\n", b"R3\n")), 50),
+        (told_apart(|_, answer| renumbered(answer, b"R14\n", b"R13\n")), 50),
     ];
     for (input, most) in refused {
         assert!(input.len() < most, "{}", tool::to_hex(&input));
@@ -78,6 +82,32 @@ fn isolation_is_kept() {
     assert!(tally.met > 500 && tally.met_changed > 400, "{tally:?}");
     // Where a premise is broken the shares often differ, so the pairs do put it to the test.
     assert!(tally.broken.iter().sum::<u64>() > 100 && tally.broken_differed > 50, "{tally:?}");
+}
+
+/// Which premise a pair breaks that differs in its constants only.
+fn broken_by(first: &[(u8, u64)], second: &[(u8, u64)]) -> Option<Broken> {
+    let drafts = [first, second].map(|constants| Draft {
+        tasks: vec![Task::empty(1)],
+        constants: constants.to_vec(),
+        ..Draft::default()
+    });
+    let [first, second] = drafts.clone().map(|draft| Source { schedule: Some(vec![1]), draft });
+    isolation::broken(&Pair { first, second, task: 1 }, &drafts)
+}
+
+#[test]
+fn constant_memory_agrees_by_what_it_reads() {
+    let nine: Vec<(u8, u64)> = (0..9).map(|i| (i as u8 % 7, i)).collect();
+    let and = |more: &[(u8, u64)]| [&nine, more].concat();
+    assert_eq!(broken_by(&nine, &nine), None);
+    assert_eq!(broken_by(&nine, &and(&[(0, 0)])), None);
+    assert_eq!(broken_by(&[], &[(0, 0); 4_096]), None);
+    for tenth in [(1, 0), (6, 0), (0, 1)] {
+        assert_eq!(broken_by(&nine, &and(&[tenth])), Some(Broken::Disagree));
+        assert_eq!(broken_by(&and(&[tenth]), &nine), Some(Broken::Disagree));
+        assert_eq!(broken_by(&and(&[tenth]), &and(&[tenth])), None);
+        assert_eq!(broken_by(&and(&[tenth]), &and(&[(5, 7)])), Some(Broken::Disagree));
+    }
 }
 
 #[test]

@@ -2,9 +2,9 @@
 
 use hep_tools::benchmark;
 use hep_tools::emulator::batch;
-use hep_tools::emulator::draft::batch_input;
+use hep_tools::emulator::draft::{batch_input, Task};
 use hep_tools::emulator::image;
-use hep_tools::emulator::machine::Counts;
+use hep_tools::emulator::machine::{Counts, Ending, Machine, DATA_EXCEPTION, NO_TRAP};
 use hep_tools::emulator::refusal::{Refusal, Section};
 use hep_tools::generate;
 
@@ -31,7 +31,7 @@ fn states_after_runs_are_images() {
 }
 
 /// The refusals that the batch program has.
-const REFUSALS: [usize; 10] = [1, 2, 3, 4, 5, 6, 10, 11, 12, 13];
+const REFUSALS: [usize; 11] = [1, 2, 3, 4, 5, 6, 10, 11, 12, 13, 14];
 
 /// Whether this is the line of one of them.
 fn is_refusal(output: &str) -> bool {
@@ -74,7 +74,7 @@ fn is_number(text: &str) -> bool {
 
 #[test]
 fn outputs_are_reports_or_refusals() {
-    let mut refused = [0; 14];
+    let mut refused = [0; 15];
     for n in 0..3_000 {
         let output = String::from_utf8(batch::output(&generate::input(13, n))).unwrap();
         assert!(is_report(&output) || is_refusal(&output), "{output:?}");
@@ -87,8 +87,8 @@ fn outputs_are_reports_or_refusals() {
     }
 }
 
-/// The fields that are refused by 3, 12 and 13.
-const FIELDS: [(Section, &str); 14] = [
+/// The fields that are refused by 3, 12, 13 and 14.
+const FIELDS: [(Section, &str); 15] = [
     (Section::Tasks, "task number"),
     (Section::Tasks, "CB"),
     (Section::Tasks, "RB"),
@@ -101,6 +101,7 @@ const FIELDS: [(Section, &str); 14] = [
     (Section::Processes, "PT"),
     (Section::Processes, "task"),
     (Section::Processes, "PSW"),
+    (Section::Constants, "quality"),
     (Section::Registers, "tag"),
     (Section::Data, "state"),
 ];
@@ -111,7 +112,7 @@ fn every_field_is_spoilt() {
     for make in [generate::input, generate::small_input] {
         let refusals = (0..6_000).filter_map(|n| batch::accepted(&make(14, n)).err());
         let (of_fields, others): (Vec<Refusal>, Vec<Refusal>) =
-            refusals.partition(|refusal| [3, 12, 13].contains(&refusal.number));
+            refusals.partition(|refusal| [3, 12, 13, 14].contains(&refusal.number));
         let came = |field| {
             let is_it = |refusal: &&Refusal| (refusal.section, refusal.field) == field;
             of_fields.iter().filter(is_it).count()
@@ -124,16 +125,43 @@ fn every_field_is_spoilt() {
     }
 }
 
+/// Whether the data exception of a trapped task is a constant's: it doesn't come where each has quality 0.
+fn is_a_constants(machine: &Machine, task: u8) -> bool {
+    let mut draft = image::draft(machine);
+    let own = |row: &&mut Task| row.number == task;
+    for row in draft.tasks.iter_mut().filter(own) {
+        (row.kind, row.trapped) = (NO_TRAP, 0);
+    }
+    draft.constants.iter_mut().for_each(|constant| constant.0 = 0);
+    let mut machine = image::read(&draft.bytes()).expect("accepted");
+    !matches!(machine.step(task), Ending::Trapped { kind: DATA_EXCEPTION, .. })
+}
+
+/// Whether an input is accepted and its run has such a data exception.
+fn has_a_constants_exception(input: &[u8]) -> bool {
+    let Ok((schedule, mut machine)) = batch::accepted(input) else { return false };
+    schedule.iter().any(|&task| {
+        let excepted = matches!(machine.step(task), Ending::Trapped { kind: DATA_EXCEPTION, .. });
+        excepted && is_a_constants(&machine, task)
+    })
+}
+
+#[test]
+fn constants_cause_data_exceptions() {
+    for make in [generate::input, generate::small_input] {
+        let came = (0..3_000).filter(|n| has_a_constants_exception(&make(16, *n))).count();
+        assert!(came > 100, "{came}");
+    }
+}
+
 /// An input that is cut before its refused field lacks that very field.
 #[test]
 fn places_are_those_of_the_fields() {
     let refusal = |input: &[u8]| batch::accepted(input).err();
     let mut tried = 0;
     for input in (0..3_000).map(|n| generate::input(15, n)) {
-        let Some(found) = refusal(&input).filter(|found| [2, 3, 12, 13].contains(&found.number))
-        else {
-            continue;
-        };
+        let of_field = |found: &Refusal| [2, 3, 12, 13, 14].contains(&found.number);
+        let Some(found) = refusal(&input).filter(of_field) else { continue };
         let cut = refusal(&input[..found.place]).expect("refused");
         let wrong = cut.wrong.clone();
         assert_eq!(cut, Refusal { number: 1, wrong, ..found });

@@ -21,7 +21,7 @@ fn largest() -> Draft {
         tasks: vec![task],
         processes: vec![Process { pt: 63, task: 1, psw: psw(0, 0, 0, 0xF_FFFF) }],
         flag: 0,
-        constants: vec![1; 4_096],
+        constants: vec![(6, 1); 4_096],
         registers: vec![(14, 1); 2_048],
         program: vec![word(NOP, 0, 0, 0); 1 << 20],
         data: vec![(0, 1); 1 << 20],

@@ -92,9 +92,9 @@ fn names_labels_and_repetitions() {
         name step = c1
         name LIMIT = 0x10
         constants
-          psw ri=2 utm=0x40 pc=done
+          psw ri=2 utm=0x40 pc=done quality=1
           -1
-          LIMIT * 2
+          LIMIT quality=5 * 2
         registers
           empty 5 quality=4
           full step_word
@@ -111,7 +111,7 @@ fn names_labels_and_repetitions() {
     ";
     let source = assemble(text).unwrap();
     let draft = &source.draft;
-    assert_eq!(draft.constants, [psw(0, 2, 0x40, 2), u64::MAX, 16, 16]);
+    assert_eq!(draft.constants, [(1, psw(0, 2, 0x40, 2)), (0, u64::MAX), (5, 16), (5, 16)]);
     assert_eq!(draft.registers, [(12, 5), (0, -7_i64 as u64)]);
     assert_eq!(draft.program[..16], [0; 16]);
     assert_eq!(draft.program[16], word(ADD, register(1), register(1), constant(1)));
@@ -122,7 +122,7 @@ fn names_labels_and_repetitions() {
 }
 
 /// Bad text as lines behind `hep input`, with the line, column and reason.
-const BAD: [(&str, usize, usize, &str); 52] = [
+const BAD: [(&str, usize, usize, &str); 55] = [
     ("task", 2, 5, "a number should stand here"),
     ("task 0 cb=0", 2, 6, "the task must be from 1 to 7"),
     ("task 8 cb=0", 2, 6, "the task must be from 1 to 7"),
@@ -160,6 +160,9 @@ const BAD: [(&str, usize, usize, &str); 52] = [
     ("constants\n1 * 0", 3, 5, "the repetition must be from 1 to 1048576"),
     ("constants\n1 * 4097", 3, 1, "the section has at most 4096"),
     ("constants\n1 2", 3, 3, "the line should end here"),
+    ("constants\nfull 1", 3, 1, "`full` is unknown"),
+    ("constants\n5 quality=7", 3, 11, "quality must be from 0 to 6"),
+    ("constants\nquality=5 5", 3, 1, "`quality` is unknown"),
     ("registers\n5", 3, 1, "`full` or `empty` should stand here"),
     ("registers\nfull 5 quality=7", 3, 16, "quality must be from 0 to 6"),
     ("program\nAND r0, r1, r2", 3, 1, "an instruction should stand here"),
@@ -245,7 +248,7 @@ fn files_are_text_hex_or_bytes() {
 }
 
 /// Fields of the full image that get these bytes, and what is said of them: number, words, and the field's place.
-const REFUSED: [(usize, &[u8], &str); 26] = [
+const REFUSED: [(usize, &[u8], &str); 28] = [
     (0, &[8], "R2: task section: count 0x08 is over 0x07"),
     (1, &[0], "R3: task section, row 1 of 2: task number 0x00 must be over 0x00"),
     (2, &[0x10, 0], "R3: task section, row 1 of 2: CB 0x1000 is over 0x0FFF"),
@@ -265,13 +268,15 @@ const REFUSED: [(usize, &[u8], &str); 26] = [
     (70, &[8], "R12: process section, process 2 of 3: task 0x08 is over 0x07"),
     (81, &[0, 0, 0, 0, 0, 0x10, 0, 0], "R12: process section, process 3 of 3: PSW 0x0000000000100000 sets bits of 0xFF00000000F00000, which must be zero"),
     (89, &[0x10, 1], "R2: constant section: count 0x1001 is over 0x1000"),
-    (107, &[8, 1], "R2: register section: count 0x0801 is over 0x0800"),
-    (109, &[7], "R13: register section, register 1 of 5: tag 0x07 is neither 0x00 to 0x06 nor 0x08 to 0x0E"),
-    (145, &[15], "R13: register section, register 5 of 5: tag 0x0F is over 0x0E"),
-    (154, &[0, 0x10, 0, 1], "R2: program section: count 0x00100001 is over 0x00100000"),
-    (286, &[1, 0, 0, 0], "R2: data section: count 0x01000000 is over 0x00100000"),
-    (290, &[2], "R13: data section, word 1 of 32: state 0x02 is over 0x01"),
-    (569, &[255], "R13: data section, word 32 of 32: state 0xFF is over 0x01"),
+    (91, &[7], "R14: constant section, constant 1 of 2: quality 0x07 is over 0x06"),
+    (100, &[255], "R14: constant section, constant 2 of 2: quality 0xFF is over 0x06"),
+    (109, &[8, 1], "R2: register section: count 0x0801 is over 0x0800"),
+    (111, &[7], "R13: register section, register 1 of 5: tag 0x07 is neither 0x00 to 0x06 nor 0x08 to 0x0E"),
+    (147, &[15], "R13: register section, register 5 of 5: tag 0x0F is over 0x0E"),
+    (156, &[0, 0x10, 0, 1], "R2: program section: count 0x00100001 is over 0x00100000"),
+    (288, &[1, 0, 0, 0], "R2: data section: count 0x01000000 is over 0x00100000"),
+    (292, &[2], "R13: data section, word 1 of 32: state 0x02 is over 0x01"),
+    (571, &[255], "R13: data section, word 32 of 32: state 0xFF is over 0x01"),
 ];
 
 /// What is said of an image with a reason at this place, alone and in a batch input of two items.
@@ -297,7 +302,7 @@ fn refusals_in_words() {
         said_of(&image, place, reason);
     }
     let longer = [&full[..], &[0; 3]].concat();
-    said_of(&longer, 578, "R4: data section: the end has more bytes behind it: 3");
+    said_of(&longer, 580, "R4: data section: the end has more bytes behind it: 3");
 }
 
 #[test]
@@ -308,10 +313,12 @@ fn cut_images_in_words() {
         (58, 58, "process section: create fault flag", (0, 1)),
         (88, 81, "process section, process 3 of 3: PSW", (7, 8)),
         (90, 89, "constant section: count", (1, 2)),
-        (91, 91, "constant section, constant 1 of 2: word", (0, 8)),
-        (145, 145, "register section, register 5 of 5: tag", (0, 1)),
-        (165, 158, "program section, word 1 of 16: word", (7, 8)),
-        (577, 570, "data section, word 32 of 32: word", (7, 8)),
+        (91, 91, "constant section, constant 1 of 2: quality", (0, 1)),
+        (92, 92, "constant section, constant 1 of 2: word", (0, 8)),
+        (100, 100, "constant section, constant 2 of 2: quality", (0, 1)),
+        (147, 147, "register section, register 5 of 5: tag", (0, 1)),
+        (167, 160, "program section, word 1 of 16: word", (7, 8)),
+        (579, 572, "data section, word 32 of 32: word", (7, 8)),
     ];
     for (end, place, field, (there, width)) in cases {
         let reason = format!("R1: {field} is not whole: the bytes end after {there} of {width}");
@@ -351,7 +358,7 @@ fn refused_schedules_in_words() {
     let words = "batch input: R1: schedule: count is not whole: the bytes end after 1 of 2";
     said(&[0], &format!("{words} {}", place(0)));
     let long = batch_input(&vec![1; 65_000], &image);
-    let words = "batch input: R11: batch input: length of 65580 bytes is over 65536";
+    let words = "batch input: R11: batch input: length of 65582 bytes is over 65536";
     said(&long, &format!("{words} {}", place(65_536)));
 }
 

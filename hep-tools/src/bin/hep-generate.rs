@@ -15,8 +15,8 @@ Makes batch inputs: valid, damaged and wild ones, the same for the same seed. Th
 SEED-NUMBER.bin in DIR, or without DIR lines of hex on standard output.
 
   --small     inputs of some 1,000 bytes with at most 40 items
-  --refused   instead the smallest image for each of the refusals 1 to 6, 12 and 13, as files
-              R1.bin to R13.bin
+  --refused   instead the smallest image for each of the refusals 1 to 6 and 12 to 14, as files
+              R1.bin to R14.bin
 ";
 
 fn main() -> io::Result<()> {

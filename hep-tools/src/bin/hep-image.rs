@@ -30,7 +30,8 @@ const ASM_HELP: &str = "\
 usage: hep-image asm [--hex] [-o FILE] [FILE]
 
 Writes the bytes that the text describes: an image, or a batch input if it begins with
-`hep input`.
+`hep input`. A constant or register has its quality behind its word, as `7 quality=5`; 0 if it is
+left out.
 
   --hex   write hex digits
 ";

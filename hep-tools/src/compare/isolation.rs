@@ -4,7 +4,7 @@
 use crate::compare::Implementation;
 use crate::emulator::batch::Answer;
 use crate::emulator::draft::{Draft, Task};
-use crate::emulator::image;
+use crate::emulator::image::{self, MOST_CONSTANTS};
 use crate::generate::{self, Pair};
 use crate::tool::share::{data, instructions, registers, share, Share};
 use crate::tool::text::Source;
@@ -78,7 +78,7 @@ fn answered(tried: &mut dyn Implementation, source: &Source) -> Result<Draft, St
 pub fn broken(pair: &Pair, after: &[Draft; 2]) -> Option<Broken> {
     let drafts = [&pair.first.draft, &pair.second.draft];
     let [first, second] = drafts.map(|draft| compared(draft, pair.task));
-    if first != second || drafts[0].constants != drafts[1].constants {
+    if first != second || !constants_agree(drafts) {
         return Some(Broken::Disagree);
     }
     if drafts.iter().any(|draft| meets_another(draft, pair.task)) {
@@ -92,6 +92,12 @@ pub fn broken(pair: &Pair, after: &[Draft; 2]) -> Option<Broken> {
         return Some(Broken::ItemsDiffer);
     }
     after.iter().any(|draft| draft.flag != 0).then_some(Broken::FlagUp)
+}
+
+/// Whether every real address of constant memory reads the same, word and quality; past the count both are zero.
+fn constants_agree(drafts: [&Draft; 2]) -> bool {
+    let read = |draft: &Draft, real| draft.constants.get(real).copied().unwrap_or_default();
+    (0..MOST_CONSTANTS).all(|real| read(drafts[0], real) == read(drafts[1], real))
 }
 
 /// Windows, instructions and share of a task: what two images must agree on.

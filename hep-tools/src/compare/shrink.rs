@@ -54,7 +54,7 @@ fn by_fields(mut source: Source, search: &mut Search) -> Source {
     chunks(best, search, |s| &mut s.draft.program, Some(0));
     chunks(best, search, |s| &mut s.draft.registers, Some((0, 0)));
     chunks(best, search, |s| &mut s.draft.data, Some((1, 0)));
-    chunks(best, search, |s| &mut s.draft.constants, Some(0));
+    chunks(best, search, |s| &mut s.draft.constants, Some((0, 0)));
     chunks(best, search, |s| &mut s.draft.program, None);
     chunks(best, search, |s| &mut s.draft.registers, None);
     chunks(best, search, |s| &mut s.draft.data, None);

@@ -28,13 +28,13 @@ pub struct Process {
     pub psw: u64,
 }
 
-/// Registers and data are pairs of tag or state, and word.
+/// Constants, registers and data are pairs of quality, tag or state, and word.
 #[derive(Clone, PartialEq, Eq, Debug, Default)]
 pub struct Draft {
     pub tasks: Vec<Task>,
     pub processes: Vec<Process>,
     pub flag: u8,
-    pub constants: Vec<u64>,
+    pub constants: Vec<(u8, u64)>,
     pub registers: Vec<(u8, u64)>,
     pub program: Vec<u64>,
     pub data: Vec<(u8, u64)>,
@@ -50,9 +50,10 @@ impl Draft {
             out.extend([process.pt, process.task]);
             put(&mut out, 8, process.psw);
         }
-        put_words(&mut out, 2, &self.constants);
+        put_tagged(&mut out, 2, &self.constants);
         put_tagged(&mut out, 2, &self.registers);
-        put_words(&mut out, 4, &self.program);
+        put(&mut out, 4, self.program.len() as u64);
+        self.program.iter().for_each(|&word| put(&mut out, 8, word));
         put_tagged(&mut out, 4, &self.data);
         out
     }
@@ -72,11 +73,6 @@ fn put_task(out: &mut Vec<u8>, task: &Task) {
     put(out, 4, u64::from(task.dl));
     out.push(task.kind);
     put(out, 8, task.trapped);
-}
-
-fn put_words(out: &mut Vec<u8>, width: usize, words: &[u64]) {
-    put(out, width, words.len() as u64);
-    words.iter().for_each(|&word| put(out, 8, word));
 }
 
 fn put_tagged(out: &mut Vec<u8>, width: usize, cells: &[(u8, u64)]) {

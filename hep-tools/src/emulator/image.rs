@@ -1,4 +1,4 @@
-//! Images: reading with refusals 1 to 6, 12 and 13, and writing.
+//! Images: reading with refusals 1 to 6 and 12 to 14, and writing.
 
 use crate::emulator::draft::{Draft, Process, Task};
 use crate::emulator::machine::*;
@@ -52,6 +52,10 @@ const fn of_process(name: &'static str, width: usize, most: u64) -> Field {
     Field { section: Section::Processes, name, width, most, number: PROCESS_FIELD }
 }
 
+const fn of_constant(name: &'static str, width: usize, most: u64) -> Field {
+    Field { section: Section::Constants, name, width, most, number: CONSTANT_FIELD }
+}
+
 const fn of_cell(section: Section, name: &'static str, width: usize, most: u64) -> Field {
     Field { section, name, width, most, number: CELL_FIELD }
 }
@@ -77,6 +81,7 @@ const PT: Field = of_process("PT", 1, 63);
 const PROCESS_TASK: Field = of_process("task", 1, 7);
 const PSW: Field = of_process("PSW", 8, u64::MAX);
 const CONSTANT_COUNT: Field = count(Section::Constants, 2, MOST_CONSTANTS);
+const QUALITY: Field = of_constant("quality", 1, 6);
 const CONSTANT: Field = any_word(Section::Constants);
 const REGISTER_COUNT: Field = count(Section::Registers, 2, REGISTERS);
 const TAG: Field = of_cell(Section::Registers, "tag", 1, 14);
@@ -234,6 +239,7 @@ fn constants(machine: &mut Machine, input: &mut Input) -> Refusable<()> {
     machine.constant_count = count;
     for i in 0..count {
         input.entry = Some((i + 1, count));
+        machine.tags[REGISTERS + i] = input.value(&QUALITY)? as u8;
         machine.words[REGISTERS + i] = input.value(&CONSTANT)?;
     }
     Ok(())
@@ -331,15 +337,14 @@ pub fn write(machine: &Machine) -> Vec<u8> {
 
 /// The fields of a machine's image.
 pub fn draft(machine: &Machine) -> Draft {
-    let constants = &machine.words[REGISTERS..][..machine.constant_count];
-    let registers = machine.tags.iter().copied().zip(machine.words.iter().copied());
+    let cells = || machine.tags.iter().copied().zip(machine.words.iter().copied());
     let data = machine.full.iter().copied().zip(machine.data.iter().copied());
     Draft {
         tasks: machine.tasks().map(|task| drafted_task(machine, task)).collect(),
         processes: machine.tasks().flat_map(|task| drafted_processes(machine, task)).collect(),
         flag: u8::from(machine.flag),
-        constants: constants.to_vec(),
-        registers: registers.take(machine.register_count).collect(),
+        constants: cells().skip(REGISTERS).take(machine.constant_count).collect(),
+        registers: cells().take(machine.register_count).collect(),
         program: machine.program.clone(),
         data: data.collect(),
     }

@@ -13,7 +13,7 @@ pub const NO_TRAP: u8 = 0xFF;
 /// Tag bit of an empty register.
 pub const EMPTY: u8 = 8;
 
-/// Cells: the registers, then every real address of constant memory.
+/// Cells: the registers, then every real address of constant memory, whose tag is its quality.
 pub const REGISTERS: usize = 2_048;
 pub const CONSTANTS: usize = 8_192;
 const CELLS: usize = REGISTERS + CONSTANTS;

@@ -12,6 +12,7 @@ pub const BAD_ITEM: u8 = 10;
 pub const TOO_LONG: u8 = 11;
 pub const PROCESS_FIELD: u8 = 12;
 pub const CELL_FIELD: u8 = 13;
+pub const CONSTANT_FIELD: u8 = 14;
 
 /// The sections of an image, the schedule before it, and the batch input of both.
 #[derive(Clone, Copy, PartialEq, Eq, Debug)]

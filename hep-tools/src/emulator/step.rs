@@ -206,7 +206,7 @@ impl Machine {
         place.access != 0 && rule >> (place.access << 1 | empty) & 1 != 0
     }
 
-    /// Check 6 for one source.
+    /// Check 6 for one source, register or constant.
     #[inline(always)]
     fn excepted(&self, mask: u64, place: Place) -> bool {
         mask & 0x80 >> (self.tags[place.cell] & 7) != 0

@@ -77,19 +77,19 @@ fn window(draft: &mut Draft, random: &mut Random) {
 
 fn memory(draft: &mut Draft, size: Size, random: &mut Random) {
     let least = if size == Size::Small { 2 } else { 0 };
-    match random.between(least, 3) {
-        0 => draft.constants.resize(random.between(4_095, 4_098) as usize, 5),
+    match random.between(least, 4) {
+        0 => draft.constants.resize(random.between(4_095, 4_098) as usize, (5, 5)),
         1 => draft.registers.resize(random.between(2_047, 2_050) as usize, (0, 5)),
-        2 => {
-            if let Some(register) = draft.registers.last_mut() {
-                register.0 = random.pick(&[7, 15, 16, 255]);
-            }
-        }
-        _ => {
-            if let Some(word) = draft.data.last_mut() {
-                word.0 = random.pick(&[2, 3, 128, 255]);
-            }
-        }
+        2 => cell(&mut draft.constants, &[7, 8, 15, 255], random),
+        3 => cell(&mut draft.registers, &[7, 15, 16, 255], random),
+        _ => cell(&mut draft.data, &[2, 3, 128, 255], random),
+    }
+}
+
+/// Gives a cell one of these tags.
+fn cell(cells: &mut [(u8, u64)], tags: &[u8], random: &mut Random) {
+    if !cells.is_empty() {
+        cells[random.below(cells.len() as u64) as usize].0 = random.pick(tags);
     }
 }
 

@@ -1,7 +1,7 @@
 //! Valid random images: memories, windows, processes.
 
 use super::program;
-use super::values::{self, USES};
+use super::values::{self, UNSET, UNSET_MASK, USES};
 use crate::emulator::assemble::psw;
 use crate::emulator::draft::{Draft, Process, Task};
 use crate::generate::random::Random;
@@ -65,7 +65,10 @@ fn counts(size: Size, random: &mut Random) -> [u64; 4] {
 fn fill_memories(draft: &mut Draft, size: Size, random: &mut Random) {
     let [constants, registers, program, data] = counts(size, random);
     let purpose = |i: u64| USES[i as usize % 4];
-    draft.constants = (0..constants).map(|i| values::word(purpose(i), random)).collect();
+    let marked = random.pick(if size == Size::Small { &[0, 0, 30, 60] } else { &[0, 0, 5, 30] });
+    let constant =
+        |i, random: &mut Random| (quality(random, marked), values::word(purpose(i), random));
+    draft.constants = (0..constants).map(|i| constant(i, random)).collect();
     let empties = random.pick(&[0, 10, 30]);
     let held = |i: u64, random: &mut Random| match i % 2 {
         0 => values::any(random),
@@ -75,6 +78,15 @@ fn fill_memories(draft: &mut Draft, size: Size, random: &mut Random) {
     draft.program = (0..program).map(|_| values::any(random)).collect();
     let full = |random: &mut Random| u8::from(!random.chance(empties));
     draft.data = (0..data).map(|_| (full(random), values::any(random))).collect();
+}
+
+/// The quality of a constant, of which so many in a hundred don't have 0.
+fn quality(random: &mut Random, marked: u64) -> u8 {
+    if random.chance(marked) {
+        random.pick(&[1, 2, 3, 4, 6, UNSET, UNSET, UNSET, UNSET, UNSET])
+    } else {
+        0
+    }
 }
 
 fn tag(random: &mut Random, empties: u64) -> u8 {
@@ -162,12 +174,15 @@ fn add_processes(draft: &mut Draft, random: &mut Random) {
     let mut owners: Vec<Task> = (0..count).map(|i| owner(draft, i, random)).collect();
     owners.sort_by_key(|task| task.number);
     let numbers = process_numbers(random);
+    let marked = draft.constants.iter().any(|constant| constant.0 == UNSET);
     for (task, pt) in owners.iter().zip(numbers) {
         let program = (u64::from(task.pl) + 1).saturating_sub(u64::from(task.pb)) * PROGRAM_UNIT;
+        // A mask for the constants that aren't set.
+        let utm = if marked && random.chance(30) { UNSET_MASK } else { 0 };
         let psw = if random.chance(60) {
-            psw(0, 0, 0, random.below(program.max(1)))
+            psw(0, 0, utm, random.below(program.max(1)))
         } else {
-            values::status(random, program)
+            values::status(random, program) | psw(0, 0, utm, 0)
         };
         draft.processes.push(Process { pt, task: task.number, psw });
     }

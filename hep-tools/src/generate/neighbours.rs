@@ -1,8 +1,10 @@
 //! Pairs of inputs that agree on one task and differ in its neighbours.
 
 use super::layout::{self, Size};
-use super::{program, schedule, values};
+use super::values::{self, UNSET};
+use super::{program, schedule};
 use crate::emulator::draft::{Draft, Process, Task};
+use crate::emulator::image::MOST_CONSTANTS;
 use crate::generate::random::Random;
 use crate::tool::share;
 use crate::tool::text::Source;
@@ -30,6 +32,7 @@ pub fn pair(random: &mut Random) -> Pair {
     match random.below(40) {
         0 => other.push(task),
         1 => disagree(&mut second, task),
+        2 => disagree_on_constants(&mut second, random),
         _ => {}
     }
     Pair {
@@ -54,12 +57,28 @@ fn neighboured(first: &Draft, number: u8, random: &mut Random) -> Draft {
     };
     draft.registers.iter_mut().for_each(|cell| *cell = any(random));
     draft.data.iter_mut().for_each(|cell| *cell = (random.below(2) as u8, values::any(random)));
+    add_zeros(&mut draft, random);
     program::fill(&mut draft, Size::Any, random);
     keep(&mut draft.registers, &first.registers, share::registers(&own));
     keep(&mut draft.data, &first.data, share::data(&own));
     keep(&mut draft.program, &first.program, share::program(&own));
     add_processes(&mut draft, first, number, random);
     draft
+}
+
+/// Now and then more constants, which read as the addresses past the count did.
+fn add_zeros(draft: &mut Draft, random: &mut Random) {
+    if random.chance(10) {
+        let more = draft.constants.len() + random.between(1, 9) as usize;
+        draft.constants.resize(more.min(MOST_CONSTANTS), (0, 0));
+    }
+}
+
+/// Gives some constants another quality.
+fn disagree_on_constants(draft: &mut Draft, random: &mut Random) {
+    for constant in draft.constants.iter_mut().filter(|_| random.chance(50)) {
+        constant.0 = (constant.0 + UNSET) % 7;
+    }
 }
 
 /// Turns a bit of the first register in the task's window, or of a status word of its own.

@@ -14,6 +14,10 @@ pub enum Use {
 
 pub const USES: [Use; 4] = [Use::Zero, Use::Address, Use::Status, Use::Number];
 
+/// The quality that solvers give to constants that aren't set, and its bit of UTM.
+pub const UNSET: u8 = 5;
+pub const UNSET_MASK: u64 = 0x80 >> UNSET;
+
 /// A word for this use.
 pub fn word(purpose: Use, random: &mut Random) -> u64 {
     match purpose {
@@ -46,6 +50,7 @@ pub fn status(random: &mut Random, program: u64) -> u64 {
     let utm = match random.below(50) {
         0 => random.draw(),
         1..=9 => random.draw() & 0x7F & random.draw(),
+        10..=12 => UNSET_MASK,
         _ => 0,
     };
     let stray = random.rarely(8);

@@ -41,7 +41,7 @@ impl State {
         }
     }
 
-    /// One change: `r1=empty 5 quality=4`, `d2=7`, `c1=psw pc=3`, `ri=2`, `live=62`.
+    /// One change: `r1=empty 5 quality=4`, `d2=7`, `c1=psw pc=3`, `c2=7 quality=5`, `ri=2`, `live=62`.
     fn change(&mut self, line: &mut Line) -> Result<(), Error> {
         let names = Names::none();
         let place = line.mark();
@@ -87,14 +87,13 @@ impl State {
         let draft = &mut self.draft;
         match memory {
             "r" => {
-                let mut quality = [0];
-                names.fields(line, &[("quality", 6)], &mut quality)?;
-                draft.registers[i] = (quality[0] as u8 | if empty { EMPTY } else { 0 }, word);
+                let state = if empty { EMPTY } else { 0 };
+                draft.registers[i] = (names.quality(line)? | state, word);
             }
             "d" => draft.data[i] = (u8::from(!empty), word),
             "c" => {
-                draft.constants.resize(draft.constants.len().max(i + 1), 0);
-                draft.constants[i] = word;
+                draft.constants.resize(draft.constants.len().max(i + 1), (0, 0));
+                draft.constants[i] = (names.quality(line)?, word);
             }
             _ => return Err(line.error(format!("there is no memory {memory}"))),
         }

@@ -1,5 +1,5 @@
 //! Families of trials as lines: each operation under each access code, illegal field,
-//! window, quality and data state, and the sixteen tests.
+//! window, quality of a register and of a constant, and data state, and the sixteen tests.
 
 /// An operation with D, S1, S2 and S0 in registers 0 to 3, which hold 8 in 1, 16 in 2, 33
 /// in 3, and what it changes then. Data words 1 and 3 hold 77 and 99. A name in braces is an
@@ -78,6 +78,8 @@ pub fn lines() -> Vec<String> {
     illegal_operands(&mut lines);
     outside(&mut lines);
     qualities(&mut lines);
+    constants(&mut lines);
+    constants_never(&mut lines);
     data_states(&mut lines);
     bad_addresses(&mut lines);
     tests(&mut lines);
@@ -171,8 +173,6 @@ fn outside(lines: &mut Vec<String>) {
 fn qualities(lines: &mut Vec<String>) {
     for (operation, changes, (operand, register, word)) in operands() {
         let text = with(operation, "", "");
-        // These hand UTM on.
-        let plain = !operation.starts_with('C') || operation.starts_with("CLR");
         for quality in 1..=6 {
             let bit = 0x80 >> quality;
             let before = format!("{BEFORE}, r{register}={word} quality={quality}");
@@ -180,7 +180,7 @@ fn qualities(lines: &mut Vec<String>) {
             if operand != "D" {
                 lines.push(format!("{name}, masked | {before}, utm={bit} | {text} | T1E |"));
             }
-            if plain {
+            if !hands_utm_on(operation) {
                 let others = if operand == "D" { bit } else { 0x7F & !bit };
                 lines.push(format!(
                     "{name}, let be | {before}, utm={others} | {text} | E | {changes}"
@@ -189,6 +189,58 @@ fn qualities(lines: &mut Vec<String>) {
         }
         if operand != "D" {
             lines.push(format!("{text} under UTM bit 0 | {BEFORE}, utm=0x80 | {text} | T1E |"));
+        }
+    }
+}
+
+/// Whether it is CALL or CREATE, which hand UTM on.
+fn hands_utm_on(operation: &str) -> bool {
+    operation.starts_with('C') && !operation.starts_with("CLR")
+}
+
+/// Each operation with each source in turn in the constant of the register's number and word.
+fn constant_sources() -> impl Iterator<Item = (String, &'static str, String)> {
+    let sources = operands().filter(|(_, _, (operand, _, _))| *operand != "D");
+    sources.map(|(operation, changes, (operand, place, word))| {
+        let register = format!("r{place}{{{operand}}}");
+        let text = with(&operation.replace(&register, &format!("c{place}")), "", "");
+        (text, changes, format!("{BEFORE}, c{place}={word}"))
+    })
+}
+
+/// A constant of each quality under its bit of UTM, and under all others but bit 0. The result has a quality of its own.
+fn constants(lines: &mut Vec<String>) {
+    for (text, changes, before) in constant_sources() {
+        lines.push(format!("{text} under UTM bit 0 | {before}, utm=0x80 | {text} | T1E |"));
+        for quality in 1..=6 {
+            let bit = 0x80 >> quality;
+            let name = format!("{text}, the constant of quality {quality}");
+            let before = format!("{before} quality={quality}");
+            lines.push(format!("{name}, masked | {before}, utm={bit} | {text} | T1E |"));
+            lines.push(format!("{name}, no mask | {before} | {text} | E | {changes}"));
+            if !hands_utm_on(&text) {
+                let others = 0x7F & !bit;
+                lines.push(format!(
+                    "{name}, let be | {before}, utm={others} | {text} | E | {changes}"
+                ));
+            }
+        }
+    }
+}
+
+/// A test that never holds leaves B, CALL, CREATE and QT the checks of their constants.
+fn constants_never(lines: &mut Vec<String>) {
+    for (text, _, before) in constant_sources() {
+        let Some((name, operands)) = text.split_once(' ') else { continue };
+        if !["B", "CALL", "CREATE", "QT"].contains(&name) {
+            continue;
+        }
+        let text = format!("{name}NV {operands}");
+        for quality in 0..=6 {
+            let bit = 0x80 >> quality;
+            let before = format!("{before} quality={quality}");
+            let name = format!("{text}, the constant of quality {quality}");
+            lines.push(format!("{name}, masked | {before}, utm={bit} | {text} | T1E |"));
         }
     }
 }

@@ -252,7 +252,7 @@ impl Reading<'_> {
     fn push(&mut self, word: u64, tag: u8, times: usize) {
         let draft = &mut self.draft;
         match self.section {
-            Section::Constants => draft.constants.extend(vec![word; times]),
+            Section::Constants => draft.constants.extend(vec![(tag, word); times]),
             Section::Registers => draft.registers.extend(vec![(tag, word); times]),
             Section::Program => draft.program.extend(vec![word; times]),
             Section::Data => draft.data.extend(vec![(tag, word); times]),
@@ -268,7 +268,7 @@ impl Reading<'_> {
             Section::Start | Section::Rows => {
                 return Err(line.error("`task`, `process` or a section should stand here"));
             }
-            Section::Constants => word = self.names.word(line)?,
+            Section::Constants => (tag, word) = self.qualified(line)?,
             Section::Registers => (tag, word) = self.register(line)?,
             Section::Program => match self.labelled(line)? {
                 Some(instruction) => word = instruction,
@@ -309,13 +309,17 @@ impl Reading<'_> {
         Err(line.error("`full` or `empty` should stand here"))
     }
 
+    /// Quality and word: a constant.
+    fn qualified(&self, line: &mut Line) -> Result<(u8, u64), Error> {
+        let word = self.names.word(line)?;
+        Ok((self.names.quality(line)?, word))
+    }
+
     /// Tag and word of a register.
     fn register(&self, line: &mut Line) -> Result<(u8, u64), Error> {
         let state = if self.empty(line)? { EMPTY } else { 0 };
-        let word = self.names.word(line)?;
-        let mut quality = [0];
-        self.names.fields(line, &[("quality", 6)], &mut quality)?;
-        Ok((state | quality[0] as u8, word))
+        let (quality, word) = self.qualified(line)?;
+        Ok((state | quality, word))
     }
 
     /// The instruction behind the line's labels, if there is one.

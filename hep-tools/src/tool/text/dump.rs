@@ -69,19 +69,24 @@ pub fn word(word: u64) -> String {
 }
 
 fn show_memories(out: &mut String, draft: &Draft) {
-    cells(out, "constants", &draft.constants, |cell| word(*cell), |i| i.to_string());
+    cells(out, "constants", &draft.constants, qualified, |i| i.to_string());
     cells(out, "registers", &draft.registers, register, |i| i.to_string());
     cells(out, "program", &draft.program, |cell| show(*cell), |i| format!("{i:05X}"));
     cells(out, "data", &draft.data, data, |i| i.to_string());
 }
 
+/// A word with its quality if that isn't 0: a constant.
+fn qualified(&(quality, cell): &(u8, u64)) -> String {
+    match quality {
+        0 => word(cell),
+        _ => format!("{} quality={quality}", word(cell)),
+    }
+}
+
 /// A register from its tag and word.
 pub fn register(&(tag, cell): &(u8, u64)) -> String {
     let state = if tag & EMPTY == 0 { "full" } else { "empty" };
-    match tag & 7 {
-        0 => format!("{state} {}", word(cell)),
-        quality => format!("{state} {} quality={quality}", word(cell)),
-    }
+    format!("{state} {}", qualified(&(tag & 7, cell)))
 }
 
 /// A data word from its state and word.

@@ -123,6 +123,13 @@ impl Names {
         Ok(psw(ci, ri, utm, pc))
     }
 
+    /// The quality, 0 if it is left out.
+    pub fn quality(&self, line: &mut Line) -> Result<u8, Error> {
+        let mut quality = [0];
+        self.fields(line, &[("quality", 6)], &mut quality)?;
+        Ok(quality[0] as u8)
+    }
+
     /// Fields `name=number`, each at most once, in any order.
     pub fn fields(
         &self,

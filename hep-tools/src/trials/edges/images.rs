@@ -61,9 +61,9 @@ fn counts(edges: &mut Edges) {
 fn limits(edges: &mut Edges) {
     edges.both("seven rows", 0, |draft| draft.tasks = rows_of(1..=7));
     for (count, number) in [(4_096, 0), (4_097, 2)] {
-        let draft = Draft { constants: words(count), ..Draft::default() };
+        let draft = Draft { constants: cells(count, 0), ..Draft::default() };
         edges.image(format!("{count} constants"), &draft, number);
-        let change = |draft: &mut Draft| draft.constants = vec![5; count];
+        let change = |draft: &mut Draft| draft.constants = vec![(3, 5); count];
         edges.image(format!("{count} constants on the bench"), &bench(change), number);
     }
     for (count, number) in [(2_048, 0), (2_049, 2)] {
@@ -74,7 +74,7 @@ fn limits(edges: &mut Edges) {
     }
 }
 
-/// Two reasons at once: the bytes' order decides between 1, 2, 3, 12 and 13; then come 4, 5 and 6.
+/// Two reasons at once: the bytes' order decides between 1, 2, 3, 12, 14 and 13; then come 4, 5 and 6.
 fn order(edges: &mut Edges) {
     let clash = |draft: &mut Draft| draft.processes = crowd(64);
     let past = |draft: &mut Draft| (clash(draft), draft.tasks[0].rl = 9).1;
@@ -111,6 +111,12 @@ fn cut_behind_a_field(edges: &mut Edges) {
     let row = bare(|draft| draft.tasks[0].cb = 0x1000).bytes();
     edges.bytes("a field cut", &row[..3], 1);
     edges.bytes("a field whole", &row[..4], 3);
+    let constant = |quality| Draft { constants: cells(1, quality), ..Draft::default() }.bytes();
+    edges.bytes("a bad quality's word missing", &constant(7)[..6], 14);
+    edges.bytes("a bad quality's word cut", &constant(7)[..13], 14);
+    edges.bytes("a bad quality cut", &constant(7)[..5], 1);
+    edges.bytes("a good quality's word missing", &constant(6)[..6], 1);
+    edges.bytes("a good quality's word cut", &constant(6)[..13], 1);
     let tags = Draft { registers: cells(2, 7), ..Draft::default() }.bytes();
     let few = [&tags[..5], &[0, 9], &tags[7..26]].concat();
     edges.bytes("a tag before the end of too few registers", &few, 13);

@@ -82,7 +82,7 @@ fn fullest_images() -> Vec<Fullest> {
     vec![
         Fullest { name: "nothing", draft: Draft::default(), runs: false },
         make("a process", false, |_| ()),
-        make("constants", false, |draft| draft.constants = words(4_096)),
+        make("constants", false, |draft| draft.constants = cells(4_096, 6)),
         make("registers", false, |draft| {
             (draft.tasks[0].rb, draft.tasks[0].rl) = (0, 0x3FF);
             draft.registers = cells(2_048, 0);

@@ -23,7 +23,7 @@ pub fn all() -> Vec<Trial> {
 }
 
 /// The smallest image for each of the refusals that an image may have, with its number.
-pub fn smallest() -> [(u8, Vec<u8>); 8] {
+pub fn smallest() -> [(u8, Vec<u8>); 9] {
     let left_over = [&Draft::default().bytes()[..], &[0]].concat();
     let past = bare(|draft| draft.tasks[0].rb = 0);
     let clash = bare(|draft| draft.processes = vec![Process { pt: 0, task: 1, psw: 0 }; 2]);
@@ -36,6 +36,7 @@ pub fn smallest() -> [(u8, Vec<u8>); 8] {
         (6, clash.bytes()),
         (12, vec![0, 0, 2]),
         (13, vec![0, 0, 0, 0, 0, 0, 1, 7]),
+        (14, vec![0, 0, 0, 0, 1, 7]),
     ]
 }
 
@@ -97,11 +98,12 @@ fn bare(change: impl Fn(&mut Draft)) -> Draft {
     draft
 }
 
-/// A row over two registers, 16 instructions and 32 data words, and a process, changed.
+/// A row over two registers, 16 instructions and 32 data words, a process and two constants, changed.
 fn bench(change: impl Fn(&mut Draft)) -> Draft {
     let mut draft = Draft {
         tasks: vec![Task { rb: 0, rl: 0, pb: 0, pl: 0, db: 0, dl: 0, ..Task::empty(1) }],
         processes: vec![Process { pt: 0, task: 1, psw: 0 }],
+        constants: vec![(0, 5), (6, 6)],
         registers: vec![(0, 1), (14, 2)],
         program: vec![3; 16],
         data: vec![(1, 4); 32],
@@ -121,7 +123,7 @@ pub fn full() -> Draft {
         tasks: vec![first, second],
         processes: vec![process(5, 1, 3), process(2, 1, 0), process(63, 4, 7)],
         flag: 1,
-        constants: words(2),
+        constants: [cells(1, 5), cells(1, 0)].concat(),
         registers: [cells(3, 6), cells(2, EMPTY | 4)].concat(),
         program: words(16),
         data: [cells(31, 1), cells(1, 0)].concat(),
@@ -143,7 +145,7 @@ fn words(count: usize) -> Vec<u64> {
     (1..=count as u64).map(|i| i.wrapping_mul(0x0123_4567_89AB_CDEF)).collect()
 }
 
-/// Registers or data words of this tag or state.
+/// Constants, registers or data words of this quality, tag or state.
 fn cells(count: usize, tag: u8) -> Vec<(u8, u64)> {
     words(count).into_iter().map(|word| (tag, word)).collect()
 }

@@ -56,8 +56,9 @@ const fn bad(name: &'static str, number: u8, place: usize, bytes: &'static [u8])
     Bad { name, number, place, bytes }
 }
 
-/// Fields of the full image in the order of their places: rows at 1 and 29, processes at 59, 69 and 79, registers at 109, data words at 290.
-const BAD: [Bad; 31] = [
+/// Fields of the full image in the order of their places: rows at 1 and 29, processes at 59, 69 and 79, constants at 91,
+/// registers at 111, data words at 292.
+const BAD: [Bad; 33] = [
     bad("2 of tasks", 2, 0, &[8]),
     bad("first task number", 3, 1, &[0]),
     bad("first CB", 3, 2, &[0x10, 0]),
@@ -80,15 +81,17 @@ const BAD: [Bad; 31] = [
     bad("last task byte", 12, 80, &[7]),
     bad("last PSW", 12, 81, &[0, 0, 0, 0, 0, 0x10, 0, 0]),
     bad("2 of constants", 2, 89, &[0x10, 1]),
-    bad("2 of registers", 2, 107, &[8, 1]),
-    bad("first tag", 13, 109, &[7]),
-    bad("second tag", 13, 118, &[15]),
-    bad("last tag", 13, 145, &[0xFF]),
-    bad("2 of program words", 2, 154, &[0, 0x10, 0, 1]),
-    bad("2 of data words", 2, 286, &[0, 0x10, 0, 1]),
-    bad("first state", 13, 290, &[2]),
-    bad("second state", 13, 299, &[14]),
-    bad("last state", 13, 569, &[0x80]),
+    bad("first quality", 14, 91, &[7]),
+    bad("last quality", 14, 100, &[0xFF]),
+    bad("2 of registers", 2, 109, &[8, 1]),
+    bad("first tag", 13, 111, &[7]),
+    bad("second tag", 13, 120, &[15]),
+    bad("last tag", 13, 147, &[0xFF]),
+    bad("2 of program words", 2, 156, &[0, 0x10, 0, 1]),
+    bad("2 of data words", 2, 288, &[0, 0x10, 0, 1]),
+    bad("first state", 13, 292, &[2]),
+    bad("second state", 13, 301, &[14]),
+    bad("last state", 13, 571, &[0x80]),
 ];
 
 /// What is told after all sections: the register window of row 1 past its memory, and a PT twice.
