@@ -10,7 +10,7 @@
  * Nothing else is asked: every function answers any bytes and any lengths.
  *
  * An answer of 0 means that the call did what it says. Any other is the number of a refusal, the first that applies in the order below,
- * where the order of the bytes decides between 1, 2, 3, 12 and 13; then every lent element is as it was.
+ * where the order of the bytes decides between 1, 2, 3, 12, 14 and 13; then every lent element is as it was.
  */
 #ifndef HEP_H
 #define HEP_H
@@ -28,6 +28,7 @@ enum hep_refusal {
     HEP_COUNT_OVER_LIMIT = 2,    /* a count is over its limit */
     HEP_TASK_FIELD = 3,          /* a field of the task section is out of its range: of a row */
     HEP_PROCESS_FIELD = 12,      /* a field of the process section is out of its range: the flag, or of a process */
+    HEP_CONSTANT_FIELD = 14,     /* a quality of a constant is out of its range */
     HEP_CELL_FIELD = 13,         /* a tag of a register or a state of a data word is out of its range */
     HEP_BYTES_LEFT_OVER = 4,     /* bytes stand after the last section */
     HEP_WINDOW_PAST_MEMORY = 5,  /* a window that isn't empty ends past its memory */
@@ -49,7 +50,7 @@ enum { HEP_ROWS, HEP_CONSTANTS, HEP_REGISTERS, HEP_PROGRAM, HEP_DATA_WORDS };
 /* Places in `counts`. */
 enum { HEP_EXECUTED, HEP_WAVED, HEP_TRAPPED, HEP_IDLE, HEP_IMAGE_LEN, HEP_REPORT_LEN };
 
-/* 0 if the image is accepted, else 1, 2, 3, 12, 13, 4, 5 or 6. */
+/* 0 if the image is accepted, else 1, 2, 3, 12, 14, 13, 4, 5 or 6. */
 uint32_t hep_check(const uint8_t *image, size_t image_len);
 
 /*
@@ -61,8 +62,9 @@ uint32_t hep_sizes(const uint8_t *image, size_t image_len, uint64_t *sizes, size
 /*
  * Reads the image, runs the schedule on it, one step of a task for each item, and writes the image after the run.
  *
- * The memories of the state are lent, each at least as long as its count by hep_sizes: tags and words of registers have one count, and so
- * have those of data words. After the run they hold the state, in as many first places as the counts say; the places beyond stay.
+ * The memories of the state are lent, each at least as long as its count by hep_sizes: tags (qualities) and words of constants have one
+ * count, and so have tags and words of registers and those of data words. After the run they hold the state, in as many first places as
+ * the counts say; the places beyond stay.
  *
  * `output`, of at least HEP_OUTPUT_ROOM(image_len) bytes, starts with the image after the run. `report`, of at least HEP_REPORT_ROOM bytes,
  * starts with the report of the batch program. `counts`, of at least HEP_COUNTS, starts with how many steps were executed, waved, trapped
@@ -72,7 +74,8 @@ uint32_t hep_sizes(const uint8_t *image, size_t image_len, uint64_t *sizes, size
  */
 uint32_t hep_run(const uint8_t *image, size_t image_len,
                  const uint8_t *schedule, size_t schedule_len,
-                 uint64_t *constants, size_t constants_len,
+                 uint8_t *constant_tags, size_t constant_tags_len,
+                 uint64_t *constant_words, size_t constant_words_len,
                  uint8_t *register_tags, size_t register_tags_len,
                  uint64_t *register_words, size_t register_words_len,
                  uint64_t *program, size_t program_len,
@@ -85,7 +88,7 @@ uint32_t hep_run(const uint8_t *image, size_t image_len,
 /*
  * The batch program: the bytes of its standard input to those of its standard output, a refusal being a line such as `R3`. They go to the
  * front of `output`, and their number is the answer. If `output` is too short, all of it stays and the answer is 0; 512 bytes are enough.
- * It takes 292 KB of stack, hep_run 16 KB (x86-64: a thread's stack filled with a mark, on the printed case).
+ * It takes 300 KB of stack, hep_run 21 KB (x86-64: a thread's stack filled with a mark, on the printed case; 4 KB are the thread's own).
  */
 size_t hep_batch(const uint8_t *input, size_t input_len, uint8_t *output, size_t output_len);
 

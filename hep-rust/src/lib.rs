@@ -27,6 +27,8 @@ pub enum Refusal {
     TaskField = sys::TASK_FIELD,
     /// A field of the process section is out of its range: the flag, or of a process.
     ProcessField = sys::PROCESS_FIELD,
+    /// A quality of a constant is out of its range.
+    ConstantField = sys::CONSTANT_FIELD,
     /// A tag of a register or a state of a data word is out of its range.
     CellField = sys::CELL_FIELD,
     /// Bytes stand after the last section.
@@ -55,6 +57,7 @@ impl Refusal {
             sys::COUNT_OVER_LIMIT => Refusal::CountOverLimit,
             sys::TASK_FIELD => Refusal::TaskField,
             sys::PROCESS_FIELD => Refusal::ProcessField,
+            sys::CONSTANT_FIELD => Refusal::ConstantField,
             sys::CELL_FIELD => Refusal::CellField,
             sys::BYTES_LEFT_OVER => Refusal::BytesLeftOver,
             sys::WINDOW_PAST_MEMORY => Refusal::WindowPastMemory,
@@ -140,6 +143,7 @@ pub fn run(image: &[u8], schedule: &[u8]) -> Result<Outcome, Refusal> {
     Refusal::of(sys::run(
         image,
         schedule,
+        &mut vec![0; n.constants],
         &mut vec![0; n.constants],
         &mut vec![0; n.registers],
         &mut vec![0; n.registers],

@@ -8,6 +8,7 @@ pub const INPUT_ENDS: u32 = 1;
 pub const COUNT_OVER_LIMIT: u32 = 2;
 pub const TASK_FIELD: u32 = 3;
 pub const PROCESS_FIELD: u32 = 12;
+pub const CONSTANT_FIELD: u32 = 14;
 pub const CELL_FIELD: u32 = 13;
 pub const BYTES_LEFT_OVER: u32 = 4;
 pub const WINDOW_PAST_MEMORY: u32 = 5;
@@ -36,7 +37,8 @@ mod c {
         pub fn hep_run(
             image: *const u8, image_len: usize,
             schedule: *const u8, schedule_len: usize,
-            constants: *mut u64, constants_len: usize,
+            constant_tags: *mut u8, constant_tags_len: usize,
+            constant_words: *mut u64, constant_words_len: usize,
             register_tags: *mut u8, register_tags_len: usize,
             register_words: *mut u64, register_words_len: usize,
             program: *mut u64, program_len: usize,
@@ -66,7 +68,8 @@ pub fn sizes(image: &[u8], sizes: &mut [u64]) -> u32 {
 #[rustfmt::skip]
 pub fn run(
     image: &[u8], schedule: &[u8],
-    constants: &mut [u64], register_tags: &mut [u8], register_words: &mut [u64],
+    constant_tags: &mut [u8], constant_words: &mut [u64],
+    register_tags: &mut [u8], register_words: &mut [u64],
     program: &mut [u64], data_tags: &mut [u8], data_words: &mut [u64],
     output: &mut [u8], counts: &mut [u64], report: &mut [u8],
 ) -> u32 {
@@ -75,7 +78,8 @@ pub fn run(
         c::hep_run(
             image.as_ptr(), image.len(),
             schedule.as_ptr(), schedule.len(),
-            constants.as_mut_ptr(), constants.len(),
+            constant_tags.as_mut_ptr(), constant_tags.len(),
+            constant_words.as_mut_ptr(), constant_words.len(),
             register_tags.as_mut_ptr(), register_tags.len(),
             register_words.as_mut_ptr(), register_words.len(),
             program.as_mut_ptr(), program.len(),

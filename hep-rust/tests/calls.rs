@@ -73,6 +73,7 @@ fn images_refused() {
         Refusal::ProcessesClash,
         Refusal::ProcessField,
         Refusal::CellField,
+        Refusal::ConstantField,
     ];
     for ((number, image), refusal) in edges::smallest().iter().zip(refusals) {
         assert_eq!(refusal.number(), u32::from(*number));
@@ -104,6 +105,33 @@ fn an_image_gets_longer_and_runs_on() {
     assert_eq!(on.image, hep::run(&image, &[1, 1, 1]).unwrap().image);
 }
 
+/// An image whose one process moves a constant of quality 5 under this UTM.
+fn unset(utm: u8) -> Vec<u8> {
+    let text = format!(
+        "hep image
+        task 1 cb=0 rb=0 rl=0 pb=0 pl=0 db=1 dl=0
+        process 0 task=1 utm={utm}
+        constants
+        7 quality=5
+        registers
+        full 0 * 2
+        program
+        MOV r0, c0 * 16"
+    );
+    text::assemble(&text).unwrap().bytes()
+}
+
+#[test]
+fn a_constants_quality() {
+    assert_eq!(hep::sizes(&unset(0)).unwrap().constants, 1);
+    let masked = hep::run(&unset(0x04), &[1]).unwrap();
+    assert_eq!(masked.report, "1 1 1E 00000\nE0 W0 T1 I0 CF0\n");
+    let moved = hep::run(&unset(0xFB), &[1]).unwrap();
+    assert_eq!(moved.counts.executed, 1);
+    let after = image::draft(&image::read(&moved.image).unwrap());
+    assert_eq!((after.constants[0], after.registers[0]), ((5, 7), (0, 7)));
+}
+
 #[test]
 fn the_numbers_are_the_headers() {
     let header = include_str!("../../include/hep.h");
@@ -113,6 +141,7 @@ fn the_numbers_are_the_headers() {
         ("COUNT_OVER_LIMIT", sys::COUNT_OVER_LIMIT),
         ("TASK_FIELD", sys::TASK_FIELD),
         ("PROCESS_FIELD", sys::PROCESS_FIELD),
+        ("CONSTANT_FIELD", sys::CONSTANT_FIELD),
         ("CELL_FIELD", sys::CELL_FIELD),
         ("BYTES_LEFT_OVER", sys::BYTES_LEFT_OVER),
         ("WINDOW_PAST_MEMORY", sys::WINDOW_PAST_MEMORY),

@@ -7,12 +7,18 @@ const BYTE: u8 = 0xA5;
 const WORD: u64 = 0xA5A5_A5A5_A5A5_A5A5;
 const SPARE: usize = 2;
 
-/// A length for each buffer, in the order of `hep_run`'s parameters.
-pub type Lengths = [usize; 9];
+const BUFFERS: usize = 10;
+
+/// A length for each buffer, or a place in it, in the order of `hep_run`'s parameters.
+pub type Lengths = [usize; BUFFERS];
+
+/// No room in any buffer, and the start of each.
+pub const NONE: Lengths = [0; BUFFERS];
 
 /// The buffers of a run, in the order of its parameters.
 pub struct Buffers {
-    pub constants: Vec<u64>,
+    pub constant_tags: Vec<u8>,
+    pub constant_words: Vec<u64>,
     pub register_tags: Vec<u8>,
     pub register_words: Vec<u64>,
     pub program: Vec<u64>,
@@ -28,9 +34,9 @@ pub fn asked(image: &[u8]) -> Result<Lengths, u32> {
     let mut sizes = [0; SIZES];
     match sys::sizes(image, &mut sizes) {
         sys::ACCEPTED => {
-            let [_, constants, registers, program, data] = sizes.map(|n| n as usize);
+            let [_, c, r, p, d] = sizes.map(|n| n as usize);
             let output = sys::output_room(image.len());
-            Ok([constants, registers, registers, program, data, data, output, COUNTS, REPORT_ROOM])
+            Ok([c, c, r, r, p, d, d, output, COUNTS, REPORT_ROOM])
         }
         number => Err(number),
     }
@@ -59,9 +65,10 @@ pub fn words_stay(words: &[u64]) -> bool {
 impl Buffers {
     /// Marked buffers, each a little longer than that.
     pub fn new(lengths: &Lengths) -> Self {
-        let [c, rt, rw, p, dt, dw, o, n, r] = lengths.map(|length| length + SPARE);
+        let [ct, cw, rt, rw, p, dt, dw, o, n, r] = lengths.map(|length| length + SPARE);
         Buffers {
-            constants: words(c),
+            constant_tags: bytes(ct),
+            constant_words: words(cw),
             register_tags: bytes(rt),
             register_words: words(rw),
             program: words(p),
@@ -75,11 +82,12 @@ impl Buffers {
 
     /// `hep_run` with as much of each buffer as that.
     pub fn run(&mut self, image: &[u8], schedule: &[u8], lengths: &Lengths) -> u32 {
-        let [c, rt, rw, p, dt, dw, o, n, r] = *lengths;
+        let [ct, cw, rt, rw, p, dt, dw, o, n, r] = *lengths;
         sys::run(
             image,
             schedule,
-            &mut self.constants[..c],
+            &mut self.constant_tags[..ct],
+            &mut self.constant_words[..cw],
             &mut self.register_tags[..rt],
             &mut self.register_words[..rw],
             &mut self.program[..p],
@@ -93,8 +101,9 @@ impl Buffers {
 
     /// Whether every buffer is from there on as it was before the call.
     pub fn stays_from(&self, places: &Lengths) -> bool {
-        let [c, rt, rw, p, dt, dw, o, n, r] = *places;
-        words_stay(&self.constants[c..])
+        let [ct, cw, rt, rw, p, dt, dw, o, n, r] = *places;
+        bytes_stay(&self.constant_tags[ct..])
+            && words_stay(&self.constant_words[cw..])
             && bytes_stay(&self.register_tags[rt..])
             && words_stay(&self.register_words[rw..])
             && words_stay(&self.program[p..])

@@ -1,7 +1,7 @@
 //! What the calls refuse and what they leave alone: refusals 7, 9 and 10 at both sides of their boundaries, which batch inputs cannot show, and
 //! 2 at the largest memories. No call takes a state from outside, so 8 cannot come.
 
-use crate::buffers::{self, asked, Buffers, Lengths};
+use crate::buffers::{self, asked, Buffers, Lengths, NONE};
 use hep::sys::{self, COUNT_OVER_LIMIT, ITEM_OUT_OF_RANGE, LIST_TOO_LONG, SHORT_BUFFER, SIZES};
 use hep_tools::emulator::draft::{Draft, Task};
 use hep_tools::emulator::image::{MOST_CONSTANTS, MOST_WORDS};
@@ -47,7 +47,7 @@ fn sizes(image: &[u8]) -> Tried {
 fn short_buffers(image: &[u8]) -> Tried {
     let lengths = asked(image).map_err(|number| format!("refused by {number}"))?;
     run(image, &[1; 3], &lengths, 0)?;
-    run(image, &[8; MOST_ITEMS + 1], &[0; 9], SHORT_BUFFER)?;
+    run(image, &[8; MOST_ITEMS + 1], &NONE, SHORT_BUFFER)?;
     let mut tried = 2;
     for buffer in (0..lengths.len()).filter(|&buffer| lengths[buffer] > 0) {
         let mut short = lengths;
@@ -63,7 +63,7 @@ fn run(image: &[u8], schedule: &[u8], lengths: &Lengths, number: u32) -> Result<
     let mut left = Buffers::new(lengths);
     let found = left.run(image, schedule, lengths);
     require(found == number, || format!("hep_run with {lengths:?} answers {found}, not {number}"))?;
-    require(number == 0 || left.stays_from(&[0; 9]), || format!("hep_run, {number}: it wrote"))
+    require(number == 0 || left.stays_from(&NONE), || format!("hep_run, {number}: it wrote"))
 }
 
 /// The longest schedule and one item more, the numbers of tasks and those beside them; 9 comes before 10.
@@ -108,8 +108,8 @@ fn batches() -> Tried {
 /// memory is refused.
 fn largest() -> Tried {
     let most = [MOST_CONSTANTS, REGISTERS, MOST_WORDS, MOST_WORDS];
-    let some = [MOST_CONSTANTS, REGISTERS, 8, 1_581];
-    for sizes in [most, some, [1, 2, 8_180, 3]] {
+    let some = [MOST_CONSTANTS, REGISTERS, 9, 1_125];
+    for sizes in [most, some, [1, 2, 8_181, 2]] {
         let image = memories(sizes);
         let same = hep::run(&image, &[]).is_ok_and(|outcome| outcome.image == image);
         require(same, || format!("the image of {sizes:?} cells doesn't come back"))?;
@@ -129,8 +129,8 @@ fn memories([constants, registers, program, data]: [usize; 4]) -> Vec<u8> {
     let word = |i: usize| (i as u64).wrapping_mul(0x9E37_79B9_7F4A_7C15);
     Draft {
         tasks: vec![Task::empty(1)],
-        constants: (0..constants).map(word).collect(),
-        registers: (0..registers).map(|i| (i as u8 % 7, word(i))).collect(),
+        constants: (0..constants).map(|i| ((i % 7) as u8, word(i))).collect(),
+        registers: (0..registers).map(|i| ((i % 7) as u8, word(i))).collect(),
         program: (0..program).map(word).collect(),
         data: (0..data).map(|i| (i as u8 & 1, word(i))).collect(),
         ..Draft::default()

@@ -1,6 +1,6 @@
 //! The proved library as an implementation of the batch program.
 
-use crate::buffers::{self, Buffers, Lengths};
+use crate::buffers::{self, Buffers, Lengths, NONE};
 use hep::sys::{self, COUNTS, REPORT_ROOM};
 use hep_tools::compare::Implementation;
 use hep_tools::emulator::batch::{split, Answer, MOST_BYTES};
@@ -53,7 +53,7 @@ fn run(image: &[u8], schedule: &[u8]) -> Result<Result<Buffers, u32>, String> {
     match left.run(image, schedule, &lengths) {
         sys::ACCEPTED => consistent(&left, &lengths).map(|()| Ok(left)),
         number => {
-            require(left.stays_from(&[0; 9]), "a refused hep_run wrote")?;
+            require(left.stays_from(&NONE), "a refused hep_run wrote")?;
             Ok(Err(number))
         }
     }
@@ -61,19 +61,19 @@ fn run(image: &[u8], schedule: &[u8]) -> Result<Result<Buffers, u32>, String> {
 
 /// A run of an image that is refused, with no room at all.
 fn refused(image: &[u8], schedule: &[u8], number: u32) -> Result<Result<Buffers, u32>, String> {
-    let mut left = Buffers::new(&[0; 9]);
-    require(left.run(image, schedule, &[0; 9]) == number, "hep_run and hep_check disagree")?;
-    require(left.stays_from(&[0; 9]), "a refused hep_run wrote")?;
+    let mut left = Buffers::new(&NONE);
+    require(left.run(image, schedule, &NONE) == number, "hep_run and hep_check disagree")?;
+    require(left.stays_from(&NONE), "a refused hep_run wrote")?;
     Ok(Err(number))
 }
 
 /// Whether memories, counts, report and image say the same, and the rest stays.
 fn consistent(left: &Buffers, lengths: &Lengths) -> Result<(), String> {
-    let [c, rt, rw, p, dt, dw, ..] = *lengths;
+    let [ct, cw, rt, rw, p, dt, dw, output, _, room] = *lengths;
     let (image, report) = (left.counts[4] as usize, left.counts[5] as usize);
-    require(image <= lengths[6] && report <= lengths[8], "hep_run answers no length")?;
+    require(image <= output && report <= room, "hep_run answers no length")?;
     require(
-        left.stays_from(&[c, rt, rw, p, dt, dw, image, COUNTS, report]),
+        left.stays_from(&[ct, cw, rt, rw, p, dt, dw, image, COUNTS, report]),
         "hep_run wrote beyond",
     )?;
     let [executed, waved, trapped, idle] = left.endings();
@@ -87,7 +87,7 @@ fn consistent(left: &Buffers, lengths: &Lengths) -> Result<(), String> {
         cells.iter().map(|cell| cell.0).eq(tags.iter().copied())
             && cells.iter().map(|cell| cell.1).eq(words.iter().copied())
     };
-    let same = draft.constants == left.constants[..c]
+    let same = pairs(&left.constant_tags[..ct], &left.constant_words[..cw], &draft.constants)
         && pairs(&left.register_tags[..rt], &left.register_words[..rw], &draft.registers)
         && draft.program == left.program[..p]
         && pairs(&left.data_tags[..dt], &left.data_words[..dw], &draft.data);

@@ -46,8 +46,8 @@ static const char printed_report[] = "1 1 14 00000\nE0 W0 T1 I0 CF0\n";
 
 /* ---- buffers, each in its own block so that a sanitizer sees its ends; one element more than is lent holds a mark */
 
-enum { C, RT, RW, P, DT, DW, OUT, COUNTS, REPORT, BUFFERS };
-static const size_t width[BUFFERS] = {8, 1, 8, 8, 1, 8, 1, 8, 1};
+enum { CT, CW, RT, RW, P, DT, DW, OUT, COUNTS, REPORT, BUFFERS };
+static const size_t width[BUFFERS] = {1, 8, 1, 8, 8, 1, 8, 1, 8, 1};
 #define MARK 0xA5
 
 struct buffers {
@@ -58,7 +58,7 @@ struct buffers {
 static struct buffers make(const uint64_t *sizes, size_t image_len)
 {
     struct buffers b;
-    b.len[C] = sizes[HEP_CONSTANTS];
+    b.len[CT] = b.len[CW] = sizes[HEP_CONSTANTS];
     b.len[RT] = b.len[RW] = sizes[HEP_REGISTERS];
     b.len[P] = sizes[HEP_PROGRAM];
     b.len[DT] = b.len[DW] = sizes[HEP_DATA_WORDS];
@@ -104,8 +104,8 @@ static int ends_stay(const struct buffers *b)
 
 static uint32_t run(const uint8_t *image, size_t image_len, const uint8_t *schedule, size_t items, struct buffers *b)
 {
-    return hep_run(image, image_len, schedule, items, b->at[C], b->len[C], b->at[RT], b->len[RT], b->at[RW], b->len[RW],
-                   b->at[P], b->len[P], b->at[DT], b->len[DT], b->at[DW], b->len[DW], b->at[OUT], b->len[OUT],
+    return hep_run(image, image_len, schedule, items, b->at[CT], b->len[CT], b->at[CW], b->len[CW], b->at[RT], b->len[RT],
+                   b->at[RW], b->len[RW], b->at[P], b->len[P], b->at[DT], b->len[DT], b->at[DW], b->len[DW], b->at[OUT], b->len[OUT],
                    b->at[COUNTS], b->len[COUNTS], b->at[REPORT], b->len[REPORT]);
 }
 
@@ -165,6 +165,8 @@ static void test_longer(void)
     EXPECT(counts[HEP_EXECUTED] == 1 && counts[HEP_TRAPPED] == 0);
     EXPECT(longer == image.len + 10);
     EXPECT(hep_check(once.at[OUT], longer) == HEP_ACCEPTED);
+    EXPECT(((uint8_t *)once.at[CT])[0] == 0 && ((uint64_t *)once.at[CW])[0] == 0);
+    EXPECT(((uint8_t *)once.at[CT])[1] == 5 && ((uint64_t *)once.at[CW])[1] == 9);
     EXPECT(((uint8_t *)once.at[DT])[0] == 1 && ((uint64_t *)once.at[DW])[0] == 77);
     EXPECT(((uint64_t *)once.at[P])[0] == UINT64_C(0x3970000040004000));
     EXPECT(marked((uint8_t *)once.at[OUT] + longer, once.len[OUT] + 1 - longer));
@@ -178,6 +180,32 @@ static void test_longer(void)
     discard(&once);
     discard(&twice);
     discard(&on);
+}
+
+/* ---- the quality of full.hep's first constant, at 43, under its process's UTM, at 37 */
+
+static void quality(uint8_t utm, uint64_t trapped)
+{
+    struct bytes image = file("full");
+    uint64_t sizes[HEP_SIZES];
+    const uint8_t schedule[] = {1};
+    image.at[37] = utm;
+    image.at[43] = 5;
+    EXPECT(hep_sizes(image.at, image.len, sizes, HEP_SIZES) == HEP_ACCEPTED);
+    struct buffers b = make(sizes, image.len);
+    EXPECT(run(image.at, image.len, schedule, 1, &b) == HEP_ACCEPTED);
+    EXPECT(((uint64_t *)b.at[COUNTS])[HEP_TRAPPED] == trapped);
+    EXPECT(((uint8_t *)b.at[CT])[0] == 5);
+    if (trapped)
+        EXPECT(memcmp(b.at[REPORT], "1 1 1E 00000\n", 13) == 0);
+    EXPECT(ends_stay(&b));
+    discard(&b);
+}
+
+static void test_qualities(void)
+{
+    quality(0x04, 1);
+    quality(0xFB, 0);
 }
 
 /* ---- refusals: the number, and that every lent element stays */
@@ -204,7 +232,8 @@ static void refused(const uint8_t *image, size_t len, uint32_t number)
 static void test_images_refused(void)
 {
     const uint32_t numbers[] = {HEP_INPUT_ENDS, HEP_COUNT_OVER_LIMIT, HEP_TASK_FIELD, HEP_PROCESS_FIELD,
-                                HEP_CELL_FIELD, HEP_BYTES_LEFT_OVER, HEP_WINDOW_PAST_MEMORY, HEP_PROCESSES_CLASH};
+                                HEP_CONSTANT_FIELD, HEP_CELL_FIELD, HEP_BYTES_LEFT_OVER, HEP_WINDOW_PAST_MEMORY,
+                                HEP_PROCESSES_CLASH};
     for (size_t i = 0; i < sizeof numbers / sizeof numbers[0]; i++) {
         char name[8];
         snprintf(name, sizeof name, "R%u", (unsigned)numbers[i]);
@@ -218,7 +247,7 @@ static void test_images_refused(void)
     EXPECT(hep_check(two.at, two.len) == HEP_ACCEPTED);
 }
 
-/* Bad fields of full.hep's image: its row is at 1, flag 30, process 31, registers 61, data words 215. The first of them decides. */
+/* Bad fields of full.hep's image: its row is at 1, flag 30, process 31, constants 43, registers 63, data words 217. The first decides. */
 static void test_sections(void)
 {
     static const struct {
@@ -226,8 +255,9 @@ static void test_sections(void)
         uint8_t value;
         uint32_t number;
     } bad[] = {
-        {1, 0, HEP_TASK_FIELD},  {26, 0x10, HEP_TASK_FIELD}, {30, 2, HEP_PROCESS_FIELD}, {38, 0x10, HEP_PROCESS_FIELD},
-        {61, 7, HEP_CELL_FIELD}, {70, 15, HEP_CELL_FIELD},   {215, 2, HEP_CELL_FIELD},   {494, 2, HEP_CELL_FIELD},
+        {1, 0, HEP_TASK_FIELD},      {26, 0x10, HEP_TASK_FIELD},    {30, 2, HEP_PROCESS_FIELD}, {38, 0x10, HEP_PROCESS_FIELD},
+        {43, 7, HEP_CONSTANT_FIELD}, {52, 0xFF, HEP_CONSTANT_FIELD}, {63, 7, HEP_CELL_FIELD},   {72, 15, HEP_CELL_FIELD},
+        {217, 2, HEP_CELL_FIELD},    {496, 2, HEP_CELL_FIELD},
     };
     struct bytes image = file("full");
     for (size_t i = sizeof bad / sizeof bad[0]; i-- > 0;) {
@@ -289,6 +319,7 @@ int main(int argc, char **argv)
     test_batch();
     test_printed();
     test_longer();
+    test_qualities();
     test_images_refused();
     test_sections();
     test_buffers_refused();

@@ -6,7 +6,7 @@
 
 uint32_t true_check(const uint8_t *, size_t);
 uint32_t true_sizes(const uint8_t *, size_t, uint64_t *, size_t);
-uint32_t true_run(const uint8_t *, size_t, const uint8_t *, size_t, uint64_t *, size_t, uint8_t *, size_t, uint64_t *, size_t,
+uint32_t true_run(const uint8_t *, size_t, const uint8_t *, size_t, uint8_t *, size_t, uint64_t *, size_t, uint8_t *, size_t, uint64_t *, size_t,
                   uint64_t *, size_t, uint8_t *, size_t, uint64_t *, size_t, uint8_t *, size_t, uint64_t *, size_t, uint8_t *, size_t);
 size_t true_batch(const uint8_t *, size_t, uint8_t *, size_t);
 
@@ -19,6 +19,8 @@ static int wrong(const char *fault)
 uint32_t hep_check(const uint8_t *image, size_t image_len)
 {
     uint32_t answer = true_check(image, image_len);
+    if (wrong("constant_as_a_cell") && answer == HEP_CONSTANT_FIELD)
+        return HEP_CELL_FIELD;
     return wrong("left_over_accepted") && answer == HEP_BYTES_LEFT_OVER ? 0 : answer;
 }
 
@@ -31,8 +33,9 @@ uint32_t hep_sizes(const uint8_t *image, size_t image_len, uint64_t *sizes, size
 }
 
 uint32_t hep_run(const uint8_t *image, size_t image_len, const uint8_t *schedule, size_t schedule_len,
-                 uint64_t *constants, size_t constants_len, uint8_t *register_tags, size_t register_tags_len,
-                 uint64_t *register_words, size_t register_words_len, uint64_t *program, size_t program_len,
+                 uint8_t *constant_tags, size_t constant_tags_len, uint64_t *constant_words, size_t constant_words_len,
+                 uint8_t *register_tags, size_t register_tags_len, uint64_t *register_words, size_t register_words_len,
+                 uint64_t *program, size_t program_len,
                  uint8_t *data_tags, size_t data_tags_len, uint64_t *data_words, size_t data_words_len,
                  uint8_t *output, size_t output_len, uint64_t *counts, size_t counts_len, uint8_t *report, size_t report_len)
 {
@@ -42,9 +45,9 @@ uint32_t hep_run(const uint8_t *image, size_t image_len, const uint8_t *schedule
         schedule_len--;
     if (wrong("list_before_buffers") && schedule_len > 65535)
         return HEP_LIST_TOO_LONG;
-    uint32_t answer = true_run(image, image_len, schedule, schedule_len, constants, constants_len, register_tags, register_tags_len,
-                               register_words, register_words_len, program, program_len, data_tags, data_tags_len, data_words,
-                               data_words_len, output, output_len, counts, counts_len, report, report_len);
+    uint32_t answer = true_run(image, image_len, schedule, schedule_len, constant_tags, constant_tags_len, constant_words, constant_words_len,
+                               register_tags, register_tags_len, register_words, register_words_len, program, program_len, data_tags,
+                               data_tags_len, data_words, data_words_len, output, output_len, counts, counts_len, report, report_len);
     if (wrong("refused_run_writes") && answer == HEP_ITEM_OUT_OF_RANGE)
         report[0] = 0;
     if (answer != HEP_ACCEPTED)
@@ -55,6 +58,8 @@ uint32_t hep_run(const uint8_t *image, size_t image_len, const uint8_t *schedule
         output[counts[HEP_IMAGE_LEN] - 1] ^= 1;
     if (wrong("memory_beside_the_image") && data_words_len > 100)
         data_words[100] ^= 1;
+    if (wrong("quality_beside_the_image") && constant_tags_len > 30)
+        constant_tags[30] = 0;
     if (wrong("a_byte_beyond"))
         output[counts[HEP_IMAGE_LEN]] = 0;
     if (wrong("rare_letter_of_the_report") && counts[HEP_WAVED] > 30)

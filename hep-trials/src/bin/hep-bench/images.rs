@@ -16,7 +16,8 @@ const REGISTERS: usize = 2_048;
 #[link(name = "benchmark", kind = "static")]
 extern "C" {
     fn benchmark_read(
-        constants: *mut u64, constants_len: usize,
+        constant_tags: *mut u8, constant_tags_len: usize,
+        constant_words: *mut u64, constant_words_len: usize,
         register_tags: *mut u8, register_tags_len: usize,
         register_words: *mut u64, register_words_len: usize,
         program: *mut u64, program_len: usize,
@@ -25,7 +26,8 @@ extern "C" {
         image: *const u8, image_len: usize,
     ) -> bool;
     fn benchmark_write(
-        constants: *const u64, constants_len: usize,
+        constant_tags: *const u8, constant_tags_len: usize,
+        constant_words: *const u64, constant_words_len: usize,
         register_tags: *const u8, register_tags_len: usize,
         register_words: *const u64, register_words_len: usize,
         program: *const u64, program_len: usize,
@@ -40,7 +42,8 @@ fn read(image: &[u8], to: &mut Buffers) {
     // SAFETY: the borrows of the buffers.
     let accepted = unsafe {
         benchmark_read(
-            to.constants.as_mut_ptr(), MOST_CONSTANTS,
+            to.constant_tags.as_mut_ptr(), MOST_CONSTANTS,
+            to.constant_words.as_mut_ptr(), MOST_CONSTANTS,
             to.register_tags.as_mut_ptr(), REGISTERS,
             to.register_words.as_mut_ptr(), REGISTERS,
             to.program.as_mut_ptr(), MOST_WORDS,
@@ -57,7 +60,8 @@ fn write(from: &mut Buffers, length: usize) {
     // SAFETY: the borrows of the buffers.
     let written = unsafe {
         benchmark_write(
-            from.constants.as_ptr(), MOST_CONSTANTS,
+            from.constant_tags.as_ptr(), MOST_CONSTANTS,
+            from.constant_words.as_ptr(), MOST_CONSTANTS,
             from.register_tags.as_ptr(), REGISTERS,
             from.register_words.as_ptr(), REGISTERS,
             from.program.as_ptr(), MOST_WORDS,
@@ -72,7 +76,7 @@ fn write(from: &mut Buffers, length: usize) {
 fn largest() -> Vec<u8> {
     let word = |i: usize| (i as u64).wrapping_mul(0x9E37_79B9_7F4A_7C15);
     Draft {
-        constants: (0..MOST_CONSTANTS).map(word).collect(),
+        constants: (0..MOST_CONSTANTS).map(|i| ((i % 7) as u8, word(i))).collect(),
         registers: (0..REGISTERS).map(|i| ((i % 7) as u8, word(i))).collect(),
         program: (0..MOST_WORDS).map(word).collect(),
         data: (0..MOST_WORDS).map(|i| ((i % 2) as u8, word(i))).collect(),
