@@ -27,9 +27,10 @@ from fill import pruned
 # How many rows an owner has, as many as there are tasks.
 TASKS = 7
 
-# The six slices: name, element, and the calls that change it. The others look at it.
+# The seven slices: name, element, and the calls that change it. The others look at it.
 SLICES = [
-    ("constants", "u64", "read"),
+    ("constant_tags", "u8", "read"),
+    ("constant_words", "u64", "read"),
     ("register_tags", "u8", "read run step"),
     ("register_words", "u64", "read run step"),
     ("program", "u64", "read"),

@@ -9,35 +9,36 @@ IL="illegalInstruction illegalAccess illegalFields illegalField"
 # past the checks of waits and masks: passed OPERANDS WAITS MASKED
 passed() { echo "$U7 $1 $U4 $U4 $2 (@if1 .left) _ e _ $3 (@if2 .left) _"; }
 continued() { echo "(@continues .ensures .0) (continued _ _ _ _ _ _ (@continues .ensures .1) (@$1 .ensures))"; }
-B="λ row v i words constants n fresh oa ob e f own pa pb."
+B="λ row v i words constantWords n fresh oa ob e f own pa pb."
 O="$U5 $FREE $U5 $S1 $U5 $S2"; W="(@waits-s1-s2 .ensures)"; M="(@masked-s1-s2 .ensures)"
 fill $C branch_found <<E
 $LAWS.{branch-performed}
 $FOUND.{found-waits, found-masked, found-executes, continued}
-$OPERANDS.{free-operated, source-operated}
+$OPERANDS.{free-operated, source-operated, held-test}
 $COURSE
 returns := $B found-waits $U7 $O $U4 $U4 $W (@if1 .taken)
 returns-2 := $B found-masked $U7 $O $U4 $U4 $W (@if1 .left) _ e _ $M (@if2 .taken) own
-returns-3 [fateCourse] := $B found-executes $(passed "$O" "$W" "$M") (branch-performed v i _ _ e _ _ _ f) _ _ _ $(continued branch-psw) (@release-s1-s2 .ensures)
+returns-3 [fateCourse] := $B found-executes $(passed "$O" "$W" "$M") (branch-performed v i _ _ e _ _ _ _ f (held-test _ _ _ _ _ _ _ _ _ pb _ _ _)) _ _ _ $(continued branch-psw) (@release-s1-s2 .ensures)
 E
-B="λ row v i constants n fresh od oa ob e own dd pa pb."
+B="λ row v i constantWords n fresh od oa ob e own dd pa pb."
 O="$U5 $D $U5 $S1 $U5 $S2"; W="(@waits-d-s1-s2 .ensures)"
 fill $C call_found <<E
 $LAWS.{call-performed}
 $FOUND.{found-waits, found-masked, found-writes, continued}
-$OPERANDS.{destination-operated, source-operated}
+$OPERANDS.{destination-operated, source-operated, held-test}
 $COURSE
 returns := $B found-waits $U7 $O $U4 $U4 $W (@if1 .taken)
 returns-2 := $B found-masked $U7 $O $U4 $U4 $W (@if1 .left) _ e _ $M (@if2 .taken) own
-returns-3 [fateCourse] := $B found-writes $(passed "$O" "$W" "$M") _ (call-performed v i _ _ e _ _ (@next .ensures)) _ dd _ _ _ _ $(continued call-psw) (@write-d-s1-s2 .ensures .0) (@write-d-s1-s2 .ensures .1)
+returns-3 [fateCourse] := $B found-writes $(passed "$O" "$W" "$M") _ (call-performed v i _ _ e _ _ _ (@next .ensures) (held-test _ _ _ _ _ _ _ _ _ pb _ _ _)) _ dd _ _ _ _ $(continued call-psw) (@write-d-s1-s2 .ensures .0) (@write-d-s1-s2 .ensures .1)
 E
-B="λ row v i words constants n first oa ob e up own pa pb."
+B="λ row v i words constantWords n first oa ob e up own pa pb."
 O="$U5 $UNUSED $U5 $S1 $U5 $S2"; W="(@waits-s1-s2 .ensures)"
-H="v i _ _ e _ _ (@holds .ensures) _ _ up _ (@create-waits .ensures)"
+H="v i _ _ e _ _ (@holds .ensures ∙ (held-test _ _ _ _ _ _ _ _ _ pb _ _ _)) _ _ up _ (@create-waits .ensures)"
 fill $C create_found <<E
 $LAWS.{create-waits, creates, creates-none, created-psws}
 $FOUND.{found-waits, found-masked, found-performs, found-executes, continued}
-$OPERANDS.{unused-operated, source-operated}
+$OPERANDS.{unused-operated, source-operated, held-test}
+use mathlib.Core.Path.{_∙_}
 $COURSE
 use Rattle.step.specs.Laws.Performs.{performs-waits}
 use Rattle.operation.specs.declared.Wait.the-variants as wait
@@ -47,19 +48,19 @@ returns-3 := $B found-performs $(passed "$O" "$W" "$M") (create-waits $H (@if3 .
 returns-4 [fateCourse] := $B found-executes $(passed "$O" "$W" "$M") (creates $H (@if3 .left) (@if4 .taken)) _ _ _ (@creates .ensures .0) (created-psws _ _ _ _ _ _ _ _ (@creates .ensures .1) (@next .ensures) (@created-psw .ensures)) (@release-s1-s2 .ensures)
 returns-5 [fateCourse] := $B found-executes $(passed "$O" "$W" "$M") (creates-none $H (@if3 .left) (@if4 .left)) _ _ _ $(continued next2) (@release-s1-s2 .ensures)
 E
-B="λ row v i words constants n fresh first second ob e own pb."
+B="λ row v i words constantWords n fresh first second ob e own pb."
 O="$U5 $UNUSED $U5 $UNUSED $U5 $S2"; W="(wait-told _ _ _ _ (@waits .ensures) (@access .ensures))"; M="(@masked .ensures)"
 fill $C quit_found <<E
-use mathlib.Core.Path.{refl}
+use mathlib.Core.Path.{refl, _∙_}
 $LAWS.{quits, stays}
 $FOUND.{found-waits, found-masked, found-executes, continued}
-$OPERANDS.{wait-told, unused-operated, source-operated}
+$OPERANDS.{wait-told, unused-operated, source-operated, held-test}
 $COURSE
 use Rattle.step.specs.Code.Parts.{fatePsws}
 returns := $B found-waits $U7 $O $U4 $U4 $W (@if1 .taken)
 returns-2 := $B found-masked $U7 $O $U4 $U4 $W (@if1 .left) _ e _ $M (@if2 .taken) own
-returns-3 [fateCourse fatePsws] := $B found-executes $(passed "$O" "$W" "$M") (quits v i _ _ e _ _ (@holds .ensures) (@if3 .taken)) _ _ _ refl refl (@release .ensures)
-returns-4 [fateCourse] := $B found-executes $(passed "$O" "$W" "$M") (stays v i _ _ e _ _ (@holds .ensures) (@if3 .left)) _ _ _ $(continued next) (@release .ensures)
+returns-3 [fateCourse fatePsws] := $B found-executes $(passed "$O" "$W" "$M") (quits v i _ _ e _ _ (@holds .ensures ∙ (held-test _ _ _ _ _ _ _ _ _ pb _ _ _)) (@if3 .taken)) _ _ _ refl refl (@release .ensures)
+returns-4 [fateCourse] := $B found-executes $(passed "$O" "$W" "$M") (stays v i _ _ e _ _ (@holds .ensures ∙ (held-test _ _ _ _ _ _ _ _ _ pb _ _ _)) (@if3 .left)) _ _ _ $(continued next) (@release .ensures)
 E
 B="λ row code flag fresh program n s own."
 fill $C call <<E

@@ -48,13 +48,13 @@ returns-5 [environmentOf reachOf $from trapCourse] := $2 $passed ($(performed "$
 returns-6 [environmentOf fateCourse] := $2 $passed ($(seen "$6" "$word" left) ∙ $(performed "$@" p)) _ _ _ _ $(left "$6" "$3" "$9")
 E
 }
-found load_indirect_found "λ row i flag fresh program constants third od oa span own dd pa." "$U5 $D $U5 $S1 $U5 $UNUSED" "(or-one _ _ _ _ _ (@waits-d-s1 .ensures))" \
+found load_indirect_found "λ row i flag fresh program constantWords third od oa span own dd pa." "$U5 $D $U5 $S1 $U5 $UNUSED" "(or-one _ _ _ _ _ (@waits-d-s1 .ensures))" \
     "(@masked .ensures ∙ or-none _)" load loads-indirect indirect-address write-d-s1
-found load_indexed_found "λ row i flag fresh program constants od oa ob span own dd pa pb." "$U5 $D $U5 $S1 $U5 $S2" "(@waits-d-s1-s2 .ensures)" \
+found load_indexed_found "λ row i flag fresh program constantWords od oa ob span own dd pa pb." "$U5 $D $U5 $S1 $U5 $S2" "(@waits-d-s1-s2 .ensures)" \
     "(@masked-s1-s2 .ensures)" load loads-indexed indexed-address write-d-s1-s2
-found store_indirect_found "λ row i flag fresh program constants first oa ob span own pa pb." "$U5 $UNUSED $U5 $S1 $U5 $S2" "(@waits-s1-s2 .ensures)" \
+found store_indirect_found "λ row i flag fresh program constantWords first oa ob span own pa pb." "$U5 $UNUSED $U5 $S1 $U5 $S2" "(@waits-s1-s2 .ensures)" \
     "(@masked-s1-s2 .ensures)" store stores-indirect indirect-address release-s1-s2
-found store_indexed_found "λ row i flag fresh program constants oc oa ob span own pc pa pb." "$U5 $S0 $U5 $S1 $U5 $S2" "(@waits-s0-s1-s2 .ensures)" \
+found store_indexed_found "λ row i flag fresh program constantWords oc oa ob span own pc pa pb." "$U5 $S0 $U5 $S1 $U5 $S2" "(@waits-s0-s1-s2 .ensures)" \
     "(@masked-s0-s1-s2 .ensures)" store stores-indexed indexed-address release-s0-s1-s2
 B="λ row code flag fresh program s span own."
 IL="illegalInstruction illegalAccess illegalFields"

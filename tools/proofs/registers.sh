@@ -42,9 +42,9 @@ $([ "$5" = "refl" ] || echo "returns-2 := $2 found-masked $U7 $3 $U4 $U4 $4 (@if
 $last := $2 found-result $U7 $3 $U4 $U4 $4 (@if1 .left) _ e _ $5 $([ "$5" = refl ] && echo refl || echo "(@if2 .left)") _ (number-performs op _ k $6) _ dd _ _ _ _ _ $ends
 E
 }
-found three_found "λ op row v i constants n fresh od oa ob h k e own dd pa pb." "$U5 $D $U5 $S1 $U5 $S2" "(@waits-d-s1-s2 .ensures)" "(@masked-s1-s2 .ensures)" \
+found three_found "λ op row v i constantWords n fresh od oa ob h k e own dd pa pb." "$U5 $D $U5 $S1 $U5 $S2" "(@waits-d-s1-s2 .ensures)" "(@masked-s1-s2 .ensures)" \
     "(few _ 10 h (omega arith)) _ _ _ _ (@result-three .ensures h)" write-d-s1-s2
-found two_found "λ op row v i constants n fresh third od oa g h k e own dd pa." "$U5 $D $U5 $S1 $U5 $UNUSED" "(or-one _ _ _ _ _ (@waits-d-s1 .ensures))" \
+found two_found "λ op row v i constantWords n fresh third od oa g h k e own dd pa." "$U5 $D $U5 $S1 $U5 $UNUSED" "(or-one _ _ _ _ _ (@waits-d-s1 .ensures))" \
     "(@masked .ensures ∙ or-none _)" "(few _ 16 h (omega arith)) _ _ _ _ (@result-two .ensures g h)" write-d-s1
 found one_found "λ op row v i constants n fresh second third od g h k e own dd." "$U5 $D $U5 $UNUSED $U5 $UNUSED" "(@waits-d .ensures ∙ or-none _)" refl \
     "(few _ 18 h (omega arith)) _ _ _ _ (@result-one .ensures g h)" write-d
