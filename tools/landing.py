@@ -32,10 +32,12 @@ def blocks(text):
 def spec_items(path, text):
     part = path.split("/")[3]
     for lines in blocks(text):
-        if lines[0].lstrip().startswith("module ") and len(lines) > 1:
-            lines = lines[1:]
+        if lines[0].lstrip().startswith("module "):
+            lines = lines[next(i for i, line in enumerate(lines) if line.endswith(" where")) + 1 :]
+        if not lines:
+            continue
         m = SPEC.match(lines[0])
-        name = m.group(2) if m else lines[0].split()[0]
+        name = m.group(2) if m else next(word for word in lines[0].split() if word not in ("pub", "record", "data"))
         kind = {"Laws": "law", "Code": "step of the code"}.get(part)
         if not kind:
             kind = "definition" if m and re.search(r"unfoldable|abbrev|data|record", m.group(1)) else "statement"
