@@ -85,14 +85,14 @@ buffersOf room =
 abbrev pub exact : Room
 exact = roomLess 0 0 0 0 0 0 0 0
 
--- the buffers with another process table
-unfoldable pub withTable : ProcessTable → Buffers
-withTable table =
+-- the buffers with this process table and these qualities
+unfoldable pub withParts : ProcessTable → (qualities : List ℕ) → Buffers
+withParts table qualities =
     let b : Buffers = buffersOf exact in
     record {
       rows = b .rows;
       table = table;
-      constantTags = b .constantTags;
+      constantTags = qualities;
       constantWords = b .constantWords;
       registerTags = b .registerTags;
       registerWords = b .registerWords;
@@ -101,21 +101,12 @@ withTable table =
       dataWords = b .dataWords;
     }
 
--- the buffers with another quality of the constant
+-- with another process table; with another quality of the constant
+unfoldable pub withTable : ProcessTable → Buffers
+withTable table = withParts table (3 ∷ [])
+
 unfoldable pub withQuality : ℕ → Buffers
-withQuality q =
-    let b : Buffers = buffersOf exact in
-    record {
-      rows = b .rows;
-      table = b .table;
-      constantTags = q ∷ [];
-      constantWords = b .constantWords;
-      registerTags = b .registerTags;
-      registerWords = b .registerWords;
-      program = b .program;
-      dataTags = b .dataTags;
-      dataWords = b .dataWords;
-    }
+withQuality q = withParts (stateOf trialImage .table) (q ∷ [])
 
 -- tables that no image gives: a PT twice; a process of a task that has no row
 unfoldable pub ptTwice : ProcessTable
@@ -191,7 +182,7 @@ pub record WriteTrials : Type 0 where
 
 -- naming this opens what the trials use
 unfoldable pub trialled : ℕ
-unfolding opened numbered trialImage trialBytes trialSizes roomLess noBuffers buffersOf withTable withQuality ptTwice unlisted
+unfolding opened numbered trialImage trialBytes trialSizes roomLess noBuffers buffersOf withParts withTable withQuality ptTwice unlisted
 trialled = 0
 
 pub read-trials : ReadTrials
