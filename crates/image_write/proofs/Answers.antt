@@ -74,6 +74,10 @@ pub record Small (n : Sizes) (t : ProcessTable) : Type 0 where
 
 -- ---- a state in buffers that isn't refused
 
+-- two slices cut to one size have as many elements
+as-many : (k : ℕ) (l m : List ℕ) → k ≤ length l → k ≤ length m → length (take k l) ≡ length (take k m)
+as-many k l m h i = length-take-le k l h ∙ sym (length-take-le k m i)
+
 module _ (v : Rows) (table : ProcessTable) (constantTags constantWords registerTags registerWords program dataTags dataWords : List ℕ) (n : Sizes)
     (seven : length (v .at) ≡ 7)
     (fine : stateRefused n (before v table constantTags constantWords registerTags registerWords program dataTags dataWords) ≡ false) where
@@ -108,13 +112,13 @@ module _ (v : Rows) (table : ProcessTable) (constantTags constantWords registerT
   given = cut v table constantTags constantWords registerTags registerWords program dataTags dataWords n
 
   pub constants-cut : length (take (n .constants) constantTags) ≡ length (take (n .constants) constantWords)
-  constants-cut = length-take-le (n .constants) constantTags (fitted .constantTags) ∙ sym (length-take-le (n .constants) constantWords (fitted .constantWords))
+  constants-cut = as-many (n .constants) constantTags constantWords (fitted .constantTags) (fitted .constantWords)
 
   pub tags-cut : length (take (n .registers) registerTags) ≡ length (take (n .registers) registerWords)
-  tags-cut = length-take-le (n .registers) registerTags (fitted .registerTags) ∙ sym (length-take-le (n .registers) registerWords (fitted .registerWords))
+  tags-cut = as-many (n .registers) registerTags registerWords (fitted .registerTags) (fitted .registerWords)
 
   pub data-cut : length (take (n .data_words) dataTags) ≡ length (take (n .data_words) dataWords)
-  data-cut = length-take-le (n .data_words) dataTags (fitted .dataTags) ∙ sym (length-take-le (n .data_words) dataWords (fitted .dataWords))
+  data-cut = as-many (n .data_words) dataTags dataWords (fitted .dataTags) (fitted .dataWords)
 
   -- their image is that of the state
   pub bytes : encode (fieldsIn n held) ≡ imageBytes given
