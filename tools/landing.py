@@ -24,7 +24,7 @@ def git(*words):
 def blocks(text):
     """The parts of a file between blank lines, without what is passed over."""
     for part in re.split(r"\n\s*\n", text):
-        lines = [line.rstrip() for line in part.split("\n") if line.strip() and not line.strip().startswith(PASSED_OVER)]
+        lines = [re.sub(r"\s+(?:--|//) .*$", "", line.rstrip()) for line in part.split("\n") if line.strip() and not line.strip().startswith(PASSED_OVER)]
         if lines:
             yield lines
 
