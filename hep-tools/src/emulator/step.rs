@@ -60,22 +60,22 @@ struct Source {
 fn holds(at: &At, word: u64, empty: bool) -> bool {
     let value = word as i64;
     match at.word >> 52 & 15 {
-        0 => false,
-        1 => value < 0,
-        2 => value == 0,
-        3 => value <= 0,
-        4 => value > 0,
-        5 => value != 0,
-        6 => value >= 0,
-        7 => true,
-        8 => empty,
-        9 => !empty,
-        10 => psw::ri(at.psw) == 0,
-        11 => psw::ri(at.psw) != 0,
-        12 => psw::ci(at.psw) == 0,
-        13 => psw::ci(at.psw) != 0,
-        14 => value.count_ones().is_multiple_of(2),
-        _ => !value.count_ones().is_multiple_of(2),
+        0x0 => false,                                // never
+        0x1 => value < 0,                            // less than
+        0x2 => value == 0,                           // equal to
+        0x3 => value <= 0,                           // less than or equal to
+        0x4 => value > 0,                            // greater than
+        0x5 => value != 0,                           // not equal to
+        0x6 => value >= 0,                           // greater than or equal to
+        0x7 => true,                                 // always
+        0x8 => empty,                                // empty
+        0x9 => !empty,                               // full
+        0xA => psw::ri(at.psw) == 0,                 // RI equal to zero
+        0xB => psw::ri(at.psw) != 0,                 // RI not equal to zero
+        0xC => psw::ci(at.psw) == 0,                 // CI equal to zero
+        0xD => psw::ci(at.psw) != 0,                 // CI not equal to zero
+        0xE => value.count_ones().is_multiple_of(2), // even parity
+        _ => !value.count_ones().is_multiple_of(2),  // odd parity: code F
     }
 }
 

@@ -307,42 +307,49 @@ fn bad_addresses(lines: &mut Vec<String>) {
     }
 }
 
-/// For each value of S2, full, with RI and CI zero: which of the sixteen tests hold.
-const TESTS: [(i64, &str); 6] = [
-    (0, "0011001101101010"),
-    (1, "0000111101101001"),
-    (3, "0000111101101010"),
-    (-1, "0101010101101010"),
-    (i64::MIN, "0101010101101001"),
-    (i64::MAX, "0000111101101001"),
+/// Words of S2: which of the tests 0 to 7 hold, and which of E and F.
+const WORDS: [(i64, &str, &str); 6] = [
+    (0, "00110011", "10"),
+    (1, "00001111", "01"),
+    (3, "00001111", "10"),
+    (-1, "01010101", "10"),
+    (i64::MIN, "01010101", "01"),
+    (i64::MAX, "00001111", "01"),
 ];
 
-/// The sixteen tests in B, CALL, CREATE and QT, each code by its hex digit; r1 is S2.
+/// States of S2: which of the tests 8 and 9 hold.
+const STATES: [(&str, &str); 2] = [("", "01"), ("empty ", "10")];
+
+/// RI and CI: which of the tests A to D hold.
+const INDICES: [(u64, u64, &str); 4] =
+    [(0, 0, "1010"), (1, 0, "0110"), (0, 1, "1001"), (0x400, 0x1000, "0101")];
+
+/// The sixteen tests in B, CALL, CREATE and QT on each word and state of S2 under each RI and CI.
 fn tests(lines: &mut Vec<String>) {
-    for (value, holding) in TESTS {
-        for (test, holds) in holding.bytes().enumerate() {
-            test_lines(lines, test, &format!("r1={value}"), holds == b'1');
+    for (word, signs, ones) in WORDS {
+        for (state, which) in STATES {
+            for (ri, ci, zeros) in INDICES {
+                let holding = [signs, which, zeros, ones].concat();
+                for (test, holds) in holding.bytes().enumerate() {
+                    let s2 = format!("{state}{word}");
+                    test_lines(lines, test, &s2, (ri, ci), holds == b'1');
+                }
+            }
         }
-    }
-    let cases = [(8, 9, "r1=empty 0"), (11, 10, "ri=1"), (13, 12, "ci=1")];
-    for (holds, fails, before) in cases {
-        test_lines(lines, holds, before, true);
-        test_lines(lines, fails, before, false);
     }
 }
 
-/// The four operations with a test that holds or doesn't; c9 is zero, c1 has PC 5.
-fn test_lines(lines: &mut Vec<String>, test: usize, before: &str, holds: bool) {
-    // The index that a created process and CALL's D have from the running PSW.
-    let index = if before.starts_with("r1") { "" } else { before };
-    let joins = format!("joins=1 {index} pc=5");
-    let link = format!("r0=psw {index} pc=1, ");
+/// The four operations with a test that holds or doesn't; r1 is S2, c9 is zero, c1 has PC 5.
+fn test_lines(lines: &mut Vec<String>, test: usize, s2: &str, (ri, ci): (u64, u64), holds: bool) {
+    let joins = format!("joins=1 ri={ri} ci={ci} pc=5");
+    let link = format!("r0=psw ri={ri} ci={ci} pc=1, ");
     let cases = [
         ("B", format!("38{test:X}0000940090001"), "", "pc=9"),
         ("CALL", format!("79{test:X}1000040010001"), &link[..], "pc=5"),
         ("CREATE", format!("39{test:X}1000040010001"), "", &joins),
         ("QT", format!("19{test:X}0000000000001"), "", "leaves"),
     ];
+    let before = format!("r1={s2}, ri={ri}, ci={ci}");
     for (name, word, always, change) in cases {
         let change = if holds { change } else { "" };
         let name = format!("{name} test {test:X} with {before}");
