@@ -14,8 +14,8 @@ ROOT = pathlib.Path(__file__).resolve().parent.parent
 PAGE = ROOT / "docs/TEST-CODES.md"
 DEFINITION = ROOT / "crates/word/specs/Tests.antt"
 CODE = ROOT / "crates/word/src/lib.rt"
-FILES = [str(path.relative_to(ROOT)) for path in (DEFINITION, CODE)]
 CODES = "0123456789ABCDEF"
+MARK = ": code F"
 HEAD = """# The sixteen tests of C
 
 The table of the source's section 5.5 beside the definition (word / Tests . tests) and the code (word `holds`), made from these files by
@@ -45,27 +45,30 @@ def part(path, start, end):
     return rest.partition(f"\n{end}\n")[0].splitlines()
 
 
+def column(lines, pattern):
+    """Code, line and words of each test; a line that is none has no code."""
+    return [(m["code"], m["line"], m["words"]) if (m := re.fullmatch(pattern, line)) else ("?", line, "") for line in lines]
+
+
 def of_manual(path):
-    """Mnemonic and words of each line; the scan has some capitals in Cyrillic."""
-    start = "The possible test modes and the corresponding values for C are:"
-    lines = part(path, start, "5.6 BIT CLEAR")
-    found = [re.fullmatch(r"(\w*)\s*\((.*)\)\s+(\w)", line.strip().translate(str.maketrans("ВС", "BC"))) for line in lines]
-    return [(m.group(3), f"{m.group(1)} ({m.group(2)})".strip()) for m in found if m]
+    """The scan has other lines too, and some capitals in Cyrillic."""
+    lines = part(path, "The possible test modes and the corresponding values for C are:", "5.6 BIT CLEAR")
+    found = column([line.strip().translate(str.maketrans("ВС", "BC")) for line in lines], r"(?P<line>\w*\s*\((?P<words>.*)\))\s+(?P<code>\w)")
+    return [(code, line.replace("\t", " "), words) for code, line, words in found if code != "?"]
 
 
 def of_page():
-    return re.findall(r"^\| (\w) \| (\w* ?\([^|]*\)) \|", PAGE.read_text(), flags=re.M)
+    return re.findall(r"^\| (\w) \| (\w* ?\(([^|]*)\)) \|", PAGE.read_text(), flags=re.M)
 
 
 def of_definition():
-    found = [re.fullmatch(r" +(.*) ∷ +-- (\w) (.*)", line) for line in part(DEFINITION, "tests w t psw =", "    []")]
-    return [(m.group(2), m.group(1), m.group(3)) for m in found if m]
+    return column(part(DEFINITION, "tests w t psw =", "    []"), r" +(?P<line>.*) ∷ +-- (?P<code>\w) (?P<words>.*)")
 
 
 def of_code():
     """The last arm is the default of the match, marked as code F."""
-    found = [re.fullmatch(r" +((?:0x(\w)|_) => .*), // (.*?)(?:: code (F))?", line) for line in part(CODE, "    match code {", "    }")]
-    return [(m.group(2) or m.group(4) or "unmarked", m.group(1), m.group(3)) for m in found if m]
+    arms = column(part(CODE, "    match code {", "    }"), r" +(?P<line>(?:0x)?(?P<code>\w) => .*), // (?P<words>.*)")
+    return [("F", line, words.removesuffix(MARK)) if code == "_" and words.endswith(MARK) else (code, line, words) for code, line, words in arms]
 
 
 def quoted(text):
@@ -74,16 +77,14 @@ def quoted(text):
 
 def page(source):
     """The page, or an end with what does not agree."""
-    columns = source, of_definition(), of_code()
-    for name, column in zip(("source", *FILES), columns):
-        if [line[0] for line in column] != list(CODES):
-            sys.exit(f"test_codes: {name}: the lines are {' '.join(line[0] for line in column)}")
-    rows = []
-    for (code, words), (_, defined, *in_definition), (_, arm, *in_code) in zip(*columns):
-        for name, own in zip(FILES, (in_definition, in_code)):
-            if own != re.findall(r"\((.*)\)", words):
-                sys.exit(f"test_codes: {name}: code {code} is {words}, not {own[0]}")
-        rows.append(f"| {code} | {words} | {quoted(defined)} | {quoted(arm)} |\n")
+    columns = {"source": source, str(DEFINITION.relative_to(ROOT)): of_definition(), str(CODE.relative_to(ROOT)): of_code()}
+    for name, lines in columns.items():
+        if [code for code, _, _ in lines] != list(CODES):
+            sys.exit(f"test_codes: {name}: the lines are {' '.join(code for code, _, _ in lines)}")
+        for (code, _, words), (_, line, own) in zip(source, lines):
+            if own != words:
+                sys.exit(f"test_codes: {name}: code {code} is {words}, not {own}: {line}")
+    rows = [f"| {code} | {line} | {quoted(defined)} | {quoted(arm)} |\n" for (code, line, _), (_, defined, _), (_, arm, _) in zip(*columns.values())]
     return HEAD + "| C | Source | Definition | Code |\n|---|---|---|---|\n" + "".join(rows) + FOOT
 
 
