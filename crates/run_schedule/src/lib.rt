@@ -10,11 +10,12 @@ ghost use Rattle.operation.specs.Environment.{kindOf};
 ghost use Rattle.operation.specs.declared.Course.the-variants.{Creates};
 ghost use Rattle.window.specs.Memories.{memory};
 ghost use Rattle.step.specs.declared.Ending.the-variants.{Trapped};
-ghost use Rattle.step.specs.Queues.{turned, shifted, joined};
+ghost use Rattle.step.specs.Queues.{livePts, turned, shifted, joined};
 ghost use Rattle.step.specs.Act.{tableOf};
 ghost use Rattle.step.specs.Code.Parts.{belowTotal};
 ghost use Rattle.step.specs.Code.Performs.{courseResult};
 ghost use Rattle.step.specs.Soundness.{every};
+ghost use Rattle.step_queue.specs.Code.Mask.{freeAfter};
 ghost use Rattle.run_rings.specs.Code.Rings.{Moves, queuesIn, ringPlaces};
 ghost use Rattle.run_rings.specs.Code.Settled.{Ready, Settled};
 ghost use Rattle.run_rings.specs.Code.Numbers.{Numbers, Carried, Steps};
@@ -352,6 +353,7 @@ fn run_items(
     rows: [Row; TASKS],
     n: usize,
     queues: [Queue; TASKS],
+    free: u64,
     flag: u8,
     psws: &mut [u64],
     schedule: &[u8],
@@ -363,7 +365,7 @@ fn run_items(
     data_tags: &mut [u8],
     data_words: &mut [u64],
 ) -> Left
-    requires { ⌜ (every itemSound (now schedule) ≡ true) × (soundIn n (stateIn rows n (tableOf (now psws) queues flag) (memory (now «constant_tags») (now «constant_words»)) (now «register_tags») (now «register_words») (now program) (now data_tags) (now data_words)) ≡ true) ⌝ }
+    requires { ⌜ (every itemSound (now schedule) ≡ true) × (soundIn n (stateIn rows n (tableOf (now psws) queues flag) (memory (now «constant_tags») (now «constant_words»)) (now «register_tags») (now «register_words») (now program) (now data_tags) (now data_words)) ≡ true) × (free ≡ freeAfter (livePts queues) 18446744073709551615) ⌝ }
     ensures { λ r. ⌜ (record { state = stateIn (r .rows) n (tableOf (now (psws .exit)) (r .queues) (r .flag)) (memory (now («constant_tags» .entry)) (now («constant_words» .entry))) (now («register_tags» .exit)) (now («register_words» .exit)) (now (program .entry)) (now (data_tags .exit)) (now (data_words .exit)); counts = r .counts } ≡ run (now (schedule .entry)) (stateIn rows n (tableOf (now (psws .entry)) queues flag) (memory (now («constant_tags» .entry)) (now («constant_words» .entry))) (now («register_tags» .entry)) (now («register_words» .entry)) (now (program .entry)) (now (data_tags .entry)) (now (data_words .entry)))) × (drop n (r .rows) ≡ drop n rows) ⌝ }
 {
     let laid = run_rings::rings_of(queues);
@@ -374,7 +376,7 @@ fn run_items(
     let mut kinds = tasks.kinds;
     let mut stored = tasks.stored;
     let spans = tasks.spans;
-    let mut free = run_rings::free_mask(queues);
+    let mut free = free;
     let mut flag = flag;
     let mut tally: [u64; ENDINGS] = [0; ENDINGS];
     let mut i = 0;
@@ -475,6 +477,7 @@ fn run_cut(
         at,
         n.rows,
         queues,
+        run_rings::free_mask(queues),
         table.flag,
         &mut psw,
         schedule,
