@@ -407,6 +407,43 @@ fn a_trace_shows_what_is_written() {
     assert!(tool::shared(TRACED.as_bytes(), 2, None).is_err());
 }
 
+/// Five steps with parts of data word 1, whose address is 8.
+const PARTS_TRACED: &str = "hep input
+        task 1 cb=0 rb=0 rl=1 pb=0 pl=0 db=0 dl=0
+        process 5 task=1 pc=0
+        constants
+          11
+          14
+          13
+          12
+        registers
+          full 0x1234 * 4
+        program
+          STOI r0, c0
+          LODI:W:U r1, c1
+          STOI:B:E r0, c2
+          LODI r2, c0
+          STOI r0, c3
+          NOP * 11
+        data
+          full 0 * 32
+        schedule
+          1 * 5";
+
+#[test]
+fn a_trace_shows_parts() {
+    let trace = tool::traced(PARTS_TRACED.as_bytes()).unwrap();
+    let steps: Vec<&str> = trace.lines().skip(1).map(|line| &line[19..]).collect();
+    let expected = [
+        "STOI r0, c0                      executed   data 1 = full 0x0000123400000000 (quarter 1)",
+        "LODI:W:U r1, c1                  executed   r1 = full 0, data 1 = empty 0x0000123400000000 (half 1)",
+        "STOI:B:E r0, c2                  executed   data 1 = full 0x0000123400340000 (byte 5)",
+        "LODI r2, c0                      executed   r2 = full 4660",
+        "STOI r0, c3                      trapped 12",
+    ];
+    assert_eq!(steps, expected);
+}
+
 #[test]
 fn states_after_runs_come_back() {
     for n in 0..300 {

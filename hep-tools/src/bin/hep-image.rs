@@ -49,6 +49,7 @@ usage: hep-image trace [-o FILE] [FILE]
 
 Runs a batch input and writes a line for each item of its schedule: task, process number, PC in
 hex, instruction, ending, and what the step wrote. `rN` and `data N` count from the window's start.
+Behind a data word stands the part of it that was named, as `(byte 7)`, unless it is the whole.
 ";
 
 const SHARE_HELP: &str = "\

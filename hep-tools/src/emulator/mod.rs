@@ -7,6 +7,7 @@ pub mod codes;
 pub mod draft;
 pub mod image;
 pub mod machine;
+pub mod part;
 pub mod psw;
 pub mod refusal;
 mod step;

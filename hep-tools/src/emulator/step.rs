@@ -3,6 +3,7 @@
 use crate::emulator::arithmetic::{add, bit, leftmost, mul, sub};
 use crate::emulator::codes::{decode, forbidden, Op};
 use crate::emulator::machine::*;
+use crate::emulator::part::Part;
 use crate::emulator::psw;
 
 /// Places of the operand fields in the instruction word. S0 stands where D does.
@@ -190,6 +191,22 @@ impl Machine {
         self.place(&at, 32 - 16 * i as u32).ok().map(|place| place.cell)
     }
 
+    /// The byte address of a load or store whose operands lie in their windows.
+    pub fn data_address(&self, task: u8, psw: u64, word: u64) -> Option<u64> {
+        let fields: &[u32] = match decode(word) {
+            Op::Lodi | Op::Stoi => &[S1],
+            Op::Lodx | Op::Stox => &[S1, S2],
+            _ => return None,
+        };
+        let at = At { task: usize::from(task), pt: 0, psw, word };
+        let source = |&field: &u32| {
+            let place = self.place(&at, field).ok()?;
+            Some(Source { place, word: self.words[place.cell] })
+        };
+        let sources: Option<Vec<Source>> = fields.iter().map(source).collect();
+        Some(address(&sources?))
+    }
+
     /// Check 4 for the destination, which can't be a constant.
     #[inline(always)]
     fn destination(&self, at: &At) -> Result<Place, Stop> {
@@ -358,24 +375,23 @@ impl Machine {
         Ok(())
     }
 
-    /// Check 7: the place of a data word.
+    /// Check 7: the place of a data word, and the part of it that is named.
     #[inline(always)]
-    fn checked_data_place(&self, at: &At, address: u64) -> Result<usize, Stop> {
+    fn checked_data_part(&self, at: &At, address: u64) -> Result<(usize, Part), Stop> {
         let real = self.rows[at.task].data.real(address);
         let (Some(real), true) = (real, address < 1 << 31) else {
             return Err(Stop::Protection);
         };
-        if at.word >> 52 & 1 != 0 || address & 7 != 0 {
-            return Err(Stop::Simulated);
-        }
-        Ok(real as usize / 8)
+        let part = Part::named(at.word, address).ok_or(Stop::Illegal)?;
+        Ok((real as usize / 8, part))
     }
 
     /// LODI and LODX: the sources add up to the address.
     #[inline(always)]
     fn load<const N: usize>(&mut self, at: At, fields: [u32; N]) -> Outcome {
         let (d, sources) = self.operands(&at, fields)?;
-        let place = self.checked_data_place(&at, address(&sources))?;
+        let (place, part) = self.checked_data_part(&at, address(&sources))?;
+        let loaded = part.extracted(self.data[place]);
         let sac = at.word >> 50 & 3;
         if sac != 0 && self.full[place] == 0 {
             return Err(Stop::Wave);
@@ -384,7 +400,7 @@ impl Machine {
         if sac == 2 {
             self.full[place] = 0;
         }
-        self.write(d, self.data[place], 0);
+        self.write(d, loaded, 0);
         self.advance(at, psw::next(at.psw))
     }
 
@@ -392,13 +408,14 @@ impl Machine {
     #[inline(always)]
     fn store<const N: usize>(&mut self, at: At, fields: [u32; N]) -> Outcome {
         let sources = self.sources(&at, fields, false)?;
-        let place = self.checked_data_place(&at, address(&sources[1..]))?;
+        let (place, part) = self.checked_data_part(&at, address(&sources[1..]))?;
+        let stored = part.placed(self.data[place], sources[0].word);
         let dac = at.word >> 48 & 3;
         if dac == 2 && self.full[place] == 1 {
             return Err(Stop::Wave);
         }
         self.release(&sources);
-        self.data[place] = sources[0].word;
+        self.data[place] = stored;
         self.full[place] = 1;
         self.advance(at, psw::next(at.psw))
     }

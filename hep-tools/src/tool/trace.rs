@@ -2,6 +2,7 @@
 
 use crate::emulator::codes::{listed, Low, Operation, Role};
 use crate::emulator::machine::{Ending, Machine, CREATE_FAULT};
+use crate::emulator::part::Part;
 use crate::emulator::psw;
 use crate::tool::text::{self, psw_fields};
 
@@ -96,7 +97,7 @@ fn place(field: u16, psw: u64) -> String {
     format!("r{}", u64::from(field & 0x7FF) + index)
 }
 
-/// A store, or a load that sets empty.
+/// A store, or a load that sets empty: the word then, and which part of it was named.
 fn data_write(
     before: &Machine,
     after: &Machine,
@@ -108,12 +109,20 @@ fn data_write(
     if of.low != Low::Store && (of.low != Low::Load || word >> 50 & 3 != 2) {
         return None;
     }
-    let fields = if of.order.len() == 3 { 1..=2 } else { 1..=1 };
-    let cells = fields.filter_map(|i| before.operand_cell(task, taken.psw, word, i));
-    let sum = cells.fold(0, |sum: u64, cell| sum.wrapping_add(before.words[cell]));
-    let address = sum & 0xFFFF_FFFF;
+    let address = before.data_address(task, taken.psw, word)?;
     let cell = after.data_word(after.data_place(task, address)?);
-    Some(format!("data {} = {}", address / 8, text::data(&cell)))
+    let part = Part::named(word, address).map(show_part).unwrap_or_default();
+    Some(format!("data {} = {}{part}", address / 8, text::data(&cell)))
+}
+
+/// A part behind its word; nothing if it is the whole of it.
+fn show_part(Part { width, place }: Part) -> String {
+    match width {
+        8 => format!(" (byte {place})"),
+        16 => format!(" (quarter {place})"),
+        32 => format!(" (half {place})"),
+        _ => String::new(),
+    }
 }
 
 /// The process that a create has added.

@@ -1,5 +1,6 @@
 //! Families of trials as lines: each operation under each access code, illegal field,
-//! window, quality of a register and of a constant, and data state, and the sixteen tests.
+//! window, quality of a register and of a constant, each part of a data word under each data
+//! state, and the sixteen tests.
 
 /// An operation with D, S1, S2 and S0 in registers 0 to 3, which hold 8 in 1, 16 in 2, 33
 /// in 3, and what it changes then. Data words 1 and 3 hold 77 and 99. A name in braces is an
@@ -80,7 +81,7 @@ pub fn lines() -> Vec<String> {
     qualities(&mut lines);
     constants(&mut lines);
     constants_never(&mut lines);
-    data_states(&mut lines);
+    parts(&mut lines);
     bad_addresses(&mut lines);
     tests(&mut lines);
     codes(&mut lines);
@@ -245,65 +246,128 @@ fn constants_never(lines: &mut Vec<String>) {
     }
 }
 
-/// The four data operations with their word's place and what they do when it is as they want.
-const DATA: [(&str, &str, usize, i64, &str); 4] = [
-    ("LODI", " r0, r1", 1, 77, "r0=77"),
-    ("LODX", " r0, r1, r2", 3, 99, "r0=99"),
-    ("STOI", " r2, r1", 1, 16, "d1=16"),
-    ("STOX", " r3, r1, r2", 3, 33, "d3=33"),
+/// The four data operations with their operands.
+const DATA: [(&str, &str); 4] =
+    [("LODI", "r0, r1"), ("LODX", "r0, r1, r2"), ("STOI", "r2, r1"), ("STOX", "r3, r1, r2")];
+
+/// What SAC does to a data word that is full, and to one that is empty; what DAC does.
+const LOADS: [(&str, [Option<bool>; 2]); 3] = [SOURCES[0], SOURCES[1], SOURCES[2]];
+const STORES: [(&str, [Option<bool>; 2]); 2] = [DESTINATIONS[0], DESTINATIONS[2]];
+
+/// The parts of a word: the letter of B, the low three bits of the address, and the part's
+/// digits among the word's sixteen in hex.
+const PARTS: [(&str, u64, &str); 15] = [
+    ("", 0, "################"),
+    ("", 2, "########........"),
+    ("", 6, "........########"),
+    ("", 1, "####............"),
+    ("", 3, "....####........"),
+    ("", 5, "........####...."),
+    ("", 7, "............####"),
+    (":B", 0, "##.............."),
+    (":B", 1, "..##............"),
+    (":B", 2, "....##.........."),
+    (":B", 3, "......##........"),
+    (":B", 4, "........##......"),
+    (":B", 5, "..........##...."),
+    (":B", 6, "............##.."),
+    (":B", 7, "..............##"),
 ];
 
-/// SAC and DAC on both states.
-fn data_states(lines: &mut Vec<String>) {
-    for (name, operands, place, word, changes) in DATA {
-        let load = name.starts_with('L');
-        let codes: &[(&str, [Option<bool>; 2])] = if load { &SOURCES[..3] } else { &DESTINATIONS };
-        for &(letters, left) in codes {
-            // A store has codes 0 and 2 only.
-            if !load && !["", ":E"].contains(&letters) {
-                continue;
-            }
-            for (state, left) in ["", "empty "].into_iter().zip(left) {
-                let text = format!("{name}{letters}{operands}");
-                let before = format!("{BEFORE}, d{place}={state}{word}");
-                let after = match left {
-                    None => "W |".to_string(),
-                    Some(true) => format!("E | {changes}, d{place}={word}"),
-                    Some(false) => format!("E | {changes}, d{place}=empty {word}"),
-                };
-                lines.push(format!("{text} on {state}data | {before} | {text} | {after}"));
+/// A data window with memory on both sides, and its first and last word: byte address, place
+/// in the memory, and hex digits.
+const WINDOW: &str = "db=1, dl=1, data=96";
+const ENDS: [(u64, usize, &str); 2] = [(0, 32, "8123C56709AB4DEF"), (0xF8, 63, "7EDC3A98F654B210")];
+
+/// What is stored, in hex digits.
+const STORED: &str = "1032547698BADCFE";
+
+/// The digits of a word that belong to a part.
+fn loaded(part: &str, word: &str) -> String {
+    let marked = part.chars().zip(word.chars()).filter(|(mark, _)| *mark == '#');
+    marked.map(|(_, digit)| digit).collect()
+}
+
+/// The word with the last digits of what is stored in the part.
+fn stored(part: &str, word: &str) -> String {
+    let mut low = STORED.chars().skip(part.matches('.').count());
+    let digits = part.chars().zip(word.chars());
+    digits
+        .map(|(mark, digit)| if mark == '#' { low.next().unwrap_or(digit) } else { digit })
+        .collect()
+}
+
+/// The registers from which a data operation has its address and what it stores. Address bits
+/// past the 32 don't count; in the X forms the low three bits of S1 are never those of the sum.
+fn addressed(name: &str, address: u64) -> String {
+    if name.ends_with('X') {
+        let first = address.wrapping_sub(37) & 0xFFFF_FFFF;
+        format!("r1={first}, r2=37, r3=0x{STORED}")
+    } else {
+        format!("r1={}, r2=0x{STORED}", 0xABCD << 32 | address)
+    }
+}
+
+/// Each data operation on each part at both ends of a window.
+fn parts(lines: &mut Vec<String>) {
+    for operation in DATA {
+        for part in PARTS {
+            for end in ENDS {
+                part_lines(lines, operation, part, end);
             }
         }
     }
 }
 
-/// Byte addresses: the last word, past the window, from 2^31 up, parts of words.
+/// A data operation on a part under each SAC or DAC, on both states of the word.
+fn part_lines(
+    lines: &mut Vec<String>,
+    (name, operands): (&str, &str),
+    (byte, low, part): (&str, u64, &str),
+    (address, place, word): (u64, usize, &str),
+) {
+    let address = address + low;
+    let load = name.starts_with('L');
+    let codes: &[(&str, [Option<bool>; 2])] = if load { &LOADS } else { &STORES };
+    for &(letters, left) in codes {
+        let text = format!("{name}{byte}{letters} {operands}");
+        for (state, left) in ["", "empty "].into_iter().zip(left) {
+            let registers = addressed(name, address);
+            let before = format!("{WINDOW}, r0=7 quality=3, {registers}, d{place}={state}0x{word}");
+            let after = match left {
+                None => "W |".to_string(),
+                Some(full) if load => {
+                    let state = if full { "" } else { "empty " };
+                    format!("E | r0=0x{}, d{place}={state}0x{word}", loaded(part, word))
+                }
+                Some(_) => format!("E | d{place}=0x{}", stored(part, word)),
+            };
+            lines.push(format!("{text} at {address:X}, {state}data | {before} | {text} | {after}"));
+        }
+    }
+}
+
+/// Byte addresses that trap: past the window and from 2^31 up whatever the part; then part 4
+/// with B = 0 at both ends, whatever the state.
 fn bad_addresses(lines: &mut Vec<String>) {
-    for (name, operands, _, _, _) in DATA {
-        let indexed = name.ends_with('X');
-        let at = |address: u64| match indexed {
-            true => format!("r1={}, r2=16, r3=33", address.wrapping_sub(16) & 0xFFFF_FFFF),
-            false => format!("r1={}, r2=33", 0xABCD << 32 | address),
-        };
+    for (name, operands) in DATA {
+        for address in [0x100, 0x101, 0x104, 1 << 31, 0x8000_0004, 0xFFFF_FFF8, 0xFFFF_FFFC] {
+            let before = addressed(name, address);
+            for byte in ["", ":B"] {
+                let text = format!("{name}{byte} {operands}");
+                lines.push(format!("{text} at {address:X} | {before} | {text} | T14 |"));
+            }
+        }
         let letters = if name.starts_with('L') { ":W" } else { ":E" };
-        for (address, kind) in [(0x100, "14"), (1 << 31, "14"), (0xFFFF_FFF8, "14"), (0x101, "14")]
-        {
-            let before = at(address);
-            lines.push(format!("{name} at {address:X} | {before} | {name}{operands} | T{kind} |"));
-            lines.push(format!(
-                "{name}:B at {address:X} | {before} | {name}:B{operands} | T{kind} |"
-            ));
+        for (address, place) in [(0x4, 0), (0xFC, 31)] {
+            let text = format!("{name}{letters} {operands}");
+            for state in ["", "empty "] {
+                let before = format!("{}, d{place}={state}5", addressed(name, address));
+                lines.push(format!(
+                    "{text} at {address:X}, {state}data | {before} | {text} | T12 |"
+                ));
+            }
         }
-        for part in 1..8 {
-            let before = at(0xF8 + part);
-            let text = format!("{name}{letters}{operands}");
-            let state = if letters == ":W" { "d31=empty 0" } else { "d31=0" };
-            lines.push(format!("{name} of a part {part} | {before}, {state} | {text} | T1C |"));
-        }
-        lines.push(format!("{name} of a byte | {} | {name}:B{operands} | T1C |", at(0xF8)));
-        let last = at(0xF8);
-        let changes = if name.starts_with('L') { "r0=55" } else { "d31=33" };
-        lines.push(format!("{name} at F8 | {last}, d31=55 | {name}{operands} | E | {changes}"));
     }
 }
 
@@ -362,8 +426,8 @@ fn codes(lines: &mut Vec<String>) {
     let privileged = "0700 3601 3700 3B7F 3C00 4A00 5700 5800 7600 8700 8701 9900 9901 9902 \
                       9903 B700 C900 D700 E10E E11F E705 E706 E707 E97F EC00 F101 F10D";
     let unlisted = "0001 0800 0901 1901 197F 3A00 4112 4C00 5C00 610F 6111 6C01 6C02 6C03 6C0C \
-                    6C20 6C40 6C80 711E 7201 7321 7900 7902 797F 7C02 7C0C 7CE0 9C00 BC01 BC03 \
-                    BC04 BC08 BC20 FC03 FC0C FC80 FFFF";
+                    6C11 6C12 6C1C 6C20 6C40 6C80 711E 7201 7321 7900 7902 797F 7C02 7C0C 7C1E 7CE0 \
+                    9C00 BC01 BC03 BC04 BC08 BC11 BC13 BC14 BC18 BC20 FC03 FC0C FC1D FC80 FFFF";
     let kinds = [(privileged, "16"), ("7200 7F00 610A 6108", "1C"), (unlisted, "12")];
     for (codes, kind) in kinds {
         for code in codes.split_whitespace() {
