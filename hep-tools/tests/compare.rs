@@ -31,7 +31,7 @@ impl Implementation for Faulty {
 
 /// The smallest input that tells the faulty emulator apart.
 fn told_apart(change: fn(&[u8], Answer) -> Answer) -> Vec<u8> {
-    let difference = compare::random(&mut Faulty { change }, &mut Emulator, 31, 2_000);
+    let difference = compare::random(&mut Faulty { change }, &mut Emulator, 34, 2_000);
     difference.expect("it differs").input
 }
 

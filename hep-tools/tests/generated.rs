@@ -1,10 +1,13 @@
 //! Generated images and the workloads.
 
 use hep_tools::benchmark;
+use hep_tools::emulator::assemble::{word, LODI};
 use hep_tools::emulator::batch;
+use hep_tools::emulator::codes::{listed, Low};
 use hep_tools::emulator::draft::{batch_input, Task};
 use hep_tools::emulator::image;
-use hep_tools::emulator::machine::{Counts, Ending, Machine, DATA_EXCEPTION, NO_TRAP};
+use hep_tools::emulator::machine::{Counts, Ending, Machine, DATA_EXCEPTION, ILLEGAL, NO_TRAP};
+use hep_tools::emulator::psw;
 use hep_tools::emulator::refusal::{Refusal, Section};
 use hep_tools::generate;
 
@@ -151,6 +154,60 @@ fn constants_cause_data_exceptions() {
     for make in [generate::input, generate::small_input] {
         let came = (0..3_000).filter(|n| has_a_constants_exception(&make(16, *n))).count();
         assert!(came > 100, "{came}");
+    }
+}
+
+/// A data access: whether it stores, B, and the low three bits of its address and of S1.
+#[derive(Clone, Copy)]
+struct Access {
+    stores: bool,
+    byte: bool,
+    low: u64,
+    low_of_s1: u64,
+}
+
+/// The access that a task's next step asks for.
+fn access(machine: &Machine, task: u8) -> Option<Access> {
+    let &(_, psw) = machine.processes(task).first()?;
+    let instruction = machine.instruction(task, psw::pc(psw))?;
+    let stores = listed(instruction)?.low == Low::Store;
+    let low = |word| machine.data_address(task, psw, word).map(|address| address & 7);
+    let low_of_s1 = low(word(LODI, 0, (instruction >> 16) as u16, 0))?;
+    let byte = instruction >> 52 & 1 != 0;
+    Some(Access { stores, byte, low: low(instruction)?, low_of_s1 })
+}
+
+/// The accesses of an input's run that are executed, and those that trap with kind 12.
+fn accesses(input: &[u8]) -> Vec<Access> {
+    let Ok((schedule, mut machine)) = batch::accepted(input) else { return Vec::new() };
+    let step = |&task: &u8| {
+        let access = access(&machine, task);
+        let wanted = match machine.step(task) {
+            Ending::Trapped { kind, .. } => kind == ILLEGAL,
+            ending => ending == Ending::Executed,
+        };
+        access.filter(|_| wanted)
+    };
+    schedule.iter().filter_map(step).collect()
+}
+
+/// Loads and stores reach each byte and each part, also part 4, which traps with kind 12; some
+/// addresses carry out of their low three bits; whole words are the most.
+#[test]
+fn parts_are_loaded_and_stored() {
+    for make in [generate::input, generate::small_input] {
+        let all: Vec<Access> = (0..6_000).flat_map(|n| accesses(&make(17, n))).collect();
+        let came = |is_it: &dyn Fn(&Access) -> bool| all.iter().filter(|a| is_it(a)).count();
+        for (stores, byte) in [(false, false), (false, true), (true, false), (true, true)] {
+            for low in 0..8 {
+                let came = came(&|a| (a.stores, a.byte, a.low) == (stores, byte, low));
+                assert!(came > 10, "{came} accesses: store {stores}, B {byte}, low bits {low}");
+            }
+        }
+        let carried = came(&|a| a.low < a.low_of_s1);
+        assert!(carried > 100, "{carried} carried");
+        let whole = came(&|a| a.low == 0 && !a.byte);
+        assert!(whole > all.len() / 2, "{whole} of {} were whole words", all.len());
     }
 }
 

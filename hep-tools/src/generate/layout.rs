@@ -77,7 +77,7 @@ fn fill_memories(draft: &mut Draft, size: Size, random: &mut Random) {
     draft.registers = (0..registers).map(|i| (tag(random, empties), held(i, random))).collect();
     draft.program = (0..program).map(|_| values::any(random)).collect();
     let full = |random: &mut Random| u8::from(!random.chance(empties));
-    draft.data = (0..data).map(|_| (full(random), values::any(random))).collect();
+    draft.data = (0..data).map(|_| (full(random), values::data(random))).collect();
 }
 
 /// The quality of a constant, of which so many in a hundred don't have 0.

@@ -56,7 +56,7 @@ fn neighboured(first: &Draft, number: u8, random: &mut Random) -> Draft {
         (random.below(7) as u8 | random.pick(&[0, 0, 8]), values::any(random))
     };
     draft.registers.iter_mut().for_each(|cell| *cell = any(random));
-    draft.data.iter_mut().for_each(|cell| *cell = (random.below(2) as u8, values::any(random)));
+    draft.data.iter_mut().for_each(|cell| *cell = (random.below(2) as u8, values::data(random)));
     add_zeros(&mut draft, random);
     program::fill(&mut draft, Size::Any, random);
     keep(&mut draft.registers, &first.registers, share::registers(&own));

@@ -115,7 +115,7 @@ impl Author<'_> {
     }
 
     fn load(&mut self) -> u64 {
-        let access = self.random.pick(&[0, 0, 0, 0, SAC_FULL, SAC_FULL, SAC_TAKE]);
+        let access = self.random.pick(&[0, 0, 0, 0, SAC_FULL, SAC_FULL, SAC_TAKE]) | self.byte();
         let (d, address) = (self.destination(), self.address());
         if self.random.chance(50) {
             return word(LODI | access, d, address, 0);
@@ -125,13 +125,22 @@ impl Author<'_> {
     }
 
     fn store(&mut self) -> u64 {
-        let access = self.random.pick(&[0, 0, 0, 0, 0, 0, DAC_EMPTY]);
+        let access = self.random.pick(&[0, 0, 0, 0, 0, 0, DAC_EMPTY]) | self.byte();
         let (value, address) = (self.source(), self.address());
         if self.random.chance(50) {
             return word(STOI | access, 0, address, value);
         }
         let index = self.index();
         word(STOX | access, value, address, index)
+    }
+
+    /// The bit B, now and then.
+    fn byte(&mut self) -> u16 {
+        if self.random.chance(20) {
+            BYTE
+        } else {
+            0
+        }
     }
 
     fn address(&mut self) -> u16 {
@@ -199,19 +208,18 @@ impl Author<'_> {
     /// An instruction that breaks some rule, mostly.
     fn stray(&mut self) -> u64 {
         let word_of_code = |code: u16, random: &mut Random| word(code, random.draw() as u16, 0, 0);
-        match self.random.below(13) {
+        match self.random.below(12) {
             0 => self.random.draw(),
             1 => word_of_code(SVC, self.random),
             2 => word_of_code(self.random.pick(&codes::PRIVILEGED), self.random),
             3 => word_of_code(self.random.pick(&codes::SIMULATED), self.random),
-            4 => self.instruction() | 0x0010 << 48,
-            5 => self.instruction() ^ 1 << 48 << self.random.below(16),
-            6 => self.instruction() | 0x4000 << self.random.pick(&[0, 16, 32]),
-            7 => self.instruction() | 0x2000 << self.random.pick(&[0, 16, 32]),
-            8 => self.instruction() | self.random.below(0x800) << self.random.pick(&[0, 16, 32]),
-            9 => self.two() | self.random.between(1, 0xFFFF),
-            10 => self.load() | self.random.pick(&[0x1, 0x2, 0xC, 0xE]) << 48,
-            11 => self.store() | self.random.pick(&[0x1, 0x3, 0x4, 0x8]) << 48,
+            4 => self.instruction() ^ 1 << 48 << self.random.below(16),
+            5 => self.instruction() | 0x4000 << self.random.pick(&[0, 16, 32]),
+            6 => self.instruction() | 0x2000 << self.random.pick(&[0, 16, 32]),
+            7 => self.instruction() | self.random.below(0x800) << self.random.pick(&[0, 16, 32]),
+            8 => self.two() | self.random.between(1, 0xFFFF),
+            9 => self.load() | self.random.pick(&[0x1, 0x2, 0xC, 0xE]) << 48,
+            10 => self.store() | self.random.pick(&[0x1, 0x3, 0x4, 0x8]) << 48,
             _ => self.instruction() ^ 1 << self.random.below(48),
         }
     }

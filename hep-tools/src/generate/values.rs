@@ -34,13 +34,22 @@ pub fn any(random: &mut Random) -> u64 {
     word(purpose, random)
 }
 
+/// A word of data: half of the time with something in each of its parts.
+pub fn data(random: &mut Random) -> u64 {
+    if random.chance(50) {
+        random.draw()
+    } else {
+        any(random)
+    }
+}
+
 /// A word that serves as a byte address and as a status word: PC 0 or 8, mostly.
 pub fn held(random: &mut Random) -> u64 {
     if random.chance(5) {
         return address(random);
     }
     let (ci, ri) = (field(random, 8, 0x1FFF), field(random, 4, 0x7FF));
-    psw(ci, ri, 0, 8 * random.below(2))
+    psw(ci, ri, 0, 8 * random.below(2) + low(random))
 }
 
 /// A status word with PC below `program`, now and then a wilder one.
@@ -67,14 +76,30 @@ fn field(random: &mut Random, small: u64, most: u64) -> u64 {
     }
 }
 
-/// A byte address: mostly of a whole word near the start.
+/// A byte address: mostly near the start.
 fn address(random: &mut Random) -> u64 {
     match random.below(200) {
         0 => random.draw(),
         1 => random.below(512),
-        2 => random.pick(&[1 << 31, (1 << 31) - 8, (1 << 32) - 8, 0xF8, 0x100]),
-        3..=20 => (random.draw() << 32) | (random.below(32) * 8),
-        _ => random.below(32) * 8,
+        2 => random.pick(&[1 << 31, (1 << 31) - 8, (1 << 32) - 8, (1 << 32) - 3, 0xF8, 0x100]),
+        3..=20 => (random.draw() << 32) | near(random),
+        _ => near(random),
+    }
+}
+
+/// A byte address in the first words, half of the time in so few that two add up to another.
+fn near(random: &mut Random) -> u64 {
+    let words = random.pick(&[4, 32]);
+    8 * random.below(words) + low(random)
+}
+
+/// The low three bits of a byte address: mostly of a whole word, else of a part; seldom those
+/// that name no part with B = 0.
+fn low(random: &mut Random) -> u64 {
+    match random.below(100) {
+        0..=2 => 4,
+        3..=42 => random.pick(&[1, 2, 3, 5, 6, 7]),
+        _ => 0,
     }
 }
 
