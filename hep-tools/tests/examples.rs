@@ -35,22 +35,47 @@ fn house_one_beside_either_neighbour() {
     }
 }
 
+/// House one's spans: section, dead and live load, span, factor.
+const SPANS: [([u64; 4], u64, u64, u64); 6] = [
+    ([80, 200, 0, 0], 900 + 1200, 360, 1587),
+    ([80, 200, 0, 0], 900 + 1200, 420, 1587),
+    ([100, 240, 0, 0], 1100 + 1500, 480, 882),
+    ([100, 240, 0, 0], 1100 + 1500, 540, 882),
+    ([120, 280, 40, 120], 1400 + 2000, 600, 555),
+    ([120, 280, 40, 120], 1400 + 2000, 750, 555),
+];
+
 #[test]
 fn figures_by_the_formula() {
-    let spans = [
-        (900 + 1200, 360, 1587),
-        (900 + 1200, 420, 1587),
-        (1100 + 1500, 480, 882),
-        (1100 + 1500, 540, 882),
-        (1400 + 2000, 600, 540),
-        (1400 + 2000, 750, 540),
-    ];
-    let figures = spans.map(|(load, span, factor): (u64, u64, u64)| load * span * span * factor);
+    let figures =
+        SPANS.map(|([width, height, hollow_width, hollow_height], load, span, factor)| {
+            let own = 42 * (width * height - hollow_width * hollow_height);
+            (own + 10_000 * load) * span * span * factor
+        });
     let mut lines: Vec<String> =
         (32..).zip(figures).map(|(place, figure)| format!("{place} {figure} full")).collect();
     lines.extend(["38 0 empty", "39 0 empty"].map(str::to_string));
     lines.push(format!("40 {} full", figures.iter().max().unwrap()));
-    let above = figures.iter().filter(|figure| **figure > 1_000_000_000_000).count();
+    let above = figures.iter().filter(|figure| **figure > 10_000_000_000_000_000).count();
     lines.push(format!("41 {above} full"));
     assert_eq!(example("house-one.table").lines().collect::<Vec<_>>(), lines);
+}
+
+/// C24 with k_mod 0.8 and gamma 1.3, in N/mm2; sizes in mm, the resistance in N mm.
+#[test]
+fn factors_by_the_formula() {
+    for ([width, height, hollow_width, hollow_height], _, _, factor) in SPANS {
+        let inertia = width * height.pow(3) - hollow_width * hollow_height.pow(3);
+        let resistance = 24.0 * 0.8 / 1.3 * inertia as f64 / (6 * height) as f64;
+        assert_eq!((1e11 / 8.0 / resistance).ceil() as u64, factor);
+    }
+}
+
+/// Each section's word holds its four sizes, 16 bits each.
+#[test]
+fn sections_are_packed() {
+    let packed = SPANS.map(|(sizes, ..)| sizes.iter().fold(0, |word, size| word << 16 | size));
+    let source = tool::load(example("frame-a.hep").as_bytes()).unwrap();
+    let words: Vec<u64> = source.draft.data[..6].iter().map(|cell| cell.1).collect();
+    assert_eq!(words, packed);
 }

@@ -469,9 +469,9 @@ fn timelines() {
     let frame = include_str!("../../examples/frame-b.hep");
     let svg = tool::drawn(frame.as_bytes()).unwrap();
     assert_eq!(said(&svg, "task "), ["task 1", "task 5"]);
-    assert_eq!(said(&svg, "E"), ["E130 W25 T0 I45", "E126 W1115 T1 I83"]);
+    assert_eq!(said(&svg, "E"), ["E191 W84 T0 I25", "E126 W1115 T1 I683"]);
     assert_eq!(said(&svg, "trap "), ["trap 14 at item 1381, PC 00003"]);
-    for total in ["executed 256", "waved (waits) 1140", "trapped 1", "idle 128"] {
+    for total in ["executed 317", "waved (waits) 1199", "trapped 1", "idle 708"] {
         assert_eq!(said(&svg, total), [total]);
     }
     assert!(svg.starts_with("<svg ") && svg.ends_with("</svg>\n"));
