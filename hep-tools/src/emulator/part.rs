@@ -9,10 +9,11 @@ pub struct Part {
 }
 
 impl Part {
+    /// The whole word.
     pub const WORD: Part = Part { width: 64, place: 0 };
 
-    /// The part that B of an instruction and the low three bits of its address name. Whole words
-    /// come first: they are the most.
+    /// The part that B of an instruction and the low three bits of its address name. The whole
+    /// word is tested first, since most accesses are of it.
     #[inline(always)]
     pub fn named(instruction: u64, address: u64) -> Option<Part> {
         let (byte, low) = (instruction >> 52 & 1 != 0, (address & 7) as u32);
@@ -23,7 +24,7 @@ impl Part {
         }
     }
 
-    /// The part by B and those bits.
+    /// The part that B and those bits name.
     #[cold]
     fn by(byte: bool, low: u32) -> Option<Part> {
         if byte {
