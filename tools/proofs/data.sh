@@ -5,13 +5,13 @@ source tools/proofs/common.sh
 C=operation_data
 LAWS="use Rattle.operation_data.specs.Laws.Reached"
 HEAD="use mathlib.Core.Path.{refl, _∙_}
-use Rattle.operation.specs.declared.Trap.the-variants.{ProtectionViolation, SimulatedInstruction}
+use Rattle.operation.specs.declared.Trap.the-variants.{ProtectionViolation, IllegalInstruction}
 use Rattle.operation.specs.declared.Wait.the-variants.{Data}
 use Rattle.operation.specs.Environment.{environmentOf}
 use Rattle.operation.specs.Perform.{loadFrom, storeTo}
 use Rattle.step.specs.Code.Performs.{trapCourse, fateCourse}
 use Rattle.step.specs.Laws.Performs.{performs-waits, performs-traps}
-use Rattle.operation_data.specs.declared.Reached.the-variants.{Violation, Simulated}
+use Rattle.operation_data.specs.declared.Reached.the-variants.{Violation, Illegal}
 use Rattle.operation_data.specs.Code.Reached.{reachOf}
 $OPERANDS.{or-none, or-one, unused-operated, destination-operated, source-operated}
 $FOUND.{found-waits, found-masked, found-performs, executes-result, executes-sources}"
@@ -21,30 +21,30 @@ use Rattle.operation_data.specs.Code.Reached.{tagsLeft}
 returns [tagsLeft] := simp (eq-eqb _ _ (@if1 .taken), @set-tag .ensures)
 returns-2 [tagsLeft] := simp (ne-eqb _ _ (@if1 .left))
 E
-reached() { echo "(reach row _ _ _ _ span _ _ (@word-place .ensures) (@$1 .given .1))"; }
+reached() { echo "(reach row _ _ _ _ span _ _ (@data-reach .ensures) (@$1 .given .1))"; }
 GOES="(@continues .ensures .0) (goes-on _ _ _ _ _ _ (@continues .ensures .1) (@next .ensures))"
-# the data word as it is seen, and what a load or a store leaves: seen KIND WORD TEST; left KIND OPERANDS WRITE
-seen() { echo "$1-seen row _ _ _ _ _ _ _ _ _ _ _ $(reached p) _ (@tag-at .ensures) _ _ _ $2 (@$1-waits .ensures) (@if3 .$3)"; }
+# the part as it is seen, and what a load or a store leaves: seen KIND WORD TEST; left KIND OPERANDS WRITE
+seen() { echo "$1-seen row _ _ _ _ _ _ _ _ _ _ _ _ $(reached p) _ _ $2 (@$1-waits .ensures) (@if3 .$3)"; }
 left() {
     case $1 in
-    load) echo "(executes-result $U7 $2 $U4 _ dd $U4 $U4 $GOES (@$3 .ensures .0) (@$3 .ensures .1) (load-left row _ _ _ $(reached p) $U4 (@word-at .ensures) (@load-leaves .ensures)))" ;;
-    store) echo "(executes-sources $U7 $2 $U4 _ _ $U4 $GOES (@$3 .ensures) (store-left row _ _ _ $(reached p) $U5 (@store-leaves .ensures .0) (@store-leaves .ensures .1)))" ;;
+    load) echo "(executes-result $U7 $2 $U4 _ dd $U4 $U4 $GOES (@$3 .ensures .0) (@$3 .ensures .1) (load-left row _ _ _ _ $(reached p) _ _ _ (@load-leaves .ensures)))" ;;
+    store) echo "(executes-sources $U7 $2 $U4 _ _ $U4 $GOES (@$3 .ensures) (store-left row _ _ _ _ $(reached p) $U5 (@store-leaves .ensures .0) (@store-leaves .ensures .1)))" ;;
     esac
 }
 # found FUNCTION BINDERS OPERANDS WAITS MASKED KIND LAW ADDRESS WRITE
 found() {
     local passed="found-performs $U7 $3 $U4 $U4 $4 (@if1 .left) _ refl _ $5 (@if2 .left) _"
-    local from=loadFrom waiting=refl word="(@word-at .ensures)"
-    [ "$6" = load ] || { from=storeTo waiting="" word=""; }
+    local from=loadFrom word="_ (@loaded .ensures)"
+    [ "$6" = load ] || { from=storeTo word="_ _ (@stored .ensures)"; }
     performed() { echo "$7 row _ _ _ _ _ _ _ _ _ _ _ ${11:-_} $(reached "${10}") (@$8 .ensures)"; }
     fill $C "$1" <<E
 $HEAD
 $LAWS.{reach, $7, $6-seen, $6-left, goes-on}
 returns := $2 found-waits $U7 $3 $U4 $U4 $4 (@if1 .taken)
 returns-2 [environmentOf] := $2 found-masked $U7 $3 $U4 $U4 $4 (@if1 .left) _ refl _ $5 (@if2 .taken) own
-returns-3 [environmentOf] := $2 $passed ($(seen "$6" "$waiting" taken) ∙ $(performed "$@" p)) _ _ _ _ (performs-waits row _ _ _ _ _ Data)
+returns-3 [environmentOf] := $2 $passed ($(seen "$6" "$word" taken) ∙ $(performed "$@" p)) _ _ _ _ (performs-waits row _ _ _ _ _ Data)
 returns-4 [environmentOf reachOf $from trapCourse] := $2 $passed ($(performed "$@" enum-told Violation)) _ _ _ _ (performs-traps row _ _ _ _ _ ProtectionViolation _ _ refl own)
-returns-5 [environmentOf reachOf $from trapCourse] := $2 $passed ($(performed "$@" enum-told2 Simulated)) _ _ _ _ (performs-traps row _ _ _ _ _ SimulatedInstruction _ _ refl own)
+returns-5 [environmentOf reachOf $from trapCourse] := $2 $passed ($(performed "$@" enum-told2 Illegal)) _ _ _ _ (performs-traps row _ _ _ _ _ IllegalInstruction _ _ refl own)
 returns-6 [environmentOf fateCourse] := $2 $passed ($(seen "$6" "$word" left) ∙ $(performed "$@" p)) _ _ _ _ $(left "$6" "$3" "$9")
 E
 }

@@ -7,7 +7,7 @@
 -- 4 a constant as destination, outside a window  decideLookups                             trap 14
 -- 5 an access test unmet                         operandsWait                              waved
 -- 6 UTM bit q set, q the quality of a source     operandsMasked                            trap 1E
--- 7 the data address; the data state             Perform.wordPlace; loadWaits, storeWaits  trap 14, 1C; waved
+-- 7 the data address; the data state             Perform.dataReach; loadWaits, storeWaits  trap 14, 12; waved
 -- 8 a true CREATE with the flag up               Perform.createWaits                       waved
 use Prim.Native.Nat.{ℕ}
 use mathlib.Core.Bool.{Bool, cond, _||_}

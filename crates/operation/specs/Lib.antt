@@ -1,9 +1,12 @@
 pub mod Codes
 pub mod Roles
+pub mod Specified
 pub mod Environment
 pub mod Perform
 pub mod Decide
 pub mod Exclusions
 pub mod Instances
+pub mod PartInstances
+pub mod Filling
 pub mod Code
 pub mod Laws

@@ -1,14 +1,16 @@
 -- What an instruction decides once its operands are found, full or empty as they must be, and unmasked: checks 7 and 8, and the results.
 use Prim.Native.Nat.{ℕ, _+_, _*_, _/_, _%_, _^_}
-use mathlib.Core.Bool.{Bool, cond, not, _&&_, _||_}
+use mathlib.Core.Bool.{Bool, cond, not, _&&_}
 use lib.Dec.{eqb}
 use Rattle.word.specs.Fields.{ciOf, riOf, utmOf, pcOf, pswOf, nextOf}
 use Rattle.word.specs.Vectors.{vectorOf}
 use Rattle.word.specs.Bits.{bitOf}
 use Rattle.word.specs.Integers.{integerOf}
 use Rattle.word.specs.Tests.{holdsOf}
+use Rattle.word.specs.Parts.{extracted, placed}
 use Rattle.word.specs.declared.Instruction.{Instruction}
 use Rattle.word.specs.declared.Outcome.{Outcome}
+use Rattle.word.specs.declared.Part.{Part}
 use Rattle.window.specs.declared.Cell.{Cell}
 use Rattle.window.specs.declared.Place.{Place}
 use Rattle.window.specs.declared.Place.the-variants.{At, Violation}
@@ -22,6 +24,8 @@ use Rattle.operation.specs.declared.Operation.the-variants as operation
 use Rattle.operation.specs.declared.FoundOperand.{FoundOperand}
 use Rattle.operation.specs.declared.FoundOperands.{FoundOperands}
 use Rattle.operation.specs.declared.Trap.the-variants as trap
+use Rattle.operation.specs.declared.Specified.{Specified}
+use Rattle.operation.specs.declared.Specified.the-variants as specified
 use Rattle.operation.specs.declared.Reach.{Reach}
 use Rattle.operation.specs.declared.Reach.the-variants.{Reaches, Stops}
 use Rattle.operation.specs.declared.Wait.the-variants.{Data, Create}
@@ -29,7 +33,8 @@ use Rattle.operation.specs.declared.Fate.{Fate}
 use Rattle.operation.specs.declared.Fate.the-variants.{Continues, Quits, Creates}
 use Rattle.operation.specs.declared.Decision.{Decision}
 use Rattle.operation.specs.declared.Decision.the-variants.{Waits, Traps, Executes}
-use Rattle.operation.specs.Roles.{bOf, sacOf, dacOf}
+use Rattle.operation.specs.Roles.{sacOf, dacOf}
+use Rattle.operation.specs.Specified.{specifiedPart}
 use Rattle.operation.specs.Environment.{Environment}
 
 -- the operands by their names: D or S0 stands in the first field, S1 in the second, S2 in the third
@@ -130,41 +135,45 @@ loadWaits low state = not (eqb (sacOf low) 0) && eqb state emptyData
 unfoldable pub loadLeaves : (low a word : ℕ) → Write
 loadLeaves low a word = cond (eqb (sacOf low) 2) (Put a (cell emptyData word)) Nothing
 
--- the load of the data word k at the real word address a
-unfoldable pub loadWord : (psw : ℕ) → FoundOperands → (low a : ℕ) → (k : Cell) → Decision
-loadWord psw s low a k =
+-- the load of a part of the data word k at the real word address a
+unfoldable pub loadPart : (psw : ℕ) → FoundOperands → (low a : ℕ) → Part → (k : Cell) → Decision
+loadPart psw s low a part k =
     cond (loadWaits low (k .tag)) (Waits Data)
-    (executed s (resultIn (fieldD s) (quality0 (k .word))) (loadLeaves low a (k .word)) (Continues (nextOf psw)))
+    (executed s (resultIn (fieldD s) (quality0 (extracted part (k .word)))) (loadLeaves low a (k .word)) (Continues (nextOf psw)))
 
 -- the data state of a store is unmet: DAC 2 waits until empty
 unfoldable pub storeWaits : (low state : ℕ) → Bool
 storeWaits low state = eqb (dacOf low) 2 && not (eqb state emptyData)
 
--- the store of a word over the data word k; a store leaves full
-unfoldable pub storeWord : (psw : ℕ) → FoundOperands → (low word a : ℕ) → (k : Cell) → Decision
-storeWord psw s low word a k =
+-- the store of a word's low bits into a part of the data word k; a store leaves full
+unfoldable pub storePart : (psw : ℕ) → FoundOperands → (low word a : ℕ) → Part → (k : Cell) → Decision
+storePart psw s low word a part k =
     cond (storeWaits low (k .tag)) (Waits Data)
-    (executed s Nothing (Put a (cell fullData word)) (Continues (nextOf psw)))
+    (executed s Nothing (Put a (cell fullData (placed part word (k .word)))) (Continues (nextOf psw)))
 
--- check 7 of the byte address e, by its place: a protection violation is 14; then B = 1, or low three address bits not zero, gives 1C;
--- else the word at its real address
-unfoldable pub wordPlace : (low e : ℕ) → Place → Reach
-wordPlace low e (At a) = cond (eqb (bOf low) 1 || not (eqb (e % 8) 0)) (Stops trap.SimulatedInstruction) (Reaches (a / 8))
-wordPlace low e Violation = Stops trap.ProtectionViolation
+-- the part of the data word at the real word address a; where none is specified, 12
+unfoldable pub partReach : (a : ℕ) → Specified → Reach
+partReach a (specified.Part part) = Reaches a part
+partReach a specified.Illegal = Stops trap.IllegalInstruction
+
+-- check 7 of the byte address e, by its place: a protection violation is 14; then the part that its low three bits specify
+unfoldable pub dataReach : (low e : ℕ) → Place → Reach
+dataReach low e (At a) = partReach (a / 8) (specifiedPart low e)
+dataReach low e Violation = Stops trap.ProtectionViolation
 
 unfoldable pub loadFrom : Environment → FoundOperands → (low : ℕ) → Reach → Decision
-loadFrom v s low (Reaches a) = loadWord (v .psw) s low a (v .datum a)
+loadFrom v s low (Reaches a part) = loadPart (v .psw) s low a part (v .datum a)
 loadFrom v s low (Stops k) = Traps k (v .psw)
 
 unfoldable pub performLoad : Environment → FoundOperands → (low e : ℕ) → Decision
-performLoad v s low e = loadFrom v s low (wordPlace low e (bytePlace (v .row) e))
+performLoad v s low e = loadFrom v s low (dataReach low e (bytePlace (v .row) e))
 
 unfoldable pub storeTo : Environment → FoundOperands → (low word : ℕ) → Reach → Decision
-storeTo v s low word (Reaches a) = storeWord (v .psw) s low word a (v .datum a)
+storeTo v s low word (Reaches a part) = storePart (v .psw) s low word a part (v .datum a)
 storeTo v s low word (Stops k) = Traps k (v .psw)
 
 unfoldable pub performStore : Environment → FoundOperands → (low word e : ℕ) → Decision
-performStore v s low word e = storeTo v s low word (wordPlace low e (bytePlace (v .row) e))
+performStore v s low word e = storeTo v s low word (dataReach low e (bytePlace (v .row) e))
 
 -- what each operation does with D, S0, S1 and S2
 unfoldable pub perform : Operation → Environment → Instruction → FoundOperands → Decision

@@ -7,6 +7,7 @@ use window::Cell;
 use window::Write;
 use word::Bit;
 use word::Integer;
+use word::Part;
 use word::Vector;
 
 // An operation, with the test, the action list or the access bits that its code holds; of B also the left digit of its address.
@@ -73,9 +74,15 @@ pub enum Wait {
     Create,
 }
 
-// A data word that may be reached, by real address, or why the step traps.
+// The part of a data word that B and the low three address bits specify, if they specify one.
+pub enum Specified {
+    Part(Part),
+    Illegal,
+}
+
+// The part of a data word that may be reached, by the word's real address, or why the step traps.
 pub enum Reach {
-    Reaches(usize),
+    Reaches(usize, Part),
     Stops(Trap),
 }
 

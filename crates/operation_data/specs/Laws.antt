@@ -1,2 +1,3 @@
 -- The laws of the definitions: nothing here need be believed.
 pub mod Reached
+pub mod Specified

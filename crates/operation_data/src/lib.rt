@@ -6,6 +6,7 @@ ghost use mathlib.Core.Bool.{_||_};
 ghost use mathlib.Core.List.{List};
 ghost use lib.ListN.{getD, set};
 ghost use Rattle.word.specs.declared.Instruction.{Instruction};
+ghost use Rattle.word.specs.Parts.{partAt, extracted, placed};
 ghost use Rattle.window.specs.declared.Row.{Row};
 ghost use Rattle.window.specs.Windows.{dataWindow};
 ghost use Rattle.window.specs.Memories.{memory};
@@ -16,26 +17,30 @@ ghost use Rattle.operand.specs.declared.Operand.the-variants.{Absent};
 ghost use Rattle.operand.specs.Field.{illegalField};
 ghost use Rattle.operand.specs.Code.Spans.{Spans};
 ghost use Rattle.operation.specs.declared.Operation.the-variants.{LoadIndirect, LoadIndexed, StoreIndirect, StoreIndexed};
+ghost use Rattle.operation.specs.declared.Specified.the-variants as specified;
 ghost use Rattle.operation.specs.Roles.{roles, illegalLoad, illegalStore};
-ghost use Rattle.operation.specs.Perform.{wordPlace, loadWaits, storeWaits};
+ghost use Rattle.operation.specs.Specified.{specifiedPart};
+ghost use Rattle.operation.specs.Perform.{dataReach, loadWaits, storeWaits};
 ghost use Rattle.operation.specs.Environment.{environmentOf};
 ghost use Rattle.operation.specs.Decide.{decideFound, decideListed};
 ghost use Rattle.operation.specs.Code.FoundOperands.{instruction, allFoundAt};
 ghost use Rattle.step.specs.Code.Performs.{Performs};
 ghost use Rattle.operation_checks.specs.Code.Operands.{Destined, Sourced};
-ghost use Rattle.operation_data.specs.Code.Reached.{reachOf, tagsLeft};
+ghost use Rattle.operation_data.specs.Code.Reached.{wholeWord, reachOf, tagsLeft};
 use operand::Lookup;
 use operand::Role;
 use operation::Course;
+use operation::Specified;
 use window::EMPTY_DATA;
 use window::FULL_DATA;
 use window::Place;
+use word::Part;
 
-// What check 7 answers: the data word by real address, or why the step traps.
+// What check 7 answers: the part of a data word, by the word's real address, or why the step traps.
 enum Reached {
-    Word(usize),
+    Part(usize, Part),
     Violation,
-    Simulated,
+    Illegal,
 }
 
 // The low 32 bits of S1.
@@ -52,26 +57,82 @@ fn indexed_address(s1: u64, s2: u64) -> u32
     ((s1 % 0x1_0000_0000 + s2 % 0x1_0000_0000) % 0x1_0000_0000) as u32
 }
 
-// Check 7: 14, then 1C.
-fn word_place(low: u16, data_base: u32, data_end: u32, e: u32) -> Reached
-    ensures { λ r. ⌜ reachOf r ≡ wordPlace low e (byteBelow data_base data_end e) ⌝ }
+fn part(width: u8, place: u8) -> Specified
+    ensures { λ r. ⌜ r ≡ specified.Part (partAt width place) ⌝ }
+{
+    Specified::Part(Part { width, place })
+}
+
+// B = 0, and the low three address bits are 0.
+fn whole(low: u16, e: u32) -> bool
+    ensures { λ r. ⌜ r ≡ wholeWord low e ⌝ }
+{
+    if low / 16 % 2 == 1 {
+        return false;
+    }
+    e % 8 == 0
+}
+
+// The part that B and the low three address bits specify: the whole word first, then a byte, a quarter, a half.
+fn specified_part(low: u16, e: u32) -> Specified
+    ensures { λ r. ⌜ r ≡ specifiedPart low e ⌝ }
+{
+    if whole(low, e) {
+        return part(64, 0);
+    }
+    let bits = (e % 8) as u8;
+    if low / 16 % 2 == 1 {
+        return part(8, bits);
+    }
+    if bits % 2 == 1 {
+        return part(16, bits / 2);
+    }
+    if bits == 4 {
+        return Specified::Illegal;
+    }
+    part(32, bits / 4)
+}
+
+// Check 7: 14, then 12.
+fn data_reach(low: u16, data_base: u32, data_end: u32, e: u32) -> Reached
+    ensures { λ r. ⌜ reachOf r ≡ dataReach low e (byteBelow data_base data_end e) ⌝ }
 {
     let Place::At(a) = window::byte_below(data_base, data_end, e) else {
         return Reached::Violation;
     };
-    if (low / 16) % 2 == 1 {
-        return Reached::Simulated;
-    }
-    if e % 8 != 0 {
-        return Reached::Simulated;
-    }
-    Reached::Word(a / 8)
+    let Specified::Part(part) = specified_part(low, e) else {
+        return Reached::Illegal;
+    };
+    Reached::Part(a / 8, part)
 }
 
-// SAC 3, or DAC, which a load does not use.
+// The part of the data word p that a load takes; the whole word first.
+fn loaded(part: Part, p: usize, data_words: &[u64]) -> u64
+    ensures { λ r. ⌜ r ≡ extracted part (getD (now (data_words .entry)) p 0) ⌝ }
+{
+    if part.width >= 64 {
+        return window::word_at(data_words, p);
+    }
+    word::extracted(part, window::word_at(data_words, p))
+}
+
+// The data word p that a store leaves, with the low bits of a word in its part; the whole word first.
+fn stored(part: Part, word: u64, p: usize, data_words: &[u64]) -> u64
+    ensures { λ r. ⌜ r ≡ placed part word (getD (now (data_words .entry)) p 0) ⌝ }
+{
+    if part.width >= 64 {
+        return word;
+    }
+    word::placed(part, word, window::word_at(data_words, p))
+}
+
+// SAC 3, or DAC, which a load does not use; neither first.
 fn illegal_load(low: u16) -> bool
     ensures { λ r. ⌜ r ≡ illegalLoad low ⌝ }
 {
+    if low % 16 == 0 {
+        return false;
+    }
     if low / 4 % 4 == 3 {
         return true;
     }
@@ -79,13 +140,13 @@ fn illegal_load(low: u16) -> bool
 }
 
 // SAC 1 and 2 wait until full.
-fn load_waits(low: u16, tag: u8) -> bool
-    ensures { λ r. ⌜ r ≡ loadWaits low tag ⌝ }
+fn load_waits(low: u16, p: usize, data_tags: &[u8]) -> bool
+    ensures { λ r. ⌜ r ≡ loadWaits low (getD (now (data_tags .entry)) p 0) ⌝ }
 {
     if low / 4 % 4 == 0 {
         return false;
     }
-    tag == EMPTY_DATA
+    window::tag_at(data_tags, p) == EMPTY_DATA
 }
 
 // SAC 2 sets the data word empty.
@@ -135,14 +196,14 @@ fn load_indirect_found(
     if operand::masked(psw, second, a, x, constant_tags) {
         return Course::DataException;
     }
-    match word_place(low, data_base, data_end, indirect_address(s1)) {
+    match data_reach(low, data_base, data_end, indirect_address(s1)) {
         Reached::Violation => Course::ProtectionViolation,
-        Reached::Simulated => Course::SimulatedInstruction,
-        Reached::Word(p) => {
-            if load_waits(low, window::tag_at(data_tags, p)) {
+        Reached::Illegal => Course::IllegalInstruction,
+        Reached::Part(p, part) => {
+            let word = loaded(part, p, data_words);
+            if load_waits(low, p, data_tags) {
                 return Course::Waits; // an unmet data state waits
             }
-            let word = window::word_at(data_words, p);
             operation_checks::write_d_s1(
                 first,
                 d,
@@ -160,7 +221,7 @@ fn load_indirect_found(
     }
 }
 
-// LODI: D gets the data word at the address S1.
+// LODI: D gets the part of a data word at the address S1.
 pub fn load_indirect(
     low: u16,
     cb: u32,
@@ -256,14 +317,14 @@ fn load_indexed_found(
     if operation_checks::masked_s1_s2(psw, second, a, x, third, b, y, constant_tags) {
         return Course::DataException;
     }
-    match word_place(low, data_base, data_end, indexed_address(s1, s2)) {
+    match data_reach(low, data_base, data_end, indexed_address(s1, s2)) {
         Reached::Violation => Course::ProtectionViolation,
-        Reached::Simulated => Course::SimulatedInstruction,
-        Reached::Word(p) => {
-            if load_waits(low, window::tag_at(data_tags, p)) {
+        Reached::Illegal => Course::IllegalInstruction,
+        Reached::Part(p, part) => {
+            let word = loaded(part, p, data_words);
+            if load_waits(low, p, data_tags) {
                 return Course::Waits;
             }
-            let word = window::word_at(data_words, p);
             operation_checks::write_d_s1_s2(
                 first,
                 d,
@@ -284,7 +345,7 @@ fn load_indexed_found(
     }
 }
 
-// LODX: D gets the data word at the address S1 plus S2.
+// LODX: D gets the part of a data word at the address S1 plus S2.
 pub fn load_indexed(
     low: u16,
     cb: u32,
@@ -360,11 +421,11 @@ fn illegal_store(low: u16) -> bool
 }
 
 // DAC 2 waits until empty.
-fn store_waits(low: u16, tag: u8) -> bool
-    ensures { λ r. ⌜ r ≡ storeWaits low tag ⌝ }
+fn store_waits(low: u16, p: usize, data_tags: &[u8]) -> bool
+    ensures { λ r. ⌜ r ≡ storeWaits low (getD (now (data_tags .entry)) p 0) ⌝ }
 {
     if low % 4 == 2 {
-        return tag != EMPTY_DATA;
+        return window::tag_at(data_tags, p) != EMPTY_DATA;
     }
     false
 }
@@ -417,21 +478,22 @@ fn store_indirect_found(
     if operation_checks::masked_s1_s2(psw, second, a, x, third, b, y, constant_tags) {
         return Course::DataException;
     }
-    match word_place(low, data_base, data_end, indirect_address(s1)) {
+    match data_reach(low, data_base, data_end, indirect_address(s1)) {
         Reached::Violation => Course::ProtectionViolation,
-        Reached::Simulated => Course::SimulatedInstruction,
-        Reached::Word(p) => {
-            if store_waits(low, window::tag_at(data_tags, p)) {
+        Reached::Illegal => Course::IllegalInstruction,
+        Reached::Part(p, part) => {
+            let word = stored(part, s2, p, data_words);
+            if store_waits(low, p, data_tags) {
                 return Course::Waits;
             }
             operation_checks::release_s1_s2(second, a, x, third, b, y, register_tags);
-            store_leaves(p, s2, data_tags, data_words);
+            store_leaves(p, word, data_tags, data_words);
             operation_checks::continues(psws, pt, word::next(psw))
         }
     }
 }
 
-// STOI: S2 goes to the data word at the address S1.
+// STOI: the low bits of S2 go into the part of a data word at the address S1.
 pub fn store_indirect(
     low: u16,
     cb: u32,
@@ -547,11 +609,12 @@ fn store_indexed_found(
     ) {
         return Course::DataException;
     }
-    match word_place(low, data_base, data_end, indexed_address(s1, s2)) {
+    match data_reach(low, data_base, data_end, indexed_address(s1, s2)) {
         Reached::Violation => Course::ProtectionViolation,
-        Reached::Simulated => Course::SimulatedInstruction,
-        Reached::Word(p) => {
-            if store_waits(low, window::tag_at(data_tags, p)) {
+        Reached::Illegal => Course::IllegalInstruction,
+        Reached::Part(p, part) => {
+            let word = stored(part, s0, p, data_words);
+            if store_waits(low, p, data_tags) {
                 return Course::Waits;
             }
             operation_checks::release_s0_s1_s2(
@@ -566,13 +629,13 @@ fn store_indexed_found(
                 y,
                 register_tags,
             );
-            store_leaves(p, s0, data_tags, data_words);
+            store_leaves(p, word, data_tags, data_words);
             operation_checks::continues(psws, pt, word::next(psw))
         }
     }
 }
 
-// STOX: S0 goes to the data word at the address S1 plus S2.
+// STOX: the low bits of S0 go into the part of a data word at the address S1 plus S2.
 pub fn store_indexed(
     low: u16,
     cb: u32,

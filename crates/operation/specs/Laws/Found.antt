@@ -1,11 +1,12 @@
 -- What an operation decides by what its lookups answer. An operand that is found lies in the window, so what is seen there is what stands there.
 use mathlib.Core.Path.{_≡_, refl, sym, ap, _∙_, subst}
 use lib.ListN.{getD}
-use mathlib.Core.Bool.{Bool, true, false, cond, not, _||_, true≢false}
-use lib.Dec.{eqb, leb}
+use mathlib.Core.Bool.{Bool, true, false, cond, true≢false}
+use lib.Dec.{leb}
 use mathlib.Core.List.{List}
-use Prim.Native.Nat.{ℕ, _/_, _%_, _^_}
+use Prim.Native.Nat.{ℕ, _/_, _^_}
 use Rattle.word.specs.declared.Instruction.{Instruction}
+use Rattle.word.specs.declared.Part.{Part}
 use Rattle.window.specs.declared.Row.{Row}
 use Rattle.window.specs.declared.Place.{Place}
 use Rattle.window.specs.declared.Place.the-variants.{At, Violation}
@@ -23,13 +24,16 @@ use Rattle.operation.specs.declared.Roles.{Roles}
 use Rattle.operation.specs.declared.Operation.{Operation}
 use Rattle.operation.specs.declared.Trap.the-variants as trap
 use Rattle.operation.specs.declared.Decision.the-variants.{Traps}
-use Rattle.operation.specs.declared.Reach.the-variants.{Reaches, Stops}
+use Rattle.operation.specs.declared.Specified.{Specified}
+use Rattle.operation.specs.declared.Specified.the-variants as specified
+use Rattle.operation.specs.declared.Reach.the-variants.{Reaches}
 use Rattle.word.specs.Fields.{pcOf, instructionOf}
 use Rattle.operation.specs.declared.Code.{Code}
 use Rattle.operation.specs.declared.Code.the-variants.{Listed}
 use Rattle.operation.specs.Codes.{codeOf}
-use Rattle.operation.specs.Roles.{rolesOf, illegalInstruction, bOf}
-use Rattle.operation.specs.Perform.{wordPlace}
+use Rattle.operation.specs.Roles.{rolesOf, illegalInstruction}
+use Rattle.operation.specs.Specified.{specifiedPart}
+use Rattle.operation.specs.Perform.{partReach, dataReach}
 use Rattle.operation.specs.Environment.{Environment, environmentOf}
 use Rattle.operation.specs.Decide.{foundOperand, decideFound, foundOperands, decideLookups, decideOperands, decideListed, decideCode, decideFetched, decide}
 use Rattle.operation.specs.Code.FoundOperands.{foundAt, allFoundAt}
@@ -78,30 +82,31 @@ module _ (r : Roles) (op : Operation) (row : Row) (psw flag : ℕ) (program : Li
         rw (legal, d, e, f, operand-found (r .first) (i .first) a d, operand-found (r .second) (i .second) b e, operand-found (r .third) (i .third) c f)
 
 -- a data word that is reached lies in the data window
-pub reached-inside : (row : Row) (low e a : ℕ) → wordPlace low e (bytePlace row e) ≡ Reaches a → inside (dataWordWindow row) a ≡ true
-unfolding wordPlace bytePlace dataWindow dataWordWindow
-reached-inside row low e a = go (leb (2 ^ 31) e)
+pub reached-inside : (row : Row) (low e a : ℕ) (part : Part) → dataReach low e (bytePlace row e) ≡ Reaches a part → inside (dataWordWindow row) a ≡ true
+unfolding dataReach partReach bytePlace dataWindow dataWordWindow
+reached-inside row low e a part = go (leb (2 ^ 31) e)
   where
-    at : (b : ℕ) (t : Bool) → inside (windowOf 8 (row .db) (row .dl)) b ≡ true → cond t (Stops trap.SimulatedInstruction) (Reaches (b / 8)) ≡ Reaches a
+    at : (b : ℕ) (s : Specified) → inside (windowOf 8 (row .db) (row .dl)) b ≡ true → partReach (b / 8) s ≡ Reaches a part
         → inside (windowOf 5 (row .db) (row .dl)) a ≡ true
-    at b true i q = let z : true ≡ false = cc in absurd (true≢false z)
-    at b false i q =
+    at b specified.Illegal i q = let z : true ≡ false = cc in absurd (true≢false z)
+    at b (specified.Part other) i q =
         let z : b / 8 ≡ a = cc in
         subst (λ (n : ℕ). inside (windowOf 5 (row .db) (row .dl)) n ≡ true) z
         (of-in _ _ (word-inside 3 5 (row .db) (row .dl) b (in-of _ _ i)))
 
-    placed-at : (p : Place) → placeIn (windowOf 8 (row .db) (row .dl)) e ≡ p → wordPlace low e p ≡ Reaches a → inside (windowOf 5 (row .db) (row .dl)) a ≡ true
-    placed-at (At b) i q = at b (eqb (bOf low) 1 || not (eqb (e % 8) 0)) (placed _ e b i) q
+    placed-at : (p : Place) → placeIn (windowOf 8 (row .db) (row .dl)) e ≡ p → dataReach low e p ≡ Reaches a part → inside (windowOf 5 (row .db) (row .dl)) a ≡ true
+    placed-at (At b) i q = at b (specifiedPart low e) (placed _ e b i) q
     placed-at Violation i q = let z : true ≡ false = cc in absurd (true≢false z)
 
-    go : (t : Bool) → wordPlace low e (cond t Violation (placeIn (windowOf 8 (row .db) (row .dl)) e)) ≡ Reaches a
+    go : (t : Bool) → dataReach low e (cond t Violation (placeIn (windowOf 8 (row .db) (row .dl)) e)) ≡ Reaches a part
         → inside (windowOf 5 (row .db) (row .dl)) a ≡ true
     go true q = let z : true ≡ false = cc in absurd (true≢false z)
     go false q = placed-at _ refl q
 
 -- so what is seen there is what stands there
-pub reached-seen : (row : Row) (low e a : ℕ) → wordPlace low e (bytePlace row e) ≡ Reaches a → (m : Memory) → cellIn (dataWordWindow row) m a ≡ cellAt m a
-reached-seen row low e a q m = cell-inside (dataWordWindow row) m a (reached-inside row low e a q)
+pub reached-seen : (row : Row) (low e a : ℕ) (part : Part) → dataReach low e (bytePlace row e) ≡ Reaches a part → (m : Memory)
+    → cellIn (dataWordWindow row) m a ≡ cellAt m a
+reached-seen row low e a part q m = cell-inside (dataWordWindow row) m a (reached-inside row low e a part q)
 
 -- an operation under its own roles
 pub under : (r : Roles) (op : Operation) (v : Environment) (i : Instruction) → rolesOf op ≡ r → decideListed r op v i ≡ decideCode (Listed op) v i

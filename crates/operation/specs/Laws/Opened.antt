@@ -4,6 +4,7 @@ use Rattle.word.specs.Vectors.{digitOf, digitsBy, vectorOf}
 use Rattle.word.specs.Bits.{bitsetOf, bitclrOf, encode1Of, encode0Of, bitOf, parityOf}
 use Rattle.word.specs.Integers.{within, addFits, subFits, qualityOf, addOf, subOf, magnitudeOf, sameSign, mostOf, mulFits, mulOf, integerOf}
 use Rattle.word.specs.Tests.{tests, holdsOf}
+use Rattle.word.specs.Parts.{extracted, placed}
 use Rattle.window.specs.Windows.{windowOf, inside, placeIn, registerWindow, programWindow, dataWindow, dataWordWindow, bytePlace, constantPlace, meets}
 use Rattle.window.specs.Memories.{cellAt, constantAt, seen, cellIn, stored, storedOne, storedAll, written}
 use Rattle.window.specs.Sound.{bits, wordSound, qualitySound, tagSound, stateSound}
@@ -12,13 +13,14 @@ use Rattle.operand.specs.Access.{visibleCell, accessCodes, codeLine, sourceWait
 use Rattle.operand.specs.Code.Cells.{operandCell}
 use Rattle.operation.specs.Codes.{find, privileged, simulated, singleCodes, callOf, quitOf, dataCodeOf, families, familyOf, singleOf, codeOf}
 use Rattle.operation.specs.Roles.{vectorRoles, bitRoles, integerRoles, rolesOf, svcRoles, illegalLoad, illegalStore, illegalAccess, illegalFields, illegalInstruction}
+use Rattle.operation.specs.Specified.{wordParts, specifiedPart}
 use Rattle.operation.specs.Environment.{environmentOf, kindOf}
-use Rattle.operation.specs.Perform.{leftOf, executed, resultIn, performResult, testOf, branched, performBranch, called, performCall, created, createWaits, createFate, performCreate, performQuit, indirectAddress, indexedAddress, loadWaits, loadLeaves, loadWord, storeWaits, storeWord, wordPlace, loadFrom, performLoad, storeTo, performStore, perform}
+use Rattle.operation.specs.Perform.{leftOf, executed, resultIn, performResult, testOf, branched, performBranch, called, performCall, created, createWaits, createFate, performCreate, performQuit, indirectAddress, indexedAddress, loadWaits, loadLeaves, loadPart, storeWaits, storePart, partReach, dataReach, loadFrom, performLoad, storeTo, performStore, perform}
 use Rattle.operation.specs.Decide.{foundOperand, operandWaits, operandsWait, operandMasked, operandsMasked, decideFound, foundOperands, decideLookups, decideOperands, decideListed, decideCode, decideFetched, decide}
 use lib.Count.{leadingZeros, onesIn}
 use Prim.Native.Nat.{ℕ}
 
 -- naming this opens all definitions
 unfoldable pub opened : ℕ
-unfolding instructionOf ciOf riOf utmOf pcOf pswOf pswSound nextOf digitOf digitsBy vectorOf bitsetOf bitclrOf encode1Of encode0Of bitOf parityOf within addFits subFits qualityOf addOf subOf magnitudeOf sameSign mostOf mulFits mulOf integerOf tests holdsOf windowOf inside placeIn registerWindow programWindow dataWindow dataWordWindow bytePlace constantPlace meets cellAt constantAt seen cellIn stored storedOne storedAll written bits wordSound qualitySound tagSound stateSound indexedOf constantOf accessOf illegalOf effectiveOf illegalField registerLookup sourceLookup destinationLookup lookupOf operandCell visibleCell accessCodes codeLine sourceWaits destinationWaits waitsOf maskedOf emptying sourceLeft destinationTag destinationLeft find privileged simulated singleCodes callOf quitOf dataCodeOf families familyOf singleOf codeOf vectorRoles bitRoles integerRoles rolesOf svcRoles illegalLoad illegalStore illegalAccess illegalFields illegalInstruction environmentOf kindOf leftOf executed resultIn performResult testOf branched performBranch called performCall created createWaits createFate performCreate performQuit indirectAddress indexedAddress loadWaits loadLeaves loadWord storeWaits storeWord wordPlace loadFrom performLoad storeTo performStore perform foundOperand operandWaits operandsWait operandMasked operandsMasked decideFound foundOperands decideLookups decideOperands decideListed decideCode decideFetched decide leadingZeros onesIn
+unfolding instructionOf ciOf riOf utmOf pcOf pswOf pswSound nextOf digitOf digitsBy vectorOf bitsetOf bitclrOf encode1Of encode0Of bitOf parityOf within addFits subFits qualityOf addOf subOf magnitudeOf sameSign mostOf mulFits mulOf integerOf tests holdsOf extracted placed windowOf inside placeIn registerWindow programWindow dataWindow dataWordWindow bytePlace constantPlace meets cellAt constantAt seen cellIn stored storedOne storedAll written bits wordSound qualitySound tagSound stateSound indexedOf constantOf accessOf illegalOf effectiveOf illegalField registerLookup sourceLookup destinationLookup lookupOf operandCell visibleCell accessCodes codeLine sourceWaits destinationWaits waitsOf maskedOf emptying sourceLeft destinationTag destinationLeft find privileged simulated singleCodes callOf quitOf dataCodeOf families familyOf singleOf codeOf vectorRoles bitRoles integerRoles rolesOf svcRoles illegalLoad illegalStore illegalAccess illegalFields illegalInstruction wordParts specifiedPart environmentOf kindOf leftOf executed resultIn performResult testOf branched performBranch called performCall created createWaits createFate performCreate performQuit indirectAddress indexedAddress loadWaits loadLeaves loadPart storeWaits storePart partReach dataReach loadFrom performLoad storeTo performStore perform foundOperand operandWaits operandsWait operandMasked operandsMasked decideFound foundOperands decideLookups decideOperands decideListed decideCode decideFetched decide leadingZeros onesIn
 opened = 0

@@ -7,7 +7,10 @@ use lib.Dec.{eqb}
 use borrow.Author.Tests.{eqb-true}
 use Rattle.word.specs.declared.Instruction.{Instruction}
 use Rattle.word.specs.declared.Outcome.{Outcome}
+use Rattle.word.specs.declared.Part.{Part}
 use Rattle.word.specs.Fields.{pswSound, pcOf, nextOf, instructionOf}
+use Rattle.word.specs.Parts.{extracted, placed}
+use Rattle.word.specs.Laws.Parts.{extracted-word, placed-word}
 use Rattle.word.specs.Laws.Words.{psw-sound, next-sound, psw-word, vector-word, bit-word, integer-word, integer-quality}
 use Rattle.window.specs.declared.Cell.{Cell}
 use Rattle.window.specs.declared.Place.{Place}
@@ -29,6 +32,8 @@ use Rattle.operand.specs.Access.{codeLine, emptying, sourceLeft, destinationTag
 use Rattle.operation.specs.declared.Roles.{Roles}
 use Rattle.operation.specs.declared.Trap.{Trap}
 use Rattle.operation.specs.declared.Trap.the-variants as trap
+use Rattle.operation.specs.declared.Specified.{Specified}
+use Rattle.operation.specs.declared.Specified.the-variants as specified
 use Rattle.operation.specs.declared.Reach.{Reach}
 use Rattle.operation.specs.declared.Reach.the-variants.{Reaches, Stops}
 use Rattle.operation.specs.declared.Operation.{Operation}
@@ -44,10 +49,11 @@ use Rattle.operation.specs.declared.Effects.{Effects}
 use Rattle.operation.specs.declared.Decision.{Decision}
 use Rattle.operation.specs.declared.Decision.the-variants.{Waits, Traps, Executes}
 use Rattle.operation.specs.Codes.{codeOf}
-use Rattle.operation.specs.Roles.{rolesOf, svcRoles, illegalFields, illegalInstruction, bOf, sacOf}
+use Rattle.operation.specs.Roles.{rolesOf, svcRoles, illegalFields, illegalInstruction, sacOf}
+use Rattle.operation.specs.Specified.{specifiedPart}
 use Rattle.operation.specs.Environment.{Environment}
 use Rattle.operation.specs.Perform.{leftOf, executed, resultIn, quality0, performResult, testOf, branched, called, created, createWaits, createFate}
-use Rattle.operation.specs.Perform.{indirectAddress, indexedAddress, loadWaits, loadLeaves, loadWord, storeWaits, storeWord, wordPlace, loadFrom, storeTo}
+use Rattle.operation.specs.Perform.{indirectAddress, indexedAddress, loadWaits, loadLeaves, loadPart, storeWaits, storePart, partReach, dataReach, loadFrom, storeTo}
 use Rattle.operation.specs.Perform.{performBranch, performCall, performCreate, performQuit, performLoad, performStore, perform}
 use Rattle.operation.specs.Decide.{foundOperand, operandsWait, operandsMasked, decideFound, foundOperands, decideLookups}
 use Rattle.operation.specs.Decide.{decideOperands, decideListed, decideCode, decideFetched, decide}
@@ -185,32 +191,38 @@ module _ (v : Environment) (h : SoundEnvironment v) where
     unfolding performQuit
     quit-sound c = executed-sound _ _ _ tt tt (either (SoundFate (v .flag)) (testOf v s c) tt (next-sound (v .psw)))
 
-    load-sound : (low a : ℕ) → SoundDecision (v .flag) (loadWord (v .psw) s low a (v .datum a))
-    unfolding loadWord loadLeaves stateSound
-    load-sound low a =
+    load-sound : (low a : ℕ) (part : Part) → SoundDecision (v .flag) (loadPart (v .psw) s low a part (v .datum a))
+    unfolding loadPart loadLeaves stateSound
+    load-sound low a part =
         let w : wordSound (v .datum a .word) ≡ true = h .dataWords a in
         either (SoundDecision (v .flag)) (loadWaits low (v .datum a .tag)) tt
-        (executed-sound _ _ _ (result-sound (s .first) _ (quality0-sound _ w))
+        (executed-sound _ _ _ (result-sound (s .first) _ (quality0-sound _ (word-sound _ (extracted-word part _ (sound-word _ w)))))
         (either (SoundWrite stateSound) (eqb (sacOf low) 2) (refl, w) tt) (next-sound (v .psw)))
 
-    store-sound : (low word a : ℕ) → wordSound word ≡ true → SoundDecision (v .flag) (storeWord (v .psw) s low word a (v .datum a))
-    unfolding storeWord stateSound
-    store-sound low word a w =
-        either (SoundDecision (v .flag)) (storeWaits low (v .datum a .tag)) tt (executed-sound _ _ _ tt (refl, w) (next-sound (v .psw)))
+    store-sound : (low word a : ℕ) (part : Part) → wordSound word ≡ true → SoundDecision (v .flag) (storePart (v .psw) s low word a part (v .datum a))
+    unfolding storePart stateSound
+    store-sound low word a part w =
+        either (SoundDecision (v .flag)) (storeWaits low (v .datum a .tag)) tt
+        (executed-sound _ _ _ tt (refl, word-sound _ (placed-word part _ _ (sound-word _ w) (sound-word _ (h .dataWords a)))) (next-sound (v .psw)))
 
-    place-sound : (P : Reach → Type 0) (low e : ℕ) (p : Place) → ((a : ℕ) → P (Reaches a)) → ((k : Trap) → P (Stops k)) → P (wordPlace low e p)
-    unfolding wordPlace
-    place-sound P low e (At a) f g = either P (eqb (bOf low) 1 || not (eqb (e % 8) 0)) (g trap.SimulatedInstruction) (f (a / 8))
-    place-sound P low e Violation f g = g trap.ProtectionViolation
+    part-sound : (P : Reach → Type 0) (a : ℕ) (r : Specified) → ((b : ℕ) (part : Part) → P (Reaches b part)) → ((k : Trap) → P (Stops k)) → P (partReach a r)
+    unfolding partReach
+    part-sound P a (specified.Part part) f g = f a part
+    part-sound P a specified.Illegal f g = g trap.IllegalInstruction
+
+    reach-sound : (P : Reach → Type 0) (low e : ℕ) (p : Place) → ((a : ℕ) (part : Part) → P (Reaches a part)) → ((k : Trap) → P (Stops k)) → P (dataReach low e p)
+    unfolding dataReach
+    reach-sound P low e (At a) f g = part-sound P (a / 8) (specifiedPart low e) f g
+    reach-sound P low e Violation f g = g trap.ProtectionViolation
 
     perform-load : (low e : ℕ) → SoundDecision (v .flag) (performLoad v s low e)
     unfolding performLoad loadFrom
-    perform-load low e = place-sound (λ r. SoundDecision (v .flag) (loadFrom v s low r)) low e (bytePlace (v .row) e) (load-sound low) (λ k. h .psw)
+    perform-load low e = reach-sound (λ r. SoundDecision (v .flag) (loadFrom v s low r)) low e (bytePlace (v .row) e) (load-sound low) (λ k. h .psw)
 
     perform-store : (low word e : ℕ) → wordSound word ≡ true → SoundDecision (v .flag) (performStore v s low word e)
     unfolding performStore storeTo
     perform-store low word e w =
-        place-sound (λ r. SoundDecision (v .flag) (storeTo v s low word r)) low e (bytePlace (v .row) e) (λ a. store-sound low word a w) (λ k. h .psw)
+        reach-sound (λ r. SoundDecision (v .flag) (storeTo v s low word r)) low e (bytePlace (v .row) e) (λ a part. store-sound low word a part w) (λ k. h .psw)
 
     perform-sound : (op : Operation) (i : Instruction) → SoundDecision (v .flag) (perform op v i s)
     unfolding perform

@@ -1,16 +1,15 @@
--- Skeleton and paths (.before ..) are generated: docs/PROOFS.md.
-use Rattle.operation_checks.specs.Laws.Operands.{or-none, or-one, unused-operated, destination-operated, source-operated}
-use Rattle.operation_data.specs.Laws.Reached.{reach, loads-indirect, load-seen, load-left, goes-on}
 use mathlib.Core.Path.{refl, _∙_}
-use Rattle.operation.specs.declared.Trap.the-variants.{ProtectionViolation, SimulatedInstruction}
-use Rattle.operation_data.specs.declared.Reached.the-variants.{Violation, Simulated}
+use Rattle.operation.specs.declared.Trap.the-variants.{ProtectionViolation, IllegalInstruction}
 use Rattle.operation.specs.declared.Wait.the-variants.{Data}
 use Rattle.operation.specs.Environment.{environmentOf}
+use Rattle.operation.specs.Perform.{loadFrom}
 use Rattle.step.specs.Code.Performs.{trapCourse, fateCourse}
 use Rattle.step.specs.Laws.Performs.{performs-waits, performs-traps}
+use Rattle.operation_data.specs.declared.Reached.the-variants.{Violation, Illegal}
 use Rattle.operation_data.specs.Code.Reached.{reachOf}
-use Rattle.operation.specs.Perform.{loadFrom}
+use Rattle.operation_checks.specs.Laws.Operands.{or-none, or-one, unused-operated, destination-operated, source-operated}
 use Rattle.operation_checks.specs.Laws.Found.{found-waits, found-masked, found-performs, executes-result}
+use Rattle.operation_data.specs.Laws.Reached.{reach, loads-indirect, load-seen, load-left, goes-on}
 use borrow.Author.Needs.{needs}
 use Rattle.operation_data.proofs.load_indirect_found.Statement.{statement}
 use Rattle.operation_data.proofs.load_indirect_found.Tie as tie
@@ -37,8 +36,8 @@ returns-2 c = λ row i flag fresh program constantWords third od oa span own dd 
 indirect-address-requires : tie.Need-indirect-address-requires
 indirect-address-requires c κs = search needs
 
-word-place-requires : tie.Need-word-place-requires
-word-place-requires c κs = search needs
+data-reach-requires : tie.Need-data-reach-requires
+data-reach-requires c κs = search needs
 
 enum-told : tie.Need-enum-told
 enum-told c = search needs
@@ -49,8 +48,8 @@ enum-told-2 c = search needs
 enum-known-p : tie.Need-enum-known-p
 enum-known-p c = search needs
 
-tag-at-requires : tie.Need-tag-at-requires
-tag-at-requires c κs = search needs
+loaded-requires : tie.Need-loaded-requires
+loaded-requires c κs = search needs
 
 load-waits-requires : tie.Need-load-waits-requires
 load-waits-requires c κs = search needs
@@ -63,10 +62,7 @@ same-length-4 c = search needs
 
 returns-3 : tie.Need-returns-3
 unfolding environmentOf
-returns-3 c = λ row i flag fresh program constantWords third od oa span own dd pa. found-performs _ _ _ _ _ _ _ _ _ _ _ _ (destination-operated _ _ _ _ _ _ _ dd) _ _ _ _ _ (source-operated _ _ _ _ _ _ _ _ _ pa) _ _ _ _ _ (unused-operated _ _ _ _ _) _ _ _ _ _ _ _ _ (or-one _ _ _ _ _ (c .before .before .before .before .before .before .before .before .before .before .before .before .waits-d-s1 .ensures)) (c .before .before .before .before .before .before .before .before .before .before .before .if1 .left) _ refl _ (c .before .before .before .before .before .before .before .before .before .before .masked .ensures ∙ or-none _) (c .before .before .before .before .before .before .before .before .before .if2 .left) _ (load-seen row _ _ _ _ _ _ _ _ _ _ _ (reach row _ _ _ _ span _ _ (c .before .before .before .before .before .before .before .word-place .ensures) (c .before .before .before .before .before .p .given .1)) _ (c .before .before .tag-at .ensures) _ _ _ refl (c .before .load-waits .ensures) (c .if3 .taken) ∙ loads-indirect row _ _ _ _ _ _ _ _ _ _ _ _ (reach row _ _ _ _ span _ _ (c .before .before .before .before .before .before .before .word-place .ensures) (c .before .before .before .before .before .p .given .1)) (c .before .before .before .before .before .before .before .before .indirect-address .ensures)) _ _ _ _ (performs-waits row _ _ _ _ _ Data)
-
-word-at-requires : tie.Need-word-at-requires
-word-at-requires c κs = search needs
+returns-3 c = λ row i flag fresh program constantWords third od oa span own dd pa. found-performs _ _ _ _ _ _ _ _ _ _ _ _ (destination-operated _ _ _ _ _ _ _ dd) _ _ _ _ _ (source-operated _ _ _ _ _ _ _ _ _ pa) _ _ _ _ _ (unused-operated _ _ _ _ _) _ _ _ _ _ _ _ _ (or-one _ _ _ _ _ (c .before .before .before .before .before .before .before .before .before .before .before .before .waits-d-s1 .ensures)) (c .before .before .before .before .before .before .before .before .before .before .before .if1 .left) _ refl _ (c .before .before .before .before .before .before .before .before .before .before .masked .ensures ∙ or-none _) (c .before .before .before .before .before .before .before .before .before .if2 .left) _ (load-seen row _ _ _ _ _ _ _ _ _ _ _ _ (reach row _ _ _ _ span _ _ (c .before .before .before .before .before .before .before .data-reach .ensures) (c .before .before .before .before .before .p .given .1)) _ _ _ (c .before .before .before .loaded .ensures) (c .before .load-waits .ensures) (c .if3 .taken) ∙ loads-indirect row _ _ _ _ _ _ _ _ _ _ _ _ (reach row _ _ _ _ span _ _ (c .before .before .before .before .before .before .before .data-reach .ensures) (c .before .before .before .before .before .p .given .1)) (c .before .before .before .before .before .before .before .before .indirect-address .ensures)) _ _ _ _ (performs-waits row _ _ _ _ _ Data)
 
 write-d-s1-requires : tie.Need-write-d-s1-requires
 write-d-s1-requires c κs = search needs
@@ -85,14 +81,14 @@ same-length-5 c = search needs
 
 returns-4 : tie.Need-returns-4
 unfolding environmentOf reachOf loadFrom trapCourse
-returns-4 c = λ row i flag fresh program constantWords third od oa span own dd pa. found-performs _ _ _ _ _ _ _ _ _ _ _ _ (destination-operated _ _ _ _ _ _ _ dd) _ _ _ _ _ (source-operated _ _ _ _ _ _ _ _ _ pa) _ _ _ _ _ (unused-operated _ _ _ _ _) _ _ _ _ _ _ _ _ (or-one _ _ _ _ _ (c .before .before .before .before .before .before .before .waits-d-s1 .ensures)) (c .before .before .before .before .before .before .if1 .left) _ refl _ (c .before .before .before .before .before .masked .ensures ∙ or-none _) (c .before .before .before .before .if2 .left) _ (loads-indirect row _ _ _ _ _ _ _ _ _ _ _ Violation (reach row _ _ _ _ span _ _ (c .before .before .word-place .ensures) (c .enum-told .given .1)) (c .before .before .before .indirect-address .ensures)) _ _ _ _ (performs-traps row _ _ _ _ _ ProtectionViolation _ _ refl own)
+returns-4 c = λ row i flag fresh program constantWords third od oa span own dd pa. found-performs _ _ _ _ _ _ _ _ _ _ _ _ (destination-operated _ _ _ _ _ _ _ dd) _ _ _ _ _ (source-operated _ _ _ _ _ _ _ _ _ pa) _ _ _ _ _ (unused-operated _ _ _ _ _) _ _ _ _ _ _ _ _ (or-one _ _ _ _ _ (c .before .before .before .before .before .before .before .waits-d-s1 .ensures)) (c .before .before .before .before .before .before .if1 .left) _ refl _ (c .before .before .before .before .before .masked .ensures ∙ or-none _) (c .before .before .before .before .if2 .left) _ (loads-indirect row _ _ _ _ _ _ _ _ _ _ _ Violation (reach row _ _ _ _ span _ _ (c .before .before .data-reach .ensures) (c .enum-told .given .1)) (c .before .before .before .indirect-address .ensures)) _ _ _ _ (performs-traps row _ _ _ _ _ ProtectionViolation _ _ refl own)
 
 same-length-6 : tie.Need-same-length-6
 same-length-6 c = search needs
 
 returns-5 : tie.Need-returns-5
 unfolding environmentOf reachOf loadFrom trapCourse
-returns-5 c = λ row i flag fresh program constantWords third od oa span own dd pa. found-performs _ _ _ _ _ _ _ _ _ _ _ _ (destination-operated _ _ _ _ _ _ _ dd) _ _ _ _ _ (source-operated _ _ _ _ _ _ _ _ _ pa) _ _ _ _ _ (unused-operated _ _ _ _ _) _ _ _ _ _ _ _ _ (or-one _ _ _ _ _ (c .before .before .before .before .before .before .before .waits-d-s1 .ensures)) (c .before .before .before .before .before .before .if1 .left) _ refl _ (c .before .before .before .before .before .masked .ensures ∙ or-none _) (c .before .before .before .before .if2 .left) _ (loads-indirect row _ _ _ _ _ _ _ _ _ _ _ Simulated (reach row _ _ _ _ span _ _ (c .before .before .word-place .ensures) (c .enum-told2 .given .1)) (c .before .before .before .indirect-address .ensures)) _ _ _ _ (performs-traps row _ _ _ _ _ SimulatedInstruction _ _ refl own)
+returns-5 c = λ row i flag fresh program constantWords third od oa span own dd pa. found-performs _ _ _ _ _ _ _ _ _ _ _ _ (destination-operated _ _ _ _ _ _ _ dd) _ _ _ _ _ (source-operated _ _ _ _ _ _ _ _ _ pa) _ _ _ _ _ (unused-operated _ _ _ _ _) _ _ _ _ _ _ _ _ (or-one _ _ _ _ _ (c .before .before .before .before .before .before .before .waits-d-s1 .ensures)) (c .before .before .before .before .before .before .if1 .left) _ refl _ (c .before .before .before .before .before .masked .ensures ∙ or-none _) (c .before .before .before .before .if2 .left) _ (loads-indirect row _ _ _ _ _ _ _ _ _ _ _ Illegal (reach row _ _ _ _ span _ _ (c .before .before .data-reach .ensures) (c .enum-told2 .given .1)) (c .before .before .before .indirect-address .ensures)) _ _ _ _ (performs-traps row _ _ _ _ _ IllegalInstruction _ _ refl own)
 
 same-length-7 : tie.Need-same-length-7
 same-length-7 c = search needs
@@ -108,7 +104,7 @@ same-length-10 c = search needs
 
 returns-6 : tie.Need-returns-6
 unfolding environmentOf fateCourse
-returns-6 c = λ row i flag fresh program constantWords third od oa span own dd pa. found-performs _ _ _ _ _ _ _ _ _ _ _ _ (destination-operated _ _ _ _ _ _ _ dd) _ _ _ _ _ (source-operated _ _ _ _ _ _ _ _ _ pa) _ _ _ _ _ (unused-operated _ _ _ _ _) _ _ _ _ _ _ _ _ (or-one _ _ _ _ _ (c .before .before .before .before .before .before .before .before .before .before .before .before .before .before .before .before .before .before .before .before .before .before .before .before .before .before .before .before .before .waits-d-s1 .ensures)) (c .before .before .before .before .before .before .before .before .before .before .before .before .before .before .before .before .before .before .before .before .before .before .before .before .before .before .before .before .if1 .left) _ refl _ (c .before .before .before .before .before .before .before .before .before .before .before .before .before .before .before .before .before .before .before .before .before .before .before .before .before .before .before .masked .ensures ∙ or-none _) (c .before .before .before .before .before .before .before .before .before .before .before .before .before .before .before .before .before .before .before .before .before .before .before .before .before .before .if2 .left) _ (load-seen row _ _ _ _ _ _ _ _ _ _ _ (reach row _ _ _ _ span _ _ (c .before .before .before .before .before .before .before .before .before .before .before .before .before .before .before .before .before .before .before .before .before .before .before .before .word-place .ensures) (c .before .before .before .before .before .before .before .before .before .before .before .before .before .before .before .before .before .before .before .before .before .before .p .given .1)) _ (c .before .before .before .before .before .before .before .before .before .before .before .before .before .before .before .before .before .before .before .tag-at .ensures) _ _ _ (c .before .before .before .before .before .before .before .before .before .before .before .before .before .before .before .before .word-at .ensures) (c .before .before .before .before .before .before .before .before .before .before .before .before .before .before .before .before .before .before .load-waits .ensures) (c .before .before .before .before .before .before .before .before .before .before .before .before .before .before .before .before .before .if3 .left) ∙ loads-indirect row _ _ _ _ _ _ _ _ _ _ _ _ (reach row _ _ _ _ span _ _ (c .before .before .before .before .before .before .before .before .before .before .before .before .before .before .before .before .before .before .before .before .before .before .before .before .word-place .ensures) (c .before .before .before .before .before .before .before .before .before .before .before .before .before .before .before .before .before .before .before .before .before .before .p .given .1)) (c .before .before .before .before .before .before .before .before .before .before .before .before .before .before .before .before .before .before .before .before .before .before .before .before .before .indirect-address .ensures)) _ _ _ _ (executes-result _ _ _ _ _ _ _ _ _ _ _ _ (destination-operated _ _ _ _ _ _ _ dd) _ _ _ _ _ (source-operated _ _ _ _ _ _ _ _ _ pa) _ _ _ _ _ (unused-operated _ _ _ _ _) _ _ _ _ _ dd _ _ _ _ _ _ _ _ (c .before .before .continues .ensures .0) (goes-on _ _ _ _ _ _ (c .before .before .continues .ensures .1) (c .before .before .before .next .ensures)) (c .before .before .before .before .before .before .before .before .before .before .before .before .before .write-d-s1 .ensures .0) (c .before .before .before .before .before .before .before .before .before .before .before .before .before .write-d-s1 .ensures .1) (load-left row _ _ _ (reach row _ _ _ _ span _ _ (c .before .before .before .before .before .before .before .before .before .before .before .before .before .before .before .before .before .before .before .before .before .before .before .before .word-place .ensures) (c .before .before .before .before .before .before .before .before .before .before .before .before .before .before .before .before .before .before .before .before .before .before .p .given .1)) _ _ _ _ (c .before .before .before .before .before .before .before .before .before .before .before .before .before .before .before .before .word-at .ensures) (c .before .before .before .before .before .before .before .load-leaves .ensures)))
+returns-6 c = λ row i flag fresh program constantWords third od oa span own dd pa. found-performs _ _ _ _ _ _ _ _ _ _ _ _ (destination-operated _ _ _ _ _ _ _ dd) _ _ _ _ _ (source-operated _ _ _ _ _ _ _ _ _ pa) _ _ _ _ _ (unused-operated _ _ _ _ _) _ _ _ _ _ _ _ _ (or-one _ _ _ _ _ (c .before .before .before .before .before .before .before .before .before .before .before .before .before .before .before .before .before .before .before .before .before .before .before .before .before .before .before .before .waits-d-s1 .ensures)) (c .before .before .before .before .before .before .before .before .before .before .before .before .before .before .before .before .before .before .before .before .before .before .before .before .before .before .before .if1 .left) _ refl _ (c .before .before .before .before .before .before .before .before .before .before .before .before .before .before .before .before .before .before .before .before .before .before .before .before .before .before .masked .ensures ∙ or-none _) (c .before .before .before .before .before .before .before .before .before .before .before .before .before .before .before .before .before .before .before .before .before .before .before .before .before .if2 .left) _ (load-seen row _ _ _ _ _ _ _ _ _ _ _ _ (reach row _ _ _ _ span _ _ (c .before .before .before .before .before .before .before .before .before .before .before .before .before .before .before .before .before .before .before .before .before .before .before .data-reach .ensures) (c .before .before .before .before .before .before .before .before .before .before .before .before .before .before .before .before .before .before .before .before .before .p .given .1)) _ _ _ (c .before .before .before .before .before .before .before .before .before .before .before .before .before .before .before .before .before .before .before .loaded .ensures) (c .before .before .before .before .before .before .before .before .before .before .before .before .before .before .before .before .before .load-waits .ensures) (c .before .before .before .before .before .before .before .before .before .before .before .before .before .before .before .before .if3 .left) ∙ loads-indirect row _ _ _ _ _ _ _ _ _ _ _ _ (reach row _ _ _ _ span _ _ (c .before .before .before .before .before .before .before .before .before .before .before .before .before .before .before .before .before .before .before .before .before .before .before .data-reach .ensures) (c .before .before .before .before .before .before .before .before .before .before .before .before .before .before .before .before .before .before .before .before .before .p .given .1)) (c .before .before .before .before .before .before .before .before .before .before .before .before .before .before .before .before .before .before .before .before .before .before .before .before .indirect-address .ensures)) _ _ _ _ (executes-result _ _ _ _ _ _ _ _ _ _ _ _ (destination-operated _ _ _ _ _ _ _ dd) _ _ _ _ _ (source-operated _ _ _ _ _ _ _ _ _ pa) _ _ _ _ _ (unused-operated _ _ _ _ _) _ _ _ _ _ dd _ _ _ _ _ _ _ _ (c .before .before .continues .ensures .0) (goes-on _ _ _ _ _ _ (c .before .before .continues .ensures .1) (c .before .before .before .next .ensures)) (c .before .before .before .before .before .before .before .before .before .before .before .before .before .write-d-s1 .ensures .0) (c .before .before .before .before .before .before .before .before .before .before .before .before .before .write-d-s1 .ensures .1) (load-left row _ _ _ _ (reach row _ _ _ _ span _ _ (c .before .before .before .before .before .before .before .before .before .before .before .before .before .before .before .before .before .before .before .before .before .before .before .data-reach .ensures) (c .before .before .before .before .before .before .before .before .before .before .before .before .before .before .before .before .before .before .before .before .before .p .given .1)) _ _ _ (c .before .before .before .before .before .before .before .load-leaves .ensures)))
 
 pub load-indirect-found-spec : {M : Type 1} → statement M
 load-indirect-found-spec =
@@ -121,16 +117,15 @@ load-indirect-found-spec =
     same-length-2
     returns-2
     indirect-address-requires
-    word-place-requires
+    data-reach-requires
     enum-told
     enum-told-2
     enum-known-p
-    tag-at-requires
+    loaded-requires
     load-waits-requires
     same-length-3
     same-length-4
     returns-3
-    word-at-requires
     write-d-s1-requires
     load-leaves-requires
     next-requires
