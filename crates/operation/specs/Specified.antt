@@ -26,13 +26,13 @@ byte place = Part (partAt 8 place)
 unfoldable pub wordParts : List Specified
 wordParts =
     word ∷  -- 0 the word
-    quarter 0 ∷  -- 1 the quarters from the left
+    quarter 0 ∷  -- 1 the first quarter from the left
     half 0 ∷  -- 2 the left half
-    quarter 1 ∷  -- 3
+    quarter 1 ∷  -- 3 the second quarter
     Illegal ∷  -- 4 trap 12
-    quarter 2 ∷  -- 5
+    quarter 2 ∷  -- 5 the third quarter
     half 1 ∷  -- 6 the right half
-    quarter 3 ∷  -- 7
+    quarter 3 ∷  -- 7 the fourth quarter
     []
 
 -- with B = 1 the low three address bits name byte 0 to 7 from the left
