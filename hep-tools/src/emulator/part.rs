@@ -9,25 +9,10 @@ pub struct Part {
 }
 
 impl Part {
-    /// The whole word.
-    pub const WORD: Part = Part { width: 64, place: 0 };
-
-    /// The part that B of an instruction and the low three bits of its address name. The whole
-    /// word is tested first, since most accesses are of it.
-    #[inline(always)]
+    /// The part that B of an instruction and the low three bits of its address name.
     pub fn named(instruction: u64, address: u64) -> Option<Part> {
-        let (byte, low) = (instruction >> 52 & 1 != 0, (address & 7) as u32);
-        if byte || low != 0 {
-            Part::by(byte, low)
-        } else {
-            Some(Part::WORD)
-        }
-    }
-
-    /// The part that B and those bits name.
-    #[cold]
-    fn by(byte: bool, low: u32) -> Option<Part> {
-        if byte {
+        let low = (address & 7) as u32;
+        if instruction >> 52 & 1 != 0 {
             return Some(Part { width: 8, place: low });
         }
         let (width, place) = match low {
@@ -54,21 +39,49 @@ impl Part {
     }
 
     /// The part of a word, right-justified with zeros before it.
-    #[inline(always)]
-    pub fn extracted(self, word: u64) -> u64 {
-        if self == Part::WORD {
-            return word;
-        }
+    fn extracted(self, word: u64) -> u64 {
         word >> self.shift() & self.ones()
     }
 
     /// The word with the low bits of a value in the part.
-    #[inline(always)]
-    pub fn placed(self, word: u64, value: u64) -> u64 {
-        if self == Part::WORD {
-            return value;
-        }
+    fn placed(self, word: u64, value: u64) -> u64 {
         let mask = self.ones() << self.shift();
         word & !mask | value << self.shift() & mask
     }
+}
+
+/// What a load gives of a data word, if a part of it is named. The whole word is tested first,
+/// since most accesses are of it.
+#[inline(always)]
+pub fn loaded(instruction: u64, address: u64, word: u64) -> Option<u64> {
+    if whole(instruction, address) {
+        return Some(word);
+    }
+    part_loaded(instruction, address, word)
+}
+
+/// What a store of a value leaves of a data word, if a part of it is named.
+#[inline(always)]
+pub fn stored(instruction: u64, address: u64, word: u64, value: u64) -> Option<u64> {
+    if whole(instruction, address) {
+        return Some(value);
+    }
+    part_stored(instruction, address, word, value)
+}
+
+#[inline(always)]
+fn whole(instruction: u64, address: u64) -> bool {
+    instruction >> 52 & 1 == 0 && address & 7 == 0
+}
+
+#[cold]
+#[inline(never)]
+fn part_loaded(instruction: u64, address: u64, word: u64) -> Option<u64> {
+    Some(Part::named(instruction, address)?.extracted(word))
+}
+
+#[cold]
+#[inline(never)]
+fn part_stored(instruction: u64, address: u64, word: u64, value: u64) -> Option<u64> {
+    Some(Part::named(instruction, address)?.placed(word, value))
 }

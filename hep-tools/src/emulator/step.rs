@@ -3,7 +3,7 @@
 use crate::emulator::arithmetic::{add, bit, leftmost, mul, sub};
 use crate::emulator::codes::{decode, forbidden, Op};
 use crate::emulator::machine::*;
-use crate::emulator::part::Part;
+use crate::emulator::part;
 use crate::emulator::psw;
 
 /// Places of the operand fields in the instruction word. S0 stands where D does.
@@ -375,23 +375,23 @@ impl Machine {
         Ok(())
     }
 
-    /// Check 7: the place of a data word, and the part of it that is named.
+    /// Check 7, its protection violation: the place of a data word.
     #[inline(always)]
-    fn checked_data_part(&self, at: &At, address: u64) -> Result<(usize, Part), Stop> {
+    fn checked_data_place(&self, at: &At, address: u64) -> Result<usize, Stop> {
         let real = self.rows[at.task].data.real(address);
-        let (Some(real), true) = (real, address < 1 << 31) else {
-            return Err(Stop::Protection);
-        };
-        let part = Part::named(at.word, address).ok_or(Stop::Illegal)?;
-        Ok((real as usize / 8, part))
+        match (real, address < 1 << 31) {
+            (Some(real), true) => Ok(real as usize / 8),
+            _ => Err(Stop::Protection),
+        }
     }
 
     /// LODI and LODX: the sources add up to the address.
     #[inline(always)]
     fn load<const N: usize>(&mut self, at: At, fields: [u32; N]) -> Outcome {
         let (d, sources) = self.operands(&at, fields)?;
-        let (place, part) = self.checked_data_part(&at, address(&sources))?;
-        let loaded = part.extracted(self.data[place]);
+        let address = address(&sources);
+        let place = self.checked_data_place(&at, address)?;
+        let loaded = part::loaded(at.word, address, self.data[place]).ok_or(Stop::Illegal)?;
         let sac = at.word >> 50 & 3;
         if sac != 0 && self.full[place] == 0 {
             return Err(Stop::Wave);
@@ -408,8 +408,10 @@ impl Machine {
     #[inline(always)]
     fn store<const N: usize>(&mut self, at: At, fields: [u32; N]) -> Outcome {
         let sources = self.sources(&at, fields, false)?;
-        let (place, part) = self.checked_data_part(&at, address(&sources[1..]))?;
-        let stored = part.placed(self.data[place], sources[0].word);
+        let address = address(&sources[1..]);
+        let place = self.checked_data_place(&at, address)?;
+        let stored = part::stored(at.word, address, self.data[place], sources[0].word);
+        let stored = stored.ok_or(Stop::Illegal)?;
         let dac = at.word >> 48 & 3;
         if dac == 2 && self.full[place] == 1 {
             return Err(Stop::Wave);
