@@ -22,3 +22,8 @@ module _ (low e : ℕ) (part : Part) (told : specifiedPart low e ≡ specified.P
     pub specified-bits : (i : ℕ) → i < 64 → (part .width * part .place ≤ i → i < part .width * part .place + part .width → ⊥)
         → extracted (partAt 1 i) (placed part register word) ≡ extracted (partAt 1 i) word
     specified-bits i h outside = bits-stay part specified-fills register word i h outside
+
+    -- every other part of its width stays
+    pub specified-others : (q : ℕ) → q < specified-fills .count → part .place ≢ q
+        → extracted (partAt (part .width) q) (placed part register word) ≡ extracted (partAt (part .width) q) word
+    specified-others q h other = others-stay part specified-fills register word q h other

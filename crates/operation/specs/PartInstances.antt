@@ -1,5 +1,5 @@
 -- The sixteen meanings of B and the low three address bits, by load and by store, and the order of check 7, as instances that compute.
-use Prim.Native.Nat.{ℕ, _+_, _*_}
+use Prim.Native.Nat.{ℕ, _+_}
 use mathlib.Core.Path.{_≡_, refl}
 use mathlib.Core.List.{List, [], _∷_, map}
 use Rattle.window.specs.declared.Row.{Row}

@@ -1,17 +1,16 @@
 -- The widths of the parts that an address specifies, line by line.
-use Prim.Native.Nat.{ℕ, zero, suc, _%_, _<_}
-use native.Mathlib.Nat.{mod-lt}
+use Prim.Native.Nat.{ℕ, zero, suc, _%_}
 use native.Mathlib.Omega.{arith}
 use mathlib.Core.Path.{_≡_, refl, subst}
 use mathlib.Core.Bool.{Bool, true, false, cond, true≢false}
 use lib.Dec.{eqb}
 use lib.ListN.{getD}
 use Rattle.word.specs.declared.Part.{Part}
-use Rattle.word.specs.Parts.{partAt, Fills}
+use Rattle.word.specs.Parts.{Fills}
 use Rattle.operation.specs.declared.Specified.{Specified}
 use Rattle.operation.specs.declared.Specified.the-variants as specified
 use Rattle.operation.specs.Roles.{bOf}
-use Rattle.operation.specs.Specified.{byte, wordParts, specifiedPart}
+use Rattle.operation.specs.Specified.{wordParts, specifiedPart}
 
 -- a part that is told in two ways
 same : (part other : Part) → specified.Part part ≡ specified.Part other → Fills part → Fills other
@@ -32,10 +31,13 @@ line (suc (suc (suc (suc (suc (suc zero)))))) part q = same _ part q (record { c
 line (suc (suc (suc (suc (suc (suc (suc zero))))))) part q = same _ part q (record { count = 4; divides = refl; inside = omega arith })
 line (suc (suc (suc (suc (suc (suc (suc (suc n)))))))) part q = none part q
 
+-- what holds of both arms of a test
+either : (b : Bool) (s t : Specified) (part : Part) → (s ≡ specified.Part part → Fills part) → (t ≡ specified.Part part → Fills part)
+    → cond b s t ≡ specified.Part part → Fills part
+either true s t part f g q = f q
+either false s t part f g q = g q
+
 pub fills : (low e : ℕ) (part : Part) → specifiedPart low e ≡ specified.Part part → Fills part
 unfolding specifiedPart
-fills low e part = go (eqb (bOf low) 1)
-  where
-    go : (b : Bool) → cond b (byte (e % 8)) (getD wordParts (e % 8) specified.Illegal) ≡ specified.Part part → Fills part
-    go true q = same _ part q (record { count = 8; divides = refl; inside = mod-lt e (omega arith) })
-    go false q = line (e % 8) part q
+fills low e part q =
+    either (eqb (bOf low) 1) _ _ part (λ r. same _ part r (record { count = 8; divides = refl; inside = omega arith })) (λ r. line (e % 8) part r) q

@@ -1,6 +1,6 @@
 -- What a decision writes are sound cells and sound PSWs, where the environment is sound; and it creates only with the flag down.
 use mathlib.Core.Path.{_≡_, refl}
-use mathlib.Core.Bool.{Bool, true, false, cond, not, _&&_, _||_}
+use mathlib.Core.Bool.{Bool, true, false, cond, not, _&&_}
 use Prim.Native.Nat.{ℕ, _+_, _*_, _/_, _%_, _^_, _≤_}
 use native.Mathlib.Omega.{arith}
 use lib.Dec.{eqb}
@@ -208,7 +208,7 @@ module _ (v : Environment) (h : SoundEnvironment v) where
     part-sound : (P : Reach → Type 0) (a : ℕ) (r : Specified) → ((b : ℕ) (part : Part) → P (Reaches b part)) → ((k : Trap) → P (Stops k)) → P (partReach a r)
     unfolding partReach
     part-sound P a (specified.Part part) f g = f a part
-    part-sound P a specified.Illegal f g = g trap.IllegalInstruction
+    part-sound P a specified.Illegal f g = g _
 
     reach-sound : (P : Reach → Type 0) (low e : ℕ) (p : Place) → ((a : ℕ) (part : Part) → P (Reaches a part)) → ((k : Trap) → P (Stops k)) → P (dataReach low e p)
     unfolding dataReach

@@ -2,13 +2,12 @@
 use Prim.Native.Nat.{ℕ, zero, suc, _/_, _%_, _<_}
 use native.Mathlib.Nat.{mod-lt}
 use native.Mathlib.Omega.{arith}
-use mathlib.Core.Path.{_≡_, refl, sym, ap, _∙_}
+use mathlib.Core.Path.{_≡_, refl, ap, _∙_}
 use mathlib.Core.Bool.{Bool, true, false, cond, not, _&&_, true≢false}
 use lib.Dec.{eqb}
 use lib.ListN.{getD}
 use borrow.Author.Tests.{eqb-true, eq-eqb, ne-eqb}
 use Rattle.word.specs.Parts.{partAt}
-use Rattle.operation.specs.declared.Specified.{Specified}
 use Rattle.operation.specs.declared.Specified.the-variants as specified
 use Rattle.operation.specs.Roles.{bOf}
 use Rattle.operation.specs.Specified.{byte, wordParts, specifiedPart}

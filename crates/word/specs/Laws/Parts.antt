@@ -2,7 +2,7 @@
 use mathlib.Core.Path.{_≡_, refl, sym, ap, _∙_, subst}
 use mathlib.Core.Logic.{_≢_}
 use mathlib.Core.Bool.{Bool, true, false}
-use Prim.Native.Nat.{ℕ, zero, suc, _+_, _-_, _*_, _/_, _%_, _^_, _≤_, _<_}
+use Prim.Native.Nat.{ℕ, suc, _+_, _-_, _*_, _/_, _%_, _^_, _≤_, _<_}
 use native.Mathlib.Nat.{mod-lt, mod-le, mod-one, div-one, div-eq-of-lt, div-lt-iff-lt-mul, mod-eq-of-lt, mul-suc, mul-le-mul-left, mul-assoc, mul-comm, add-mul, one-mul, lt-of-le-of-lt, lt-of-lt-of-le, le-trans, le-of-lt}
 use native.Mathlib.Omega.{arith}
 use lib.Dec.{leb}
@@ -82,10 +82,10 @@ module _ (w k v x u j : ℕ) where
   left-part-stays h =
       from-left u j (k + w) (withBits w k v x) h ∙ ap (λ (n : ℕ). n / 2 ^ (j - (k + w)) % 2 ^ u) (left-stays w k v x) ∙ sym (from-left u j (k + w) x h)
 
--- what a part is when it is extracted, whatever it was placed in
-pub again : (part : Part) (v x : ℕ) → extracted part (placed part v x) ≡ v % 2 ^ part .width
-unfolding extracted placed
-again part v x = taken-again (part .width) (rightOf part) v x
+-- zeros stand before a part that is extracted
+pub extracted-lt : (part : Part) (x : ℕ) → extracted part x < 2 ^ part .width
+unfolding extracted
+extracted-lt part x = mod-lt (x / 2 ^ rightOf part) (pow-pos (part .width))
 
 -- a number at most another and not it
 below : (q p : ℕ) → q ≤ p → (q ≡ p → ⊥) → suc q ≤ p
@@ -103,9 +103,9 @@ module _ (part : Part) (fills : Fills part) (v x : ℕ) where
   p = part .place
 
   -- every bit that stands outside the part
-  pub bits : (i : ℕ) → i < 64 → (w * p ≤ i → i < w * p + w → ⊥) → extracted (partAt 1 i) (placed part v x) ≡ extracted (partAt 1 i) x
+  pub bits-kept : (i : ℕ) → i < 64 → (w * p ≤ i → i < w * p + w → ⊥) → extracted (partAt 1 i) (placed part v x) ≡ extracted (partAt 1 i) x
   unfolding extracted placed
-  bits i h out = go (leb (w * p) i) refl
+  bits-kept i h out = go (leb (w * p) i) refl
     where
       go : (b : Bool) → leb (w * p) i ≡ b → bitsAt 1 (rightOf (partAt 1 i)) (withBits w (rightOf part) v x) ≡ bitsAt 1 (rightOf (partAt 1 i)) x
       go false e = left-part-stays w (rightOf part) v x 1 (rightOf (partAt 1 i)) (omega (arith, leb-false (w * p) i e, ends part fills, mul-suc w p, one-mul (suc i)))
@@ -116,9 +116,9 @@ module _ (part : Part) (fills : Fills part) (v x : ℕ) where
           last false f = absurd (out (leb-true (w * p) i e) (leb-false (w * p + w) i f))
 
   -- every other part of the same width
-  pub others : (q : ℕ) → q < fills .count → p ≢ q → extracted (partAt w q) (placed part v x) ≡ extracted (partAt w q) x
+  pub others-kept : (q : ℕ) → q < fills .count → p ≢ q → extracted (partAt w q) (placed part v x) ≡ extracted (partAt w q) x
   unfolding extracted placed
-  others q h d = go (leb q p) refl
+  others-kept q h d = go (leb q p) refl
     where
       go : (b : Bool) → leb q p ≡ b → bitsAt w (rightOf (partAt w q)) (withBits w (rightOf part) v x) ≡ bitsAt w (rightOf (partAt w q)) x
       go true e =
@@ -129,11 +129,16 @@ module _ (part : Part) (fills : Fills part) (v x : ℕ) where
           (omega (arith, mul-le-mul-left w (leb-false q p e), mul-le-mul-left w h, fills .divides, mul-suc w p, mul-suc w q))
 
   -- the word has 64 bits again
-  pub whole : x < 2 ^ 64 → placed part v x < 2 ^ 64
+  pub word-kept : x < 2 ^ 64 → placed part v x < 2 ^ 64
   unfolding placed
-  whole h = bits-stay-word w (rightOf part) v x 64 (omega (arith, ends part fills, mul-suc w p)) h
+  word-kept h = bits-stay-word w (rightOf part) v x 64 (omega (arith, ends part fills, mul-suc w p)) h
 
 -- Any part of a word, whatever its width and place.
+
+-- a part is extracted as it was placed
+pub placed-again : (part : Part) (v x : ℕ) → extracted part (placed part v x) ≡ v % 2 ^ part .width
+unfolding extracted placed
+placed-again part v x = taken-again (part .width) (rightOf part) v x
 
 -- a part as wide as a word, or wider, has nothing to its right
 none-right : (w p : ℕ) → 64 ≤ w → 64 - w * suc p ≡ 0
@@ -142,9 +147,6 @@ none-right w p h = omega (arith, mul-suc w p)
 -- a narrower one ends inside the word
 pub right-fits : (w p : ℕ) → w ≤ 64 → 64 - w * suc p + w ≤ 64
 right-fits w p h = omega (arith, mul-suc w p)
-
-pub right-lt : (w p : ℕ) → 1 ≤ w → 64 - w * suc p < 64
-right-lt w p h = omega (arith, mul-suc w p)
 
 -- the word itself is extracted, and the register is placed whole
 pub whole-extracted : (part : Part) (x : ℕ) → 64 ≤ part .width → x < 2 ^ 64 → x ≡ extracted part x
