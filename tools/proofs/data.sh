@@ -1,5 +1,5 @@
 #!/usr/bin/env bash
-# The proofs of operation_data: LODI, LODX, STOI, STOX and their `_found`.
+# The proofs of operation_data: parts, then LODI, LODX, STOI, STOX and their `_found`.
 set -euo pipefail
 source tools/proofs/common.sh
 C=operation_data
@@ -15,6 +15,32 @@ use Rattle.operation_data.specs.declared.Reached.the-variants.{Violation
 use Rattle.operation_data.specs.Code.Reached.{reachOf}
 $OPERANDS.{or-none, or-one, unused-operated, destination-operated, source-operated}
 $FOUND.{found-waits, found-masked, found-performs, executes-result, executes-sources}"
+fill $C specified_part <<E
+use mathlib.Core.Path.{sym, _∙_}
+use Rattle.operation.specs.Laws.Found.{told}
+use Rattle.operation_data.specs.Laws.Specified.{byte-specified, whole-specified, quarter-specified, none-specified, half-specified}
+returns := @part .ensures ∙ sym (whole-specified _ _ (told (@whole .ensures) (@if1 .taken)))
+returns-2 := @part2 .ensures ∙ sym (byte-specified _ _ (@if2 .taken))
+returns-3 := @part3 .ensures ∙ sym (quarter-specified _ _ (@if2 .left) (@if3 .taken))
+returns-4 := sym (none-specified _ _ (@if2 .left) (@if4 .taken))
+returns-5 := @part4 .ensures ∙ sym (half-specified _ _ (@if2 .left) (told (@whole .ensures) (@if1 .left)) (@if3 .left) (@if4 .left))
+E
+fill $C loaded <<E
+use mathlib.Core.Path.{ap, _∙_}
+use native.Mathlib.Omega.{arith}
+use Rattle.word.specs.Parts.{extracted}
+use Rattle.word.specs.Laws.Parts.{whole-extracted}
+returns := whole-extracted (@args .part) (@word-at .result) (omega arith) (omega arith) ∙ ap (extracted (@args .part)) (@word-at .ensures)
+returns-2 := @extracted .ensures ∙ ap (extracted (@args .part)) (@word-at2 .ensures)
+E
+fill $C stored <<E
+use mathlib.Core.Path.{ap, _∙_}
+use native.Mathlib.Omega.{arith}
+use Rattle.word.specs.Parts.{placed}
+use Rattle.word.specs.Laws.Parts.{whole-placed}
+returns := whole-placed (@args .part) (@args .word) _ (omega arith) (omega arith) (@shared-slice-known .given (@args .p) .fits)
+returns-2 := @placed .ensures ∙ ap (placed (@args .part) (@args .word)) (@word-at .ensures)
+E
 fill $C load_leaves <<E
 use borrow.Author.Tests.{eq-eqb, ne-eqb}
 use Rattle.operation_data.specs.Code.Reached.{tagsLeft}
