@@ -2,11 +2,12 @@
 use Prim.Native.Nat.{ℕ, zero, suc, _%_}
 use native.Mathlib.Omega.{arith}
 use mathlib.Core.Path.{_≡_, refl, subst}
-use mathlib.Core.Bool.{Bool, true, false, cond, true≢false}
+use mathlib.Core.Bool.{true, false, true≢false}
 use lib.Dec.{eqb}
 use lib.ListN.{getD}
 use Rattle.word.specs.declared.Part.{Part}
 use Rattle.word.specs.Parts.{Fills}
+use Rattle.word.specs.Laws.Bools.{either}
 use Rattle.operation.specs.declared.Specified.{Specified}
 use Rattle.operation.specs.declared.Specified.the-variants as specified
 use Rattle.operation.specs.Roles.{bOf}
@@ -31,13 +32,8 @@ line (suc (suc (suc (suc (suc (suc zero)))))) part q = same _ part q (record { c
 line (suc (suc (suc (suc (suc (suc (suc zero))))))) part q = same _ part q (record { count = 4; divides = refl; inside = omega arith })
 line (suc (suc (suc (suc (suc (suc (suc (suc n)))))))) part q = none part q
 
--- what holds of both arms of a test
-either : (b : Bool) (s t : Specified) (part : Part) → (s ≡ specified.Part part → Fills part) → (t ≡ specified.Part part → Fills part)
-    → cond b s t ≡ specified.Part part → Fills part
-either true s t part f g q = f q
-either false s t part f g q = g q
-
 pub fills : (low e : ℕ) (part : Part) → specifiedPart low e ≡ specified.Part part → Fills part
 unfolding specifiedPart
-fills low e part q =
-    either (eqb (bOf low) 1) _ _ part (λ r. same _ part r (record { count = 8; divides = refl; inside = omega arith })) (λ r. line (e % 8) part r) q
+fills low e part =
+    either (λ (r : Specified). r ≡ specified.Part part → Fills part) (eqb (bOf low) 1)
+    (λ q. same _ part q (record { count = 8; divides = refl; inside = omega arith })) (line (e % 8) part)

@@ -11,6 +11,7 @@ use Rattle.word.specs.declared.Part.{Part}
 use Rattle.word.specs.Fields.{pswSound, pcOf, nextOf, instructionOf}
 use Rattle.word.specs.Parts.{extracted, placed}
 use Rattle.word.specs.Laws.Parts.{extracted-word, placed-word}
+use Rattle.word.specs.Laws.Bools.{either}
 use Rattle.word.specs.Laws.Words.{psw-sound, next-sound, psw-word, vector-word, bit-word, integer-word, integer-quality}
 use Rattle.window.specs.declared.Cell.{Cell}
 use Rattle.window.specs.declared.Place.{Place}
@@ -104,11 +105,6 @@ pub record SoundOutcome (r : Outcome) : Type 0 where
 
 quality0-sound : (w : ℕ) → wordSound w ≡ true → SoundOutcome (quality0 w)
 quality0-sound w h = record { word = h; quality = omega arith }
-
--- what holds of both arms of a test
-either : {A : Type 0} (P : A → Type 0) (b : Bool) {x y : A} → P x → P y → P (cond b x y)
-either P true p q = p
-either P false p q = q
 
 emptying-sound : (o : Operand) (c : Cell) → tagSound (c .tag) ≡ true → wordSound (c .word) ≡ true → SoundWrite tagSound (emptying o c)
 unfolding emptying

@@ -26,7 +26,7 @@ joined w k a m r =
     ∙ ap (λ (n : ℕ). n + r) (sym (add-mul (a * 2 ^ w) m (2 ^ k)))
 
 -- a word is the bits to the left, the w bits and the bits to the right
-pub apart : (w k x : ℕ) → x / 2 ^ (k + w) * 2 ^ (k + w) + bitsAt w k x * 2 ^ k + x % 2 ^ k ≡ x
+apart : (w k x : ℕ) → x / 2 ^ (k + w) * 2 ^ (k + w) + bitsAt w k x * 2 ^ k + x % 2 ^ k ≡ x
 apart w k x =
     joined w k (x / 2 ^ (k + w)) (bitsAt w k x) (x % 2 ^ k)
     ∙ ap (λ (n : ℕ). (n * 2 ^ w + bitsAt w k x) * 2 ^ k + x % 2 ^ k) (sym (shr-shr x k w))
@@ -53,7 +53,7 @@ module _ (w k v x : ℕ) where
   left-stays = sym (shr-shr (withBits w k v x) k w) ∙ ap (λ (n : ℕ). n / 2 ^ w) above ∙ high (x / 2 ^ (k + w)) w (mod-lt v (pow-pos w))
 
   -- the word stays one of m bits
-  pub bits-stay-word : (m : ℕ) → k + w ≤ m → x < 2 ^ m → withBits w k v x < 2 ^ m
+  bits-stay-word : (m : ℕ) → k + w ≤ m → x < 2 ^ m → withBits w k v x < 2 ^ m
   bits-stay-word m h l =
       let e : m - (k + w) + (k + w) ≡ m = omega arith in
       subst (λ (n : ℕ). withBits w k v x < 2 ^ n) e
@@ -145,8 +145,8 @@ none-right : (w p : ℕ) → 64 ≤ w → 64 - w * suc p ≡ 0
 none-right w p h = omega (arith, mul-suc w p)
 
 -- a narrower one ends inside the word
-pub right-fits : (w p : ℕ) → w ≤ 64 → 64 - w * suc p + w ≤ 64
-right-fits w p h = omega (arith, mul-suc w p)
+pub right-fits : (w p k : ℕ) → k ≡ 64 - w * suc p → w ≤ 64 → k + w ≤ 64
+right-fits w p k e h = omega (arith, mul-suc w p)
 
 -- the word itself is extracted, and the register is placed whole
 pub whole-extracted : (part : Part) (x : ℕ) → 64 ≤ part .width → x < 2 ^ 64 → x ≡ extracted part x
@@ -207,5 +207,5 @@ unfolding placed
 placed-word part v x hv hx = go (leb (part .width) 64) refl
   where
     go : (b : Bool) → leb (part .width) 64 ≡ b → placed part v x < 2 ^ 64
-    go true e = bits-stay-word (part .width) (rightOf part) v x 64 (right-fits (part .width) (part .place) (leb-true (part .width) 64 e)) hx
+    go true e = bits-stay-word (part .width) (rightOf part) v x 64 (right-fits (part .width) (part .place) (rightOf part) refl (leb-true (part .width) 64 e)) hx
     go false e = subst (λ (n : ℕ). n < 2 ^ 64) (whole-placed part v x (le-of-lt (leb-false (part .width) 64 e)) hv hx) hv
