@@ -301,6 +301,8 @@ pub fn no_processes() -> ProcessTable
         psw: [0; PTS],
         queues: [none; TASKS],
         flag: 0,
+        live: [0; TASKS],
+        processes: 0,
     }
 }
 

@@ -11,6 +11,7 @@ use Rattle.window.specs.Memories.{Memory, memory, cell, tagOf, wordOf}
 use Rattle.step.specs.declared.Queue.{Queue}
 use Rattle.step.specs.Queues.{places, listOf, ptCount}
 use Rattle.step.specs.State.{State}
+use Rattle.step.specs.Act.{tableOf}
 use Rattle.window.specs.Sound.{bits, qualitySound, tagSound, stateSound}
 use Rattle.step.specs.Soundness.{taskSound, kindSound, recordSound, ptSound, flagSound, hasRow, distinct, totalSound, windowsSound}
 use Rattle.refusal.specs.declared.Refusal.{Refusal}
@@ -180,11 +181,11 @@ pswTable (p ∷ ps) = set (pswTable ps) (p .pt) (p .psw)
 unfoldable pub memoryOf : List Cell → Memory
 memoryOf cells = memory (map tagOf cells) (map wordOf cells)
 
--- the state that reading gives
+-- the state that reading gives; the live counts are worked out
 unfoldable pub stateOf : Image → State
 stateOf i = record {
   rows = i .rows;
-  table = record { psw = pswTable (i .processes); queues = queuesOf tasks 1 (i .processes); flag = i .flag };
+  table = tableOf (pswTable (i .processes)) (queuesOf tasks 1 (i .processes)) (i .flag);
   constants = memoryOf (i .constants);
   registers = memoryOf (i .registers);
   program = i .program;

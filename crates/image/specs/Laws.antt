@@ -10,6 +10,7 @@ pub mod Again
 pub mod Fields
 pub mod DecodeSound
 pub mod Trips
+pub mod LiveCounts
 pub mod Opened
 pub mod Refusals
 pub mod Sections

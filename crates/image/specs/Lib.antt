@@ -4,6 +4,7 @@ pub mod Sections
 pub mod Fields
 pub mod Demand3
 pub mod RoundTrips
+pub mod LiveCounts
 pub mod SectionNumbers
 pub mod Trials
 pub mod Laws

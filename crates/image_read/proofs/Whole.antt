@@ -1,16 +1,22 @@
 -- The buffers, filled section by section, hold the state that is read.
 use Prim.Native.Nat.{ℕ, _+_, _*_}
-use mathlib.Core.Path.{_≡_}
+use mathlib.Core.Path.{_≡_, sym, ap₂, _∙_}
 use mathlib.Core.List.{List}
 use Rattle.window.specs.declared.Row.{Row}
 use Rattle.step.specs.declared.ProcessTable.{ProcessTable}
+use Rattle.step.specs.Queues.{liveCounts, liveTotal}
+use Rattle.image.specs.Codec.{Bytes}
+use Rattle.image.specs.Laws.Accepted.{decode-accepted}
+use Rattle.image.specs.Laws.LiveCounts.{accepted-total}
 use Rattle.image.specs.Image.{queuesOf, pswTable, memoryOf, stateOf, rowLength, processLength}
 use Rattle.image.specs.Fields.{over}
 use Rattle.image_bytes.specs.Code.Reading.{fieldAt, wordsAt, cellsAt}
 use Rattle.library.specs.declared.Sizes.{Sizes}
 use Rattle.library.specs.Buffers.{holding}
 use Rattle.library.specs.Held.{lentBuffers}
-use Rattle.image_check.specs.Code.Places.{processesAt, processesPlace, constantsPlace, registersPlace, programPlace, dataPlace, imageAt}
+use Rattle.image_bytes.specs.Laws.Listed.{length-listed}
+use Rattle.image_check.specs.Laws.Found.{Found}
+use Rattle.image_check.specs.Code.Places.{processAt, processesAt, processesPlace, constantsPlace, registersPlace, programPlace, dataPlace, imageAt}
 
 -- where the section of the constants stands, behind that of m processes
 abbrev pub constantsAt : (n : Sizes) (m : ℕ) → ℕ
@@ -30,12 +36,27 @@ pub all-filled : (n : Sizes) (m : ℕ) (s : List ℕ) (rows : List Row) (t : Pro
 unfolding holding stateOf imageAt processesPlace constantsPlace registersPlace programPlace dataPlace
 all-filled n m s rows t constantTags constantWords registerTags registerWords program dataTags dataWords e c r p d = rw (c .0, c .1, r .0, r .1, p, d .0, d .1, e)
 
--- the table, from the section of m processes
-pub table-read : (n : Sizes) (m : ℕ) (s : List ℕ) {t : ProcessTable} → m ≡ fieldAt 1 (1 + rowLength * n .rows) s
+-- the table, from the section of m processes, all of which live
+pub table-read : (n : Sizes) (m : ℕ) (s : List ℕ) {t : ProcessTable} → Bytes s → Found n s → m ≡ fieldAt 1 (1 + rowLength * n .rows) s
     → t ≡ (record {
       psw = pswTable (processesAt m (1 + rowLength * n .rows + 2) s);
       queues = queuesOf 7 1 (processesAt m (1 + rowLength * n .rows + 2) s);
       flag = fieldAt 1 (1 + rowLength * n .rows + 1) s;
+      live = liveCounts (queuesOf 7 1 (processesAt m (1 + rowLength * n .rows + 2) s));
+      processes = m;
     }) → t ≡ stateOf (imageAt n s) .table
-unfolding stateOf imageAt processesPlace
-table-read n m s e f = rw (← e) f
+unfolding stateOf imageAt processesPlace processesAt
+table-read n m s hb f e i =
+    let k : liveTotal (queuesOf 7 1 (imageAt n s .processes)) ≡ m =
+    accepted-total (imageAt n s) (decode-accepted s hb (imageAt n s) (f .accepts) .0) ∙ length-listed processLength (λ p. processAt p s) _ _ ∙ sym e in
+    let at = 1 + rowLength * n .rows in
+    i
+    ∙ ap₂ {C = ProcessTable}
+    (λ j l. record {
+      psw = pswTable (processesAt j (at + 2) s);
+      queues = queuesOf 7 1 (processesAt j (at + 2) s);
+      flag = fieldAt 1 (at + 1) s;
+      live = liveCounts (queuesOf 7 1 (processesAt j (at + 2) s));
+      processes = l;
+    })
+    e (sym k)

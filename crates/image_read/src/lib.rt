@@ -6,6 +6,7 @@ ghost use Prim.Native.Nat.{min, _+_, _-_, _*_, _≤_};
 ghost use lib.ListN.{length};
 ghost use Rattle.window.specs.declared.Row.{Row};
 ghost use Rattle.step.specs.declared.ProcessTable.{ProcessTable};
+ghost use Rattle.step.specs.Queues.{liveCounts};
 ghost use Rattle.image.specs.Fields.{over};
 ghost use Rattle.image.specs.Image.{ptsOf, queueOf, queuesOf, pswTable, memoryOf, stateOf, decode, processLength};
 ghost use Rattle.image_bytes.specs.Code.Reading.{fieldAt, wordsAt, cellsAt};
@@ -106,15 +107,21 @@ fn queues_at(image: &[u8], at: usize, m: usize) -> [Queue; TASKS]
     ]
 }
 
-// The table of the section at `at`: the flag stands behind the count m, and the processes behind the flag.
+// The table of the section at `at`: the flag stands behind the count m, and the processes behind the flag. All of them live.
 fn table_at(image: &[u8], at: usize, m: usize) -> ProcessTable
     requires { ⌜ (at ≤ 1024) × (m ≤ 64) ⌝ }
-    ensures { λ r. ⌜ r ≡ record { psw = pswTable (processesAt m (at + 2) (now (image .entry))); queues = queuesOf 7 1 (processesAt m (at + 2) (now (image .entry))); flag = fieldAt 1 (at + 1) (now (image .entry)) } ⌝ }
+    ensures { λ r. ⌜ r ≡ record { psw = pswTable (processesAt m (at + 2) (now (image .entry))); queues = queuesOf 7 1 (processesAt m (at + 2) (now (image .entry))); flag = fieldAt 1 (at + 1) (now (image .entry)); live = liveCounts (queuesOf 7 1 (processesAt m (at + 2) (now (image .entry)))); processes = m } ⌝ }
 {
     let flag = image_bytes::number_at(image, at + 1, 1) as u8;
     let psw = psws_at(image, at + 2, m);
     let queues = queues_at(image, at + 2, m);
-    ProcessTable { psw, queues, flag }
+    ProcessTable {
+        psw,
+        queues,
+        flag,
+        live: step_queue::live_counts(queues),
+        processes: m,
+    }
 }
 
 // ---- buffers

@@ -13,12 +13,12 @@ use Rattle.word.specs.Laws.Bools.{and-left, and-right}
 use Rattle.window.specs.Memories.{Memory}
 use Rattle.refusal.specs.declared.Refusal.the-variants.{ShortBuffer, UnsoundState}
 use Rattle.step.specs.declared.ProcessTable.{ProcessTable}
-use Rattle.step.specs.Queues.{occ, livePts}
+use Rattle.step.specs.Queues.{occ, livePts, liveTotal}
 use Rattle.step.specs.State.{State}
 use Rattle.step.specs.Soundness.{every, distinct, ptSound, wordsSound, memorySound}
 use Rattle.step.specs.Laws.Occurrences.{length-once}
 use Rattle.step.specs.Laws.Every.{once-of, every-at}
-use Rattle.step.specs.Laws.Sound.{sound-parts}
+use Rattle.step.specs.Laws.Sound.{sound-parts, live-counted}
 use Rattle.image.specs.Image.{encode, rowLength, processLength}
 use Rattle.image_bytes.specs.Code.Writing.{laid, putAt}
 use Rattle.image_bytes.specs.Laws.Laid.{put-fits}
@@ -106,6 +106,11 @@ module _ (v : Rows) (table : ProcessTable) (constantTags constantWords registerT
         program = omega (arith, z .program, words-few (2 ^ 20) (take (n .program) program) (m .program));
         dataWords = omega (arith, z .dataWords, memory-few (2 ^ 20) _ (fieldsIn n held .dataWords) (m .dataWords));
       }
+
+  -- the total that is stored is the number of the processes
+  pub counted : table .processes ≡ length (livePts (table .queues))
+  unfolding fieldsIn liveTotal
+  counted = live-counted table (sound-parts (fieldsIn n held) (accepted n held fine .1) .table .counted) .1
 
   -- the slices that are cut to the sizes
   abbrev pub given : State

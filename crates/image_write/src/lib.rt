@@ -288,8 +288,7 @@ fn write_sound(
     requires { ⌜ stateRefused n (lentBuffers (heldRows rows) table (now «constant_tags») (now «constant_words») (now «register_tags») (now «register_words») (now program) (now data_tags) (now data_words)) ≡ false ⌝ }
     ensures { λ r. ⌜ WritePromise n (lentBuffers (heldRows rows) table (now («constant_tags» .entry)) (now («constant_words» .entry)) (now («register_tags» .entry)) (now («register_words» .entry)) (now (program .entry)) (now (data_tags .entry)) (now (data_words .entry))) r (now (output .entry)) (now (output .exit)) ⌝ }
 {
-    let queues = table.queues;
-    let m = step_soundness::live(queues);
+    let m = table.processes;
     if output.len() < size(n, m) {
         return WriteAnswer::Refused(Refusal::ShortBuffer);
     }

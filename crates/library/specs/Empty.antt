@@ -5,6 +5,7 @@ use Rattle.window.specs.declared.Row.{Row}
 use Rattle.window.specs.Limits.{tasks}
 use Rattle.step.specs.declared.Queue.{Queue}
 use Rattle.step.specs.declared.ProcessTable.{ProcessTable}
+use Rattle.step.specs.Act.{tableOf}
 use Rattle.step.specs.Queues.{places, ptCount}
 use Rattle.step.specs.Step.{noTrap}
 
@@ -22,4 +23,4 @@ emptyQueue = record { pts = replicate places 0; head = 0; len = 0 }
 
 -- the process table of seven such queues; the create fault flag is down
 unfoldable pub noProcesses : ProcessTable
-noProcesses = record { psw = replicate ptCount 0; queues = replicate tasks emptyQueue; flag = 0 }
+noProcesses = tableOf (replicate ptCount 0) (replicate tasks emptyQueue) 0

@@ -8,6 +8,7 @@ use Rattle.refusal.specs.declared.Refusal.{Refusal}
 use Rattle.refusal.specs.Numbers.{numberOf}
 use Rattle.window.specs.Memories.{cell}
 use Rattle.step.specs.declared.ProcessTable.{ProcessTable}
+use Rattle.step.specs.Act.{tableOf}
 use Rattle.step.specs.declared.Ending.the-variants.{Executed, Idle}
 use Rattle.image.specs.Image.{Image, imageCodec, queueOf, stateOf}
 use Rattle.library.specs.declared.Sizes.{Sizes}
@@ -110,10 +111,14 @@ withQuality q = withParts (stateOf trialImage .table) (q ∷ [])
 
 -- tables that no image gives: a PT twice; a process of a task that has no row
 unfoldable pub ptTwice : ProcessTable
-ptTwice = record { psw = replicate 64 0; queues = queueOf [] ∷ queueOf (4 ∷ 4 ∷ []) ∷ replicate 5 (queueOf []); flag = 0 }
+ptTwice = tableOf (replicate 64 0) (queueOf [] ∷ queueOf (4 ∷ 4 ∷ []) ∷ replicate 5 (queueOf [])) 0
 
 unfoldable pub unlisted : ProcessTable
-unlisted = record { psw = replicate 64 0; queues = queueOf (4 ∷ []) ∷ replicate 6 (queueOf []); flag = 0 }
+unlisted = tableOf (replicate 64 0) (queueOf (4 ∷ []) ∷ replicate 6 (queueOf [])) 0
+
+-- task 2 has its process, and these live counts are stored
+unfoldable pub withLive : (live : List ℕ) → (processes : ℕ) → Buffers
+withLive live n = withTable (record { psw = replicate 64 0; queues = queueOf [] ∷ queueOf (4 ∷ []) ∷ replicate 5 (queueOf []); flag = 0; live = live; processes = n })
 
 -- ---- the trials
 
@@ -149,6 +154,13 @@ pub record RunTrials : Type 0 where
   pub twice : numbered (runRefusal trialSizes (withTable ptTwice) (0 ∷ [])) ≡ 8
   pub quality : numbered (runRefusal trialSizes (withQuality 7) (0 ∷ [])) ≡ 8
   pub stray : numbered (runRefusal trialSizes (withTable unlisted) (2 ∷ [])) ≡ 8
+  -- the live counts that its queues have; one more and one less of task 2 and in all, and one of a task without processes: 8
+  pub counted : numbered (runRefusal trialSizes (withLive (0 ∷ 1 ∷ replicate 5 0) 1) (2 ∷ [])) ≡ 0
+  pub countUp : numbered (runRefusal trialSizes (withLive (0 ∷ 2 ∷ replicate 5 0) 1) (2 ∷ [])) ≡ 8
+  pub countDown : numbered (runRefusal trialSizes (withLive (replicate 7 0) 1) (2 ∷ [])) ≡ 8
+  pub countAside : numbered (runRefusal trialSizes (withLive (1 ∷ 0 ∷ replicate 5 0) 1) (2 ∷ [])) ≡ 8
+  pub totalUp : numbered (runRefusal trialSizes (withLive (0 ∷ 1 ∷ replicate 5 0) 2) (2 ∷ [])) ≡ 8
+  pub totalDown : numbered (runRefusal trialSizes (withLive (0 ∷ 1 ∷ replicate 5 0) 0) (2 ∷ [])) ≡ 8
   -- a state that is one, and a list that is refused: 9, 10
   pub long : numbered (runRefusal trialSizes (buffersOf exact) (replicate 65536 2)) ≡ 9
   pub item : numbered (runRefusal trialSizes (buffersOf exact) (2 ∷ 0 ∷ [])) ≡ 10
@@ -158,6 +170,7 @@ pub record RunTrials : Type 0 where
 pub record StepTrials : Type 0 where
   -- a state that no image reads as: 8, before 10; a state that is one, and a task that isn't: 10
   pub first : numbered (stepRefusal trialSizes (withTable ptTwice) 0) ≡ 8
+  pub counted : numbered (stepRefusal trialSizes (withLive (0 ∷ 2 ∷ replicate 5 0) 1) 2) ≡ 8
   pub low : numbered (stepRefusal trialSizes (buffersOf exact) 0) ≡ 10
   pub high : numbered (stepRefusal trialSizes (buffersOf exact) 8) ≡ 10
   -- refused: nothing is touched
@@ -175,6 +188,12 @@ pub record WriteTrials : Type 0 where
   pub short : numbered (writeRefusal trialSizes (buffersOf exact) (length trialBytes - 1)) ≡ 7
   -- 8 comes before 7
   pub first : numbered (writeRefusal trialSizes (withTable ptTwice) 0) ≡ 8
+  -- live counts as its queues have them; one more and one less of task 2 and in all: 8
+  pub counted : numbered (writeRefusal trialSizes (withLive (0 ∷ 1 ∷ replicate 5 0) 1) 1000) ≡ 0
+  pub countUp : numbered (writeRefusal trialSizes (withLive (0 ∷ 2 ∷ replicate 5 0) 1) 1000) ≡ 8
+  pub countDown : numbered (writeRefusal trialSizes (withLive (replicate 7 0) 1) 1000) ≡ 8
+  pub totalUp : numbered (writeRefusal trialSizes (withLive (0 ∷ 1 ∷ replicate 5 0) 2) 1000) ≡ 8
+  pub totalDown : numbered (writeRefusal trialSizes (withLive (0 ∷ 1 ∷ replicate 5 0) 0) 1000) ≡ 8
   -- the answer is the length; the bytes are those that were read, and beyond them nothing is touched
   pub answer : writeAnswer trialSizes (buffersOf exact) 1000 ≡ answers (length trialBytes)
   pub bytes : writeLeaves trialSizes (buffersOf exact) (replicate 300 9) ≡ trialBytes ++ drop (length trialBytes) (replicate 300 9)
@@ -182,7 +201,7 @@ pub record WriteTrials : Type 0 where
 
 -- naming this opens what the trials use
 unfoldable pub trialled : ℕ
-unfolding opened numbered trialImage trialBytes trialSizes roomLess noBuffers buffersOf withParts withTable withQuality ptTwice unlisted
+unfolding opened numbered trialImage trialBytes trialSizes roomLess noBuffers buffersOf withParts withTable withQuality ptTwice unlisted withLive
 trialled = 0
 
 pub read-trials : ReadTrials
@@ -217,6 +236,12 @@ run-trials = record {
   twice = refl;
   quality = refl;
   stray = refl;
+  counted = refl;
+  countUp = refl;
+  countDown = refl;
+  countAside = refl;
+  totalUp = refl;
+  totalDown = refl;
   long = refl;
   item = refl;
   left = refl;
@@ -226,6 +251,7 @@ pub step-trials : StepTrials
 unfolding trialled
 step-trials = record {
   first = refl;
+  counted = refl;
   low = refl;
   high = refl;
   left = refl;
@@ -237,4 +263,16 @@ step-trials = record {
 
 pub write-trials : WriteTrials
 unfolding trialled
-write-trials = record { enough = refl; short = refl; first = refl; answer = refl; bytes = refl; left = refl }
+write-trials = record {
+  enough = refl;
+  short = refl;
+  first = refl;
+  counted = refl;
+  countUp = refl;
+  countDown = refl;
+  totalUp = refl;
+  totalDown = refl;
+  answer = refl;
+  bytes = refl;
+  left = refl;
+}

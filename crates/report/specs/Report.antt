@@ -8,7 +8,7 @@ use lib.ListN.{length}
 use Rattle.word.specs.Fields.{pcOf}
 use Rattle.window.specs.declared.Row.{Row}
 use Rattle.step.specs.declared.ProcessTable.{ProcessTable}
-use Rattle.step.specs.State.{processesOf}
+use Rattle.step.specs.State.{liveCount}
 use Rattle.step.specs.Step.{noTrap}
 use Rattle.run.specs.declared.Counts.{Counts}
 use Rattle.refusal.specs.declared.Refusal.{Refusal}
@@ -61,7 +61,7 @@ pcText kind psw = cond (eqb kind noTrap) (45 ∷ 45 ∷ 45 ∷ 45 ∷ 45 ∷ [])
 unfoldable pub rowLine : ProcessTable → Row → List ℕ
 rowLine table r =
     decimal (r .task)
-    ++ (space ++ decimal (length (processesOf table (r .task))))
+    ++ (space ++ decimal (liveCount table (r .task)))
     ++ (space ++ kindText (r .kind))
     ++ (space ++ pcText (r .kind) (r .psw))
     ++ newline

@@ -14,10 +14,11 @@ use Rattle.operation.specs.declared.Trap.the-variants.{CreateFault, ProtectionV
 use Rattle.operation.specs.Exclusions.{instructionWord, Excluded, excluded}
 use Rattle.step.specs.declared.Ending.the-variants.{Executed, Trapped}
 use Rattle.step.specs.State.{State}
-use Rattle.step.specs.Act.{Stepped}
+use Rattle.step.specs.Act.{tableOf, Stepped}
 use Rattle.step.specs.Step.{step}
 use Rattle.image.specs.Image.{queueOf}
-use Rattle.report.specs.Report.{outputOf}
+use Rattle.run.specs.Run.{run}
+use Rattle.report.specs.Report.{reportOf, outputOf}
 use Rattle.report.specs.Letters.{letters, unspaced, hexValue, pairsOf, hexBytes}
 use Rattle.report.specs.Laws.Opened.{opened}
 
@@ -34,7 +35,7 @@ upTo (suc n) = upTo n ++ (n ∷ [])
 unfoldable pub machine : (live w s1 s2 : ℕ) → State
 machine live w s1 s2 = record {
   rows = trialRow ∷ [];
-  table = record { psw = replicate 64 0; queues = queueOf (upTo live) ∷ replicate 6 (queueOf []); flag = 0 };
+  table = tableOf (replicate 64 0) (queueOf (upTo live) ∷ replicate 6 (queueOf [])) 0;
   constants = memory (0 ∷ []) (77 ∷ []);
   registers = memory (replicate 6 0 ++ (5 ∷ 0 ∷ [])) (replicate 6 0 ++ (s2 ∷ s1 ∷ []));
   program = w ∷ replicate 15 0;
@@ -136,8 +137,10 @@ pub record Trials : Type 0 where
   pub printed : outputOf printedInput ≡ printedOutput
   -- two items: the second finds the task trapped
   pub two : outputOf twoItems ≡ letters "1 1 14 00000\nE0 W0 T1 I1 CF0\n"
+  -- three processes, of which two leave by QT always
+  pub quits : reportOf (run (1 ∷ 1 ∷ []) (machine 3 (instructionWord 0x1970 0 0 0x4000) 0 0)) ≡ letters "1 1 -- -----\nE2 W0 T0 I0 CF0\n"
   pub exclusions : Excluded
 
 pub trials : Trials
-unfolding opened letters unspaced hexValue pairsOf hexBytes printedInput printedOutput twoItems
-trials = record { starred-ones = starred; printed = refl; two = refl; exclusions = excluded }
+unfolding opened letters unspaced hexValue pairsOf hexBytes printedInput printedOutput twoItems instructionWord trialRow upTo machine
+trials = record { starred-ones = starred; printed = refl; two = refl; quits = refl; exclusions = excluded }

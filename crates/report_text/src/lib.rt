@@ -9,7 +9,7 @@ ghost use mathlib.Core.Path.{_≡_};
 ghost use mathlib.Core.List.{[], _∷_, _++_};
 ghost use Prim.Native.Nat.{_+_, _*_, _%_, _≤_};
 ghost use lib.ListN.{length, take};
-ghost use Rattle.step.specs.State.{processesOf};
+ghost use Rattle.step.specs.State.{liveCount};
 ghost use Rattle.report.specs.Report.{decimalBy, decimal, hexDigit, hex, kindText, pcText, rowLine, rowLines, countsLine, refusalLine};
 ghost use Rattle.report_text.specs.Texts.{reportRoom, shown, appended, longestRow, longestReport, copiedInto};
 ghost use Rattle.window.specs.Limits.{tasks};
@@ -111,11 +111,11 @@ fn push_pc(t: Text, kind: u8, psw: u64) -> Text
 
 // How many live processes a task has.
 fn live(table: ProcessTable, task: u8) -> u64
-    ensures { λ r. ⌜ r ≡ length (processesOf table task) ⌝ }
+    ensures { λ r. ⌜ r ≡ liveCount table task ⌝ }
 {
     let at = if task == 0 { 0 } else { task as usize - 1 };
     if at < TASKS {
-        return table.queues[at].len as u64;
+        return table.live[at] as u64;
     }
     0
 }

@@ -1,14 +1,18 @@
--- What holds of every run: the four counts add up to the items, the create fault flag never falls, a sound state stays sound.
-use mathlib.Core.Path.{_≡_}
+-- What holds of every run: the four counts add up to the items, the create fault flag never falls, the live counts stay those found by counting, a
+-- sound state stays sound.
+use mathlib.Core.Path.{_≡_, sym, subst}
 use mathlib.Core.Bool.{true}
 use mathlib.Core.List.{List}
 use Prim.Native.Nat.{ℕ, _+_}
 use lib.ListN.{length}
+use Rattle.operation.specs.Environment.{Environment}
+use Rattle.operation.specs.declared.Decision.{Decision}
 use Rattle.step.specs.State.{State}
+use Rattle.step.specs.LiveCounts.{Counted}
 use Rattle.step.specs.Soundness.{sound}
 use Rattle.run.specs.declared.Counts.{Counts}
-use Rattle.run.specs.Run.{run}
-use Rattle.run.specs.Laws.Run.{run-counts, run-flag, run-flag-up}
+use Rattle.run.specs.Run.{runBy, run}
+use Rattle.run.specs.Laws.Run.{run-after, after-counted, run-counts, run-flag, run-flag-up}
 use Rattle.run.specs.Laws.RunSound.{run-sound}
 
 -- executed + waved + trapped + idle = items
@@ -23,6 +27,11 @@ flag-never-falls schedule s z = run-flag schedule s z
 -- once up, it is up after any run
 pub flag-stays-up : (schedule : List ℕ) (s : State) → s .table .flag ≡ 1 → run schedule s .state .table .flag ≡ 1
 flag-stays-up schedule s u = run-flag-up schedule s u
+
+-- the live counts that are stored stay those found by counting, over any instruction set
+pub run-keeps-counted : (instructions : Environment → Decision) (schedule : List ℕ) (s : State) (c : Counts) → Counted (s .table)
+    → Counted (runBy instructions schedule s c .state .table)
+run-keeps-counted instructions schedule s c k = subst (λ (x : State). Counted (x .table)) (sym (run-after instructions schedule s c)) (after-counted instructions schedule s k)
 
 -- what was read and run can always be written
 pub run-keeps-sound : (schedule : List ℕ) (s : State) → sound s ≡ true → sound (run schedule s .state) ≡ true

@@ -1,23 +1,22 @@
 // A run over a schedule: the refusals 8, 9 and 10, then one step an item.
 ghost use mathlib.Core.Path.{_≡_};
-ghost use mathlib.Core.Bool.{true, false, cond, not, _&&_};
+ghost use mathlib.Core.Bool.{true, false, cond, _&&_};
 ghost use mathlib.Core.List.{List};
 ghost use Prim.Native.Nat.{ℕ, _+_, _-_, _*_, _%_, _^_, _≤_, _<_};
-ghost use lib.Dec.{eqb};
 ghost use lib.Count.{trailingZeros};
-ghost use lib.ListN.{length, getD, set, drop};
+ghost use lib.ListN.{length, getD, set, take, drop};
 ghost use Rattle.operation.specs.Environment.{kindOf};
 ghost use Rattle.operation.specs.declared.Course.the-variants.{Creates};
 ghost use Rattle.window.specs.Memories.{memory};
 ghost use Rattle.step.specs.declared.Ending.the-variants.{Trapped};
-ghost use Rattle.step.specs.Queues.{livePts, turned, shifted, joined};
+ghost use Rattle.step.specs.Queues.{total, belowTotal, livePts, liveTotal, turned, shifted, joined};
 ghost use Rattle.step.specs.Act.{tableOf};
-ghost use Rattle.step.specs.Code.Parts.{belowTotal};
 ghost use Rattle.step.specs.Code.Performs.{courseResult};
 ghost use Rattle.step.specs.Soundness.{every};
 ghost use Rattle.step_queue.specs.Code.Mask.{freeAfter};
-ghost use Rattle.run_rings.specs.Code.Rings.{Moves, queuesIn, ringPlaces};
+ghost use Rattle.run_rings.specs.Code.Rings.{Moves, ringPlaces};
 ghost use Rattle.run_rings.specs.Code.Settled.{Ready, Settled};
+ghost use Rattle.run_rings.specs.Code.Laid.{noTasks, tasksLaid};
 ghost use Rattle.run_rings.specs.Code.Numbers.{Numbers, Carried, Steps};
 ghost use Rattle.run.specs.Run.{counted, run};
 ghost use Rattle.run.specs.Schedule.{itemSound};
@@ -39,6 +38,7 @@ use refusal::Refusal;
 use run::Counts;
 use run::MOST_ITEMS;
 use run_rings::SPANS;
+use run_rings::Tasks;
 use step::Ending;
 use step::NO_TRAP;
 use step::PLACES;
@@ -55,6 +55,7 @@ pub struct Left {
     pub rows: [Row; TASKS],
     pub queues: [Queue; TASKS],
     pub flag: u8,
+    pub processes: usize,
     pub counts: Counts,
 }
 
@@ -152,30 +153,43 @@ fn given(free: u64, p: usize) -> u64
     free + (1u64 << p)
 }
 
-// The head leaves ring k, and its PT is free again.
-fn quit(heads: &mut [usize], lens: &mut [usize], free: &mut u64, k: usize, len: usize, p: usize)
-    requires { ⌜ (k < length (now heads)) × (k < length (now lens)) × (getD (now lens) k 0 ≡ len) × (0 < len) × (p < 64) × (now free + 2 ^ p < 2 ^ 64) ⌝ }
-    ensures { λ _. ⌜ ((pts : List ℕ) → Moves k shifted pts (now (heads .entry)) (now (lens .entry)) pts (now (heads .exit)) (now (lens .exit))) × (now (free .exit) ≡ now (free .entry) + 2 ^ p) ⌝ }
+// The head leaves ring k: its PT is free again, and one process fewer lives.
+fn quit(
+    heads: &mut [usize],
+    lens: &mut [usize],
+    free: &mut u64,
+    processes: &mut usize,
+    k: usize,
+    len: usize,
+    p: usize,
+)
+    requires { ⌜ (k < length (now heads)) × (k < length (now lens)) × (getD (now lens) k 0 ≡ len) × (0 < len) × (p < 64) × (now free + 2 ^ p < 2 ^ 64) × (0 < now processes) ⌝ }
+    ensures { λ _. ⌜ ((pts : List ℕ) → Moves k shifted pts (now (heads .entry)) (now (lens .entry)) pts (now (heads .exit)) (now (lens .exit))) × (now (free .exit) ≡ now (free .entry) + 2 ^ p) × (now (processes .exit) ≡ now (processes .entry) - 1) ⌝ }
 {
     *free = given(*free, p);
+    *processes = *processes - 1;
     leave(heads, lens, k, len);
 }
 
-// The PT p is taken and joins ring k: behind the head gone to the tail where a PT is left, else with the head staying head. Answers whether one is left.
+// The PT p is taken and joins ring k: behind the head gone to the tail where one process more is below the total, else with the head staying head.
+// Answers whether it is.
 fn create(
     pts: &mut [u8],
     heads: &mut [usize],
     lens: &mut [usize],
     free: &mut u64,
+    processes: &mut usize,
     k: usize,
     len: usize,
     p: usize,
 ) -> bool
-    requires { ⌜ (64 * k + 64 ≤ length (now pts)) × (k < length (now heads)) × (k < length (now lens)) × (getD (now lens) k 0 ≡ len) × (len < 64) × (p < 64) × (2 ^ p ≤ now free) ⌝ }
-    ensures { λ r. ⌜ Moves k (λ q. joined (cond r (turned q) q) p) (now (pts .entry)) (now (heads .entry)) (now (lens .entry)) (now (pts .exit)) (now (heads .exit)) (now (lens .exit)) × (now (free .exit) ≡ now (free .entry) - 2 ^ p) × (r ≡ not (eqb (now (free .entry) - 2 ^ p) 0)) ⌝ }
+    requires { ⌜ (64 * k + 64 ≤ length (now pts)) × (k < length (now heads)) × (k < length (now lens)) × (getD (now lens) k 0 ≡ len) × (len < 64) × (p < 64) × (2 ^ p ≤ now free) × (now processes < total) ⌝ }
+    ensures { λ r. ⌜ Moves k (λ q. joined (cond r (turned q) q) p) (now (pts .entry)) (now (heads .entry)) (now (lens .entry)) (now (pts .exit)) (now (heads .exit)) (now (lens .exit)) × (now (free .exit) ≡ now (free .entry) - 2 ^ p) × (now (processes .exit) ≡ now (processes .entry) + 1) × (r ≡ belowTotal (now (processes .entry))) ⌝ }
 {
+    let below = step_queue::below_total(*processes);
     *free = taken(*free, p);
-    if *free == 0 {
+    *processes = *processes + 1;
+    if !below {
         join(pts, heads, lens, k, len, p as u8);
         return false;
     }
@@ -209,11 +223,12 @@ fn created(
     lens: &mut [usize],
     flag: &mut u8,
     free: &mut u64,
+    processes: &mut usize,
 ) -> Ending
-    requires { ⌜ (1 ≤ t) × (t ≤ tasks) × (8 ≤ length (now kinds)) × (8 ≤ length (now stored)) × (ringPlaces ≤ length (now pts)) × (8 ≤ length (now heads)) × (8 ≤ length (now lens)) × Ready t Creates (now pts) (now heads) (now lens) (now free) × (getD (now lens) t 0 ≡ len) × (fresh ≡ trailingZeros 64 (now free)) ⌝ }
-    ensures { λ r. ⌜ Settled t (courseResult fresh (belowTotal (queuesIn (now (pts .entry)) (now (heads .entry)) (now (lens .entry)))) p Creates) r (now (kinds .entry)) (now (stored .entry)) (now (pts .entry)) (now (heads .entry)) (now (lens .entry)) (now (flag .entry)) (now (kinds .exit)) (now (stored .exit)) (now (pts .exit)) (now (heads .exit)) (now (lens .exit)) (now (flag .exit)) (now (free .exit)) ⌝ }
+    requires { ⌜ (1 ≤ t) × (t ≤ tasks) × (8 ≤ length (now kinds)) × (8 ≤ length (now stored)) × (ringPlaces ≤ length (now pts)) × (8 ≤ length (now heads)) × (8 ≤ length (now lens)) × Ready t Creates (now pts) (now heads) (now lens) (now free) (now processes) × (getD (now lens) t 0 ≡ len) × (fresh ≡ trailingZeros 64 (now free)) ⌝ }
+    ensures { λ r. ⌜ Settled t (courseResult fresh (belowTotal (now (processes .entry))) p Creates) r (now (kinds .entry)) (now (stored .entry)) (now (pts .entry)) (now (heads .entry)) (now (lens .entry)) (now (flag .entry)) (now (kinds .exit)) (now (stored .exit)) (now (pts .exit)) (now (heads .exit)) (now (lens .exit)) (now (flag .exit)) (now (free .exit)) (now (processes .exit)) ⌝ }
 {
-    if create(pts, heads, lens, free, t, len, fresh) {
+    if create(pts, heads, lens, free, processes, t, len, fresh) {
         return Ending::Executed;
     }
     *flag = 1;
@@ -235,9 +250,10 @@ fn settle(
     lens: &mut [usize],
     flag: &mut u8,
     free: &mut u64,
+    processes: &mut usize,
 ) -> Ending
-    requires { ⌜ (1 ≤ t) × (t ≤ tasks) × (8 ≤ length (now kinds)) × (8 ≤ length (now stored)) × (ringPlaces ≤ length (now pts)) × (8 ≤ length (now heads)) × (8 ≤ length (now lens)) × Ready t c (now pts) (now heads) (now lens) (now free) × (getD (now lens) t 0 ≡ len) × (pt ≡ getD (now pts) (64 * t + getD (now heads) t 0 % 64) 0) × (fresh ≡ trailingZeros 64 (now free)) ⌝ }
-    ensures { λ r. ⌜ Settled t (courseResult fresh (belowTotal (queuesIn (now (pts .entry)) (now (heads .entry)) (now (lens .entry)))) p c) r (now (kinds .entry)) (now (stored .entry)) (now (pts .entry)) (now (heads .entry)) (now (lens .entry)) (now (flag .entry)) (now (kinds .exit)) (now (stored .exit)) (now (pts .exit)) (now (heads .exit)) (now (lens .exit)) (now (flag .exit)) (now (free .exit)) ⌝ }
+    requires { ⌜ (1 ≤ t) × (t ≤ tasks) × (8 ≤ length (now kinds)) × (8 ≤ length (now stored)) × (ringPlaces ≤ length (now pts)) × (8 ≤ length (now heads)) × (8 ≤ length (now lens)) × Ready t c (now pts) (now heads) (now lens) (now free) (now processes) × (getD (now lens) t 0 ≡ len) × (pt ≡ getD (now pts) (64 * t + getD (now heads) t 0 % 64) 0) × (fresh ≡ trailingZeros 64 (now free)) ⌝ }
+    ensures { λ r. ⌜ Settled t (courseResult fresh (belowTotal (now (processes .entry))) p c) r (now (kinds .entry)) (now (stored .entry)) (now (pts .entry)) (now (heads .entry)) (now (lens .entry)) (now (flag .entry)) (now (kinds .exit)) (now (stored .exit)) (now (pts .exit)) (now (heads .exit)) (now (lens .exit)) (now (flag .exit)) (now (free .exit)) (now (processes .exit)) ⌝ }
 {
     match c {
         Course::Continues => {
@@ -249,7 +265,7 @@ fn settle(
             Ending::Waved
         }
         Course::Quits => {
-            quit(heads, lens, free, t, len, pt);
+            quit(heads, lens, free, processes, t, len, pt);
             Ending::Executed
         }
         Course::Creates => created(
@@ -264,6 +280,7 @@ fn settle(
             lens,
             flag,
             free,
+            processes,
         ),
         Course::CreateFault => trap(kinds, stored, t, Trap::CreateFault, p),
         Course::IllegalInstruction => trap(kinds, stored, t, Trap::IllegalInstruction, p),
@@ -287,6 +304,7 @@ fn step_task(
     psws: &mut [u64],
     flag: &mut u8,
     free: &mut u64,
+    processes: &mut usize,
     constant_tags: &[u8],
     constant_words: &[u64],
     register_tags: &mut [u8],
@@ -295,8 +313,8 @@ fn step_task(
     data_tags: &mut [u8],
     data_words: &mut [u64],
 ) -> Ending
-    requires { ⌜ (1 ≤ t) × (t ≤ tasks) × (64 ≤ length (now spans)) × (8 ≤ length (now kinds)) × (8 ≤ length (now stored)) × (ringPlaces ≤ length (now pts)) × (8 ≤ length (now heads)) × (8 ≤ length (now lens)) × Carried (now spans) (now kinds) (now stored) (now pts) (now heads) (now lens) (now psws) (now flag) (now free) (memory (now «constant_tags») (now «constant_words»)) (now «register_tags») (now «register_words») (now program) (now data_tags) (now data_words) ⌝ }
-    ensures { λ r. ⌜ ((rows : List Row) → Numbers rows (now (spans .entry)) (now (kinds .entry)) (now (stored .entry)) (now (pts .entry)) (now (heads .entry)) (now (lens .entry)) (now (psws .entry)) (now (flag .entry)) (now (free .entry)) (memory (now («constant_tags» .entry)) (now («constant_words» .entry))) (now («register_tags» .entry)) (now («register_words» .entry)) (now (program .entry)) (now (data_tags .entry)) (now (data_words .entry)) → Steps t r rows (now (spans .entry)) (now (kinds .entry)) (now (stored .entry)) (now (pts .entry)) (now (heads .entry)) (now (lens .entry)) (now (psws .entry)) (now (flag .entry)) (now («register_tags» .entry)) (now («register_words» .entry)) (now (data_tags .entry)) (now (data_words .entry)) (now (kinds .exit)) (now (stored .exit)) (now (pts .exit)) (now (heads .exit)) (now (lens .exit)) (now (psws .exit)) (now (flag .exit)) (now (free .exit)) (now («register_tags» .exit)) (now («register_words» .exit)) (now (data_tags .exit)) (now (data_words .exit)) (memory (now («constant_tags» .entry)) (now («constant_words» .entry))) (now (program .entry))) ⌝ }
+    requires { ⌜ (1 ≤ t) × (t ≤ tasks) × (64 ≤ length (now spans)) × (8 ≤ length (now kinds)) × (8 ≤ length (now stored)) × (ringPlaces ≤ length (now pts)) × (8 ≤ length (now heads)) × (8 ≤ length (now lens)) × Carried (now spans) (now kinds) (now stored) (now pts) (now heads) (now lens) (now psws) (now flag) (now free) (now processes) (memory (now «constant_tags») (now «constant_words»)) (now «register_tags») (now «register_words») (now program) (now data_tags) (now data_words) ⌝ }
+    ensures { λ r. ⌜ ((rows : List Row) → Numbers rows (now (spans .entry)) (now (kinds .entry)) (now (stored .entry)) (now (pts .entry)) (now (heads .entry)) (now (lens .entry)) (now (psws .entry)) (now (flag .entry)) (now (free .entry)) (now (processes .entry)) (memory (now («constant_tags» .entry)) (now («constant_words» .entry))) (now («register_tags» .entry)) (now («register_words» .entry)) (now (program .entry)) (now (data_tags .entry)) (now (data_words .entry)) → Steps t r rows (now (spans .entry)) (now (kinds .entry)) (now (stored .entry)) (now (pts .entry)) (now (heads .entry)) (now (lens .entry)) (now (psws .entry)) (now (flag .entry)) (now («register_tags» .entry)) (now («register_words» .entry)) (now (data_tags .entry)) (now (data_words .entry)) (now (kinds .exit)) (now (stored .exit)) (now (pts .exit)) (now (heads .exit)) (now (lens .exit)) (now (psws .exit)) (now (flag .exit)) (now (free .exit)) (now (processes .exit)) (now («register_tags» .exit)) (now («register_words» .exit)) (now (data_tags .exit)) (now (data_words .exit)) (memory (now («constant_tags» .entry)) (now («constant_words» .entry))) (now (program .entry))) ⌝ }
 {
     if kinds[t] != NO_TRAP {
         return Ending::Idle;
@@ -345,6 +363,7 @@ fn step_task(
         lens,
         flag,
         free,
+        processes,
     )
 }
 
@@ -352,8 +371,10 @@ fn step_task(
 fn run_items(
     rows: [Row; TASKS],
     n: usize,
+    numbers: Tasks,
     queues: [Queue; TASKS],
     free: u64,
+    processes: usize,
     flag: u8,
     psws: &mut [u64],
     schedule: &[u8],
@@ -365,18 +386,18 @@ fn run_items(
     data_tags: &mut [u8],
     data_words: &mut [u64],
 ) -> Left
-    requires { ⌜ (every itemSound (now schedule) ≡ true) × (soundIn n (stateIn rows n (tableOf (now psws) queues flag) (memory (now «constant_tags») (now «constant_words»)) (now «register_tags») (now «register_words») (now program) (now data_tags) (now data_words)) ≡ true) × (free ≡ freeAfter (livePts queues) 18446744073709551615) ⌝ }
-    ensures { λ r. ⌜ (record { state = stateIn (r .rows) n (tableOf (now (psws .exit)) (r .queues) (r .flag)) (memory (now («constant_tags» .entry)) (now («constant_words» .entry))) (now («register_tags» .exit)) (now («register_words» .exit)) (now (program .entry)) (now (data_tags .exit)) (now (data_words .exit)); counts = r .counts } ≡ run (now (schedule .entry)) (stateIn rows n (tableOf (now (psws .entry)) queues flag) (memory (now («constant_tags» .entry)) (now («constant_words» .entry))) (now («register_tags» .entry)) (now («register_words» .entry)) (now (program .entry)) (now (data_tags .entry)) (now (data_words .entry)))) × (drop n (r .rows) ≡ drop n rows) ⌝ }
+    requires { ⌜ (every itemSound (now schedule) ≡ true) × (soundIn n (stateIn rows n (tableOf (now psws) queues flag) (memory (now «constant_tags») (now «constant_words»)) (now «register_tags») (now «register_words») (now program) (now data_tags) (now data_words)) ≡ true) × (numbers ≡ tasksLaid tasks 1 (take n rows) noTasks) × (free ≡ freeAfter (livePts queues) 18446744073709551615) × (processes ≡ liveTotal queues) ⌝ }
+    ensures { λ r. ⌜ (record { state = stateIn (r .rows) n (tableOf (now (psws .exit)) (r .queues) (r .flag)) (memory (now («constant_tags» .entry)) (now («constant_words» .entry))) (now («register_tags» .exit)) (now («register_words» .exit)) (now (program .entry)) (now (data_tags .exit)) (now (data_words .exit)); counts = r .counts } ≡ run (now (schedule .entry)) (stateIn rows n (tableOf (now (psws .entry)) queues flag) (memory (now («constant_tags» .entry)) (now («constant_words» .entry))) (now («register_tags» .entry)) (now («register_words» .entry)) (now (program .entry)) (now (data_tags .entry)) (now (data_words .entry)))) × (r .processes ≡ liveTotal (r .queues)) × (drop n (r .rows) ≡ drop n rows) ⌝ }
 {
     let laid = run_rings::rings_of(queues);
     let mut pts = laid.pts;
     let mut heads = laid.heads;
     let mut lens = laid.lens;
-    let tasks = run_rings::number_tasks(rows, n);
-    let mut kinds = tasks.kinds;
-    let mut stored = tasks.stored;
-    let spans = tasks.spans;
+    let mut kinds = numbers.kinds;
+    let mut stored = numbers.stored;
+    let spans = numbers.spans;
     let mut free = free;
+    let mut processes = processes;
     let mut flag = flag;
     let mut tally: [u64; ENDINGS] = [0; ENDINGS];
     let mut i = 0;
@@ -393,6 +414,7 @@ fn run_items(
             psws,
             &mut flag,
             &mut free,
+            &mut processes,
             constant_tags,
             constant_words,
             register_tags,
@@ -411,6 +433,7 @@ fn run_items(
         rows,
         queues,
         flag,
+        processes,
         counts,
     }
 }
@@ -476,8 +499,10 @@ fn run_cut(
     let left = run_items(
         at,
         n.rows,
+        run_rings::number_tasks(at, n.rows),
         queues,
         run_rings::free_mask(queues),
+        table.processes,
         table.flag,
         &mut psw,
         schedule,
@@ -498,6 +523,8 @@ fn run_cut(
             psw,
             queues,
             flag: left.flag,
+            live: step_queue::live_counts(queues),
+            processes: left.processes,
         },
         answer: RunAnswer::Counted(counts),
     }

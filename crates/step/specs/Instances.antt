@@ -10,6 +10,7 @@ use Rattle.step.specs.declared.Queue.{Queue}
 use Rattle.step.specs.declared.Ending.the-variants.{Waved}
 use Rattle.step.specs.Queues.{listOf}
 use Rattle.step.specs.State.{State, taskQueue}
+use Rattle.step.specs.Act.{tableOf}
 use Rattle.step.specs.Step.{step}
 use Rattle.step.specs.Laws.Opened.{opened}
 
@@ -17,16 +18,21 @@ use Rattle.step.specs.Laws.Opened.{opened}
 unfoldable pub trialQueue : List ℕ → ℕ → Queue
 trialQueue pts n = record { pts = pts ++ replicate 62 0; head = 0; len = n }
 
--- task 1 with the processes 3 and 5 at PC 0, registers 6 and 7, data words 32 to 63, all of them empty; register 7 has the word hex F8
-unfoldable pub trialState : (flag : ℕ) → (program : List ℕ) → State
-trialState flag program = record {
+-- task 1 with the processes 3 and 5 at PC 0, registers 6 and 7, data words 32 to 63, all of them empty; register 7 has the word hex F8. Task 2 has
+-- n processes
+unfoldable pub besideState : (n flag : ℕ) → (program : List ℕ) → State
+besideState n flag program = record {
   rows = exclusionRow ∷ [];
-  table = record { psw = replicate 64 0; queues = trialQueue (3 ∷ 5 ∷ []) 2 ∷ replicate 6 (trialQueue (0 ∷ 0 ∷ []) 0); flag = flag };
+  table = tableOf (replicate 64 0) (trialQueue (3 ∷ 5 ∷ []) 2 ∷ trialQueue (0 ∷ 0 ∷ []) n ∷ replicate 5 (trialQueue (0 ∷ 0 ∷ []) 0)) flag;
   constants = memory [] [];
   registers = memory (replicate 8 0) (replicate 7 0 ++ (0xF8 ∷ []));
   program = program ++ replicate 14 0;
   dataWords = memory (replicate 64 0) (replicate 64 9);
 }
+
+-- task 1 alone
+unfoldable pub trialState : (flag : ℕ) → (program : List ℕ) → State
+trialState flag program = besideState 0 flag program
 
 -- ending waved; rows, registers, data words, PSWs and flag as before; the head at the tail
 pub record WavedOnly (s : State) : Type 0 where
@@ -48,7 +54,7 @@ pub record WavedTrials : Type 0 where
   pub create : WavedOnly (trialState 1 (instructionWord 0x3970 0 0x1001 0x4000 ∷ 0 ∷ []))
 
 pub waved-trials : WavedTrials
-unfolding opened instructionWord exclusionRow trialQueue trialState
+unfolding opened instructionWord exclusionRow trialQueue besideState trialState
 waved-trials = record {
   access = record { ending = refl; rows = refl; registers = refl; dataWords = refl; psws = refl; flag = refl; before = refl; after = refl };
   datum = record { ending = refl; rows = refl; registers = refl; dataWords = refl; psws = refl; flag = refl; before = refl; after = refl };

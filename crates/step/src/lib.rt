@@ -9,6 +9,9 @@ pub const PLACES: usize = 64;
 // The PTs (process numbers 0 to 63), shared by all tasks.
 pub const PTS: usize = 64;
 
+// A create that makes this many processes faults.
+pub const TOTAL: usize = 64;
+
 // The trap kind of a row that has not trapped.
 pub const NO_TRAP: u8 = 0xFF;
 
@@ -19,11 +22,13 @@ pub struct Queue {
     pub len: usize,
 }
 
-// The PSW of each PT, the queue of each task (of task t at t - 1) and the create fault flag.
+// The PSW of each PT, the queue of each task (of task t at t - 1), the create fault flag, and how many processes live: of each task, and in all.
 pub struct ProcessTable {
     pub psw: [u64; PTS],
     pub queues: [Queue; TASKS],
     pub flag: u8,
+    pub live: [usize; TASKS],
+    pub processes: usize,
 }
 
 // How a step ends. A trap carries its kind and the PSW that is stored.

@@ -1,10 +1,12 @@
-// Queues by value: head to tail, leave and join; and the free PTs as a word, PT p at digit p from the right.
+// Queues by value: head to tail, leave and join; the live processes of each; and the free PTs as a word, PT p at digit p from the right.
 ghost use mathlib.Core.Path.{_≡_};
-ghost use Rattle.step.specs.Queues.{headOf, afterHead, tailIndex, listOf, turned, shifted, joined};
+ghost use Rattle.step.specs.Queues.{headOf, afterHead, tailIndex, listOf, turned, shifted, joined, liveCounts, belowTotal};
 ghost use Rattle.step_queue.specs.Code.Mask.{without, freeAfter};
 use step::PLACES;
 use step::PTS;
 use step::Queue;
+use step::TOTAL;
+use window::TASKS;
 
 // The first number that is no PT.
 const FIRST_NO_PT: u8 = PTS as u8;
@@ -70,6 +72,26 @@ pub fn join(q: Queue, pt: u8) -> Queue
     next.pts[tail] = pt;
     next.len = q.len + 1;
     next
+}
+
+// The live processes of each task.
+pub fn live_counts(queues: [Queue; TASKS]) -> [usize; TASKS]
+    ensures { λ r. ⌜ r ≡ liveCounts queues ⌝ }
+{
+    let mut counts = [0; TASKS];
+    let mut k = 0;
+    while k < TASKS {
+        counts[k] = queues[k].len;
+        k += 1;
+    }
+    counts
+}
+
+// Whether one process more than so many is fewer than the total.
+pub fn below_total(live: usize) -> bool
+    ensures { λ r. ⌜ r ≡ belowTotal live ⌝ }
+{
+    live < TOTAL - 1
 }
 
 // The word of free PTs without one.

@@ -1,6 +1,6 @@
 // One step of a task, its row and the process table by value: refusals 8 and 10, the instruction of the head process, and what becomes of queue, row and flag.
 ghost use mathlib.Core.Path.{_≡_};
-ghost use mathlib.Core.Bool.{false};
+ghost use mathlib.Core.Bool.{true, false};
 ghost use mathlib.Core.List.{List};
 ghost use Prim.Native.Nat.{ℕ, _≤_, _<_};
 ghost use lib.ListN.{getD, set, take};
@@ -10,12 +10,12 @@ ghost use Rattle.operation.specs.declared.Course.the-variants.{Creates};
 ghost use Rattle.operation.specs.Environment.{environmentOf};
 ghost use Rattle.operation.specs.Decide.{decide};
 ghost use Rattle.step.specs.declared.Ending.the-variants.{Idle};
-ghost use Rattle.step.specs.Queues.{lowestFree};
+ghost use Rattle.step.specs.Queues.{total, lowestFree};
 ghost use Rattle.step.specs.State.{state};
 ghost use Rattle.step.specs.Act.{trappedRow};
-ghost use Rattle.step.specs.Code.Parts.{belowTotal, rowAfter};
+ghost use Rattle.step.specs.Code.Parts.{rowAfter};
 ghost use Rattle.step.specs.Code.Performs.{Performs, courseResult};
-ghost use Rattle.step.specs.Soundness.{hasRow};
+ghost use Rattle.step.specs.Soundness.{hasRow, liveSound};
 ghost use Rattle.run.specs.Schedule.{itemSound};
 ghost use Rattle.run_rings.specs.Code.Spans.{Narrow};
 ghost use Rattle.library.specs.declared.StepAnswer.the-variants.{Refused};
@@ -34,14 +34,10 @@ use operation::Trap;
 use refusal::Refusal;
 use step::Ending;
 use step::NO_TRAP;
-use step::PTS;
 use step::ProcessTable;
 use step::Queue;
 use window::Row;
 use window::TASKS;
-
-// A create on top of so many processes makes the last one.
-const ALL_BUT_ONE: usize = PTS - 1;
 
 // What a step makes of a task's queue and of the flag, and how it ends.
 pub struct Settlement {
@@ -64,13 +60,6 @@ fn lowest_free(queues: [Queue; TASKS]) -> u8
     ensures { λ r. ⌜ r ≡ lowestFree queues ⌝ }
 {
     u64::trailing_zeros(run_rings::free_mask(queues)) as u8
-}
-
-// Whether one process more is fewer than 64.
-fn below_total(queues: [Queue; TASKS]) -> bool
-    ensures { λ r. ⌜ r ≡ belowTotal queues ⌝ }
-{
-    step_soundness::live(queues) < ALL_BUT_ONE
 }
 
 // ---- the row
@@ -141,11 +130,11 @@ fn perform_head(
     )
 }
 
-// A process joins with the PT fresh: behind the creator gone to the tail where there is room; the last one faults, the creator staying head.
-fn created(q: Queue, flag: u8, fresh: u8, room: bool, p: u64) -> Settlement
-    ensures { λ r. ⌜ r ≡ settledBy (courseResult fresh room p Creates) q flag ⌝ }
+// A process joins with the PT fresh: behind the creator gone to the tail where it is below the total; the last one faults, the creator staying head.
+fn created(q: Queue, flag: u8, fresh: u8, below: bool, p: u64) -> Settlement
+    ensures { λ r. ⌜ r ≡ settledBy (courseResult fresh below p Creates) q flag ⌝ }
 {
-    if room {
+    if below {
         let queue = step_queue::join(step_queue::turn(q), fresh);
         return Settlement {
             queue,
@@ -172,14 +161,14 @@ fn ends(queue: Queue, flag: u8, ending: Ending) -> Settlement
 }
 
 // What becomes of a task's queue by the course of its step; p is the PSW that the head process has after it.
-fn settle(c: Course, q: Queue, flag: u8, fresh: u8, room: bool, p: u64) -> Settlement
-    ensures { λ r. ⌜ r ≡ settledBy (courseResult fresh room p c) q flag ⌝ }
+fn settle(c: Course, q: Queue, flag: u8, fresh: u8, below: bool, p: u64) -> Settlement
+    ensures { λ r. ⌜ r ≡ settledBy (courseResult fresh below p c) q flag ⌝ }
 {
     match c {
         Course::Continues => ends(step_queue::turn(q), flag, Ending::Executed),
         Course::Waits => ends(step_queue::turn(q), flag, Ending::Waved),
         Course::Quits => ends(step_queue::leave(q), flag, Ending::Executed),
-        Course::Creates => created(q, flag, fresh, room, p),
+        Course::Creates => created(q, flag, fresh, below, p),
         Course::CreateFault => ends(q, flag, Ending::Trapped(Trap::CreateFault, p)),
         Course::IllegalInstruction => {
             ends(q, flag, Ending::Trapped(Trap::IllegalInstruction, p))
@@ -221,11 +210,12 @@ fn step_of(
     data_tags: &mut [u8],
     data_words: &mut [u64],
 ) -> SteppedRow
-    requires { ⌜ (1 ≤ task) × (task ≤ tasks) ⌝ }
+    requires { ⌜ (1 ≤ task) × (task ≤ tasks) × (liveSound table ≡ true) × (table .processes ≤ total) ⌝ }
     ensures { λ r. ⌜ ((rows : List Row) → StepsRow task row r (state rows table (memory (now («constant_tags» .entry)) (now («constant_words» .entry))) (memory (now («register_tags» .entry)) (now («register_words» .entry))) (now (program .entry)) (memory (now (data_tags .entry)) (now (data_words .entry)))) (memory (now («register_tags» .exit)) (now («register_words» .exit))) (memory (now (data_tags .exit)) (now (data_words .exit)))) ⌝ }
 {
     let mut psw = table.psw;
     let mut queues = table.queues;
+    let mut live = table.live;
     let k = task as usize - 1;
     let q = queues[k];
     if row.kind != NO_TRAP {
@@ -236,7 +226,7 @@ fn step_of(
     }
     let pt = step_queue::head_pt(q);
     let fresh = lowest_free(queues);
-    let room = below_total(queues);
+    let below = step_queue::below_total(table.processes);
     let c = perform_head(
         row,
         pt,
@@ -252,15 +242,23 @@ fn step_of(
         data_words,
     );
     let p = window::word_at(&psw, pt as usize);
-    let x = settle(c, q, table.flag, fresh, room, p);
+    let x = settle(c, q, table.flag, fresh, below, p);
     let ending = x.ending;
     let queue = x.queue;
     let flag = x.flag;
     queues[k] = queue;
+    live[k] = queue.len;
+    let processes = table.processes - q.len + queue.len;
     let row = row_after(ending, row);
     SteppedRow {
         row,
-        table: ProcessTable { psw, queues, flag },
+        table: ProcessTable {
+            psw,
+            queues,
+            flag,
+            live,
+            processes,
+        },
         ending,
     }
 }

@@ -1,22 +1,20 @@
 -- The loops over rows and queues: a turn, and the ends.
-use Prim.Native.Nat.{ℕ, suc, _+_, _≤_, _<_, min}
-use mathlib.Core.Path.{_≡_, refl, sym, ap, _∙_}
-use mathlib.Core.Bool.{Bool, true, false, not, _&&_, _||_}
+use Prim.Native.Nat.{ℕ, suc, _+_, _-_, _≤_, _<_}
+use mathlib.Core.Path.{_≡_, refl, sym, ap, ap₂, _∙_}
+use mathlib.Core.Bool.{Bool, true, false, _&&_, _||_}
 use mathlib.Core.List.{List, [], _∷_}
-use native.Mathlib.Nat.{min-eq-left, min-eq-right}
 use native.Mathlib.Omega.{arith}
 use lib.ListN.{length, getD, take, drop, length-take, length-append, drop-of-length-le}
 use lib.Seq.{drop-cons, getD-take}
-use lib.Dec.{eqb, leb}
-use borrow.Author.Tests.{lt-leb, eq-eqb, ne-eqb}
-use Rattle.word.specs.Laws.Bools.{Le?, below, above, le?}
+use lib.Dec.{eqb}
+use borrow.Author.Tests.{eq-eqb, ne-eqb}
+use Rattle.word.specs.Laws.Bools.{Eq?, same, differ, eq?}
 use Rattle.window.specs.declared.Row.{Row}
 use Rattle.step.specs.declared.Queue.{Queue}
-use Rattle.step.specs.Queues.{listOf, livePts}
-use Rattle.step.specs.State.{noQueue}
-use Rattle.step.specs.Soundness.{rowSound, rowsSound, hasRow, rowEndsIn, windowsSound, queuesSound, totalSound}
+use Rattle.step.specs.Queues.{listOf, livePts, liveCounts, liveTotal}
+use Rattle.step.specs.Soundness.{rowSound, rowsSound, hasRow, rowEndsIn, windowsSound, queuesSound, alike}
 use Rattle.step_soundness.specs.Code.Held.{queueSound}
-use Rattle.step.specs.Laws.Queues.{length-list, live-next, live-none}
+use Rattle.step.specs.Laws.Queues.{length-list}
 
 -- ---- the elements of a list from the ith on
 
@@ -109,27 +107,43 @@ module _ (t : ℕ) where
   unfolding hasRow
   has-ends d i = sym (ap (hasRow t) d) ∙ i
 
--- ---- how many PTs the queues have from the kth on
+-- ---- the live counts and what is left of their total
 
-module _ (qs : List Queue) (k : ℕ) where
-  -- one queue more is counted
-  pub count-goes : (n m : ℕ) → k < length qs → n + length (livePts (drop k qs)) ≡ m → n + getD qs k noQueue .len + length (livePts (drop (k + 1) qs)) ≡ m
-  count-goes n m h i =
-      let e : length (livePts (drop k qs)) ≡ length (listOf (getD qs k noQueue)) + length (livePts (drop (k + 1) qs)) =
-      ap length (live-next qs k h) ∙ length-append (listOf (getD qs k noQueue)) (livePts (drop (k + 1) qs)) in
-      omega (arith, length-list (getD qs k noQueue))
+-- the counts l are those of the queues, and n is their total
+unfoldable pub tested : (l : List ℕ) → List Queue → (n : ℕ) → Bool
+tested l qs n = alike l (liveCounts qs) && eqb n (liveTotal qs)
 
-  pub count-full : (n m : ℕ) → k < length qs → 64 ≤ n + getD qs k noQueue .len → n + length (livePts (drop k qs)) ≡ m → 64 ≡ min 64 m
-  count-full n m h f i = sym (min-eq-left (omega (arith, count-goes n m h i)))
+and-none : (b : Bool) → b && false ≡ false
+and-none true = refl
+and-none false = refl
 
-  pub count-ends : (n m : ℕ) → length qs ≤ k → n < 64 → n + length (livePts (drop k qs)) ≡ m → n ≡ min 64 m
-  count-ends n m h f i = let e = ap length (live-none qs k h) in let q : m ≡ n = omega arith in rw q (sym (min-eq-right (omega arith)))
-
--- counted to 64, they leave the same room
-pub room-counted : (live flag : ℕ) → totalSound (min 64 live) flag ≡ totalSound live flag
-unfolding totalSound
-room-counted live flag = ap (λ (b : Bool). not (b && eqb flag 0)) (go (leb 64 live) (le? 64 live))
+-- a total less its first part
+rest-eqb : (n m k : ℕ) → m ≤ n → eqb n (m + k) ≡ eqb (n - m) k
+rest-eqb n m k h = go (eqb (n - m) k) (eq? (n - m) k)
   where
-    go : (b : Bool) → Le? 64 live b → leb 64 (min 64 live) ≡ b
-    go true (below k) = rw (min-eq-left k)
-    go false (above k) = let h : live ≤ 64 = omega arith in rw (min-eq-right h) (lt-leb 64 live k)
+    go : (b : Bool) → Eq? (n - m) k b → eqb n (m + k) ≡ b
+    go true (same e) = eq-eqb n (m + k) (omega (arith, e, h))
+    go false (differ d) = ne-eqb n (m + k) (λ e. d (omega (arith, e)))
+
+module _ {x : ℕ} {l l′ : List ℕ} {q : Queue} {qs qs′ : List Queue} (n : ℕ) {w : Bool} (d : l ≡ x ∷ l′) (d′ : qs ≡ q ∷ qs′) (i : tested l qs n ≡ w) where
+  first-told : (eqb x (q .len) && alike l′ (liveCounts qs′)) && eqb n (q .len + liveTotal qs′) ≡ w
+  unfolding tested alike liveCounts liveTotal livePts
+  first-told = rw (← length-list q, ← length-append (listOf q) (livePts qs′)) (sym (ap₂ (λ (l : List ℕ) (qs : List Queue). tested l qs n) d d′) ∙ i)
+
+  -- another count; more processes than are left
+  pub count-differs : (x ≡ q .len → ⊥) → false ≡ w
+  count-differs e = sym (ap (λ (b : Bool). (b && alike l′ (liveCounts qs′)) && eqb n (q .len + liveTotal qs′)) (ne-eqb x (q .len) e)) ∙ first-told
+
+  pub count-over : n < q .len → false ≡ w
+  count-over h =
+      sym (ap (λ (b : Bool). (eqb x (q .len) && alike l′ (liveCounts qs′)) && b) (ne-eqb n (q .len + liveTotal qs′) (λ e. omega (arith, e, h))) ∙ and-none (eqb x (q .len) && alike l′ (liveCounts qs′)))
+      ∙ first-told
+
+  pub count-goes : x ≡ q .len → q .len ≤ n → tested l′ qs′ (n - q .len) ≡ w
+  unfolding tested
+  count-goes e h =
+      sym (ap₂ (λ (a b : Bool). (a && alike l′ (liveCounts qs′)) && b) (eq-eqb x (q .len) e) (rest-eqb n (q .len) (liveTotal qs′) h)) ∙ first-told
+
+pub count-ends : {l : List ℕ} {qs : List Queue} (n : ℕ) {w : Bool} → l ≡ [] → qs ≡ [] → tested l qs n ≡ w → eqb n 0 ≡ w
+unfolding tested alike liveCounts liveTotal livePts
+count-ends n d d′ i = sym (ap₂ (λ (l : List ℕ) (qs : List Queue). tested l qs n) d d′) ∙ i

@@ -2,14 +2,14 @@
 ghost use mathlib.Core.Path.{_≡_};
 ghost use mathlib.Core.Bool.{not, _&&_};
 ghost use mathlib.Core.List.{List};
-ghost use Prim.Native.Nat.{ℕ, min};
-ghost use lib.ListN.{length, take};
+ghost use Prim.Native.Nat.{ℕ};
+ghost use lib.ListN.{take};
 ghost use Rattle.word.specs.Fields.{pswSound};
 ghost use Rattle.window.specs.Memories.{memory};
 ghost use Rattle.window.specs.declared.Row.{Row};
 ghost use Rattle.step.specs.declared.ProcessTable.{ProcessTable};
-ghost use Rattle.step.specs.Queues.{total, listOf, livePts};
-ghost use Rattle.step.specs.Soundness.{basesSound, rowSound, rowsSound, hasRow, windowsSound, queuesSound, processesSound, ptSound, tableSound, memorySound, memoriesSound};
+ghost use Rattle.step.specs.Queues.{listOf, livePts};
+ghost use Rattle.step.specs.Soundness.{basesSound, rowSound, rowsSound, hasRow, windowsSound, queuesSound, processesSound, ptSound, liveSound, tableSound, memorySound, memoriesSound};
 ghost use Rattle.image_bytes.specs.Code.Scanning.{tagTest};
 ghost use Rattle.step_soundness.specs.Code.Held.{stateIn, soundIn, queueSound};
 ghost use Rattle.step_soundness.specs.Code.Seen.{seenAfter};
@@ -214,20 +214,26 @@ fn processes_sound(psw: [u64; PTS], queues: [Queue; TASKS]) -> bool
     seen.sound
 }
 
-// How many processes live, counted to 64.
-pub fn live(queues: [Queue; TASKS]) -> usize
-    ensures { λ r. ⌜ r ≡ min total (length (livePts queues)) ⌝ }
+// The live counts are those of the queues, and the total is their sum: of each queue so many are left of it.
+fn live_sound(table: ProcessTable) -> bool
+    ensures { λ r. ⌜ r ≡ liveSound table ⌝ }
 {
-    let mut n = 0;
+    let queues = table.queues;
+    let live = table.live;
+    let mut left = table.processes;
     let mut k = 0;
     while k < TASKS {
-        if PTS - n <= queues[k].len {
-            return PTS;
+        let len = queues[k].len;
+        if live[k] != len {
+            return false;
         }
-        n += queues[k].len;
+        if left < len {
+            return false;
+        }
+        left -= len;
         k += 1;
     }
-    n
+    left == 0
 }
 
 fn table_sound(rows: [Row; TASKS], n: usize, table: ProcessTable) -> bool
@@ -245,7 +251,10 @@ fn table_sound(rows: [Row; TASKS], n: usize, table: ProcessTable) -> bool
     if 1 < flag {
         return false;
     }
-    step_fields::total_sound(live(queues), flag as u64)
+    if !live_sound(table) {
+        return false;
+    }
+    step_fields::total_sound(table.processes, flag as u64)
 }
 
 // ---- the memories

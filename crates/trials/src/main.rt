@@ -67,6 +67,17 @@ fn no_processes() -> Queue {
     }
 }
 
+// The table of queues with so many processes in all, each with this PSW.
+fn counted(psw: u64, queues: [Queue; TASKS], flag: u8, processes: usize) -> ProcessTable {
+    ProcessTable {
+        psw: [psw; PTS],
+        queues,
+        flag,
+        live: step_queue::live_counts(queues),
+        processes,
+    }
+}
+
 // Task 1 has two processes, of PT 3 and of this one, with this PSW each.
 fn table_with(pt: u8, psw: u64, flag: u8) -> ProcessTable {
     let mut queue = no_processes();
@@ -75,11 +86,7 @@ fn table_with(pt: u8, psw: u64, flag: u8) -> ProcessTable {
     queue.len = 2;
     let mut queues = [no_processes(); TASKS];
     queues[0] = queue;
-    ProcessTable {
-        psw: [psw; PTS],
-        queues,
-        flag,
-    }
+    counted(psw, queues, flag, 2)
 }
 
 fn trial_table() -> ProcessTable {
@@ -92,11 +99,7 @@ fn table_unlisted(len: usize) -> ProcessTable {
     queue.len = len;
     let mut queues = [no_processes(); TASKS];
     queues[1] = queue;
-    ProcessTable {
-        psw: [0; PTS],
-        queues,
-        flag: 0,
-    }
+    counted(0, queues, 0, len)
 }
 
 // Task 1 has so many processes, with the PTs 0 to 63.
@@ -110,11 +113,7 @@ fn table_full(len: usize, flag: u8) -> ProcessTable {
     queue.len = len;
     let mut queues = [no_processes(); TASKS];
     queues[0] = queue;
-    ProcessTable {
-        psw: [0; PTS],
-        queues,
-        flag,
-    }
+    counted(0, queues, flag, len)
 }
 
 // ---- lines
@@ -175,7 +174,7 @@ fn marked_words(words: &[u64]) -> usize {
 
 fn write_to(
     out: &mut [u8],
-    row: Row,
+    rows: [Row; TASKS],
     n: usize,
     table: ProcessTable,
     qualities: &[u8],
@@ -183,7 +182,7 @@ fn write_to(
     data_tags: &[u8],
 ) {
     let written = hep::write_owned(
-        rows_from(row),
+        rows,
         table,
         qualities,
         &[5; 3],
@@ -217,7 +216,15 @@ fn write_state(
     data_tags: &[u8],
 ) {
     let mut out = [MARK; 578];
-    write_to(&mut out, row, n, table, qualities, tags, data_tags);
+    write_to(
+        &mut out,
+        rows_from(row),
+        n,
+        table,
+        qualities,
+        tags,
+        data_tags,
+    );
 }
 
 fn write_row(row: Row, n: usize) {
@@ -233,7 +240,7 @@ fn write_full(len: usize, flag: u8) {
     let mut out = [MARK; 1198];
     write_to(
         &mut out,
-        trial_row(),
+        rows_from(trial_row()),
         1,
         table_full(len, flag),
         &[2; 3],
@@ -264,7 +271,7 @@ fn write_bounds() {
     print(b"write to 578 bytes: ");
     write_to(
         &mut [MARK; 578],
-        trial_row(),
+        rows_from(trial_row()),
         1,
         trial_table(),
         &[2; 3],
@@ -274,7 +281,7 @@ fn write_bounds() {
     print(b"write to 577 bytes: ");
     write_to(
         &mut [MARK; 577],
-        trial_row(),
+        rows_from(trial_row()),
         1,
         trial_table(),
         &[2; 3],
@@ -284,7 +291,7 @@ fn write_bounds() {
     print(b"write to 579 bytes: ");
     write_to(
         &mut [MARK; 579],
-        trial_row(),
+        rows_from(trial_row()),
         1,
         trial_table(),
         &[2; 3],
@@ -294,7 +301,7 @@ fn write_bounds() {
     print(b"unsound, to 577 bytes: ");
     write_to(
         &mut [MARK; 577],
-        trial_row(),
+        rows_from(trial_row()),
         1,
         trial_table(),
         &[2; 3],
@@ -530,11 +537,11 @@ fn print_counts(c: Counts) {
     io::print_decimal(STDOUT_FILENO, c.idle);
 }
 
-// Runs the state with these register tags over a schedule; the first step of task 1 traps, as its code is not listed.
-fn run_over(schedule: &[u8], tags: &mut [u8]) {
+// Runs the state with these rows, table and register tags over a schedule; the first step of a task traps, as its code is not listed.
+fn run_state(rows: [Row; TASKS], n: usize, table: ProcessTable, schedule: &[u8], tags: &mut [u8]) {
     let x = hep::run_owned(
-        rows_from(trial_row()),
-        trial_table(),
+        rows,
+        table,
         &[2; 3],
         &[5; 3],
         tags,
@@ -543,7 +550,7 @@ fn run_over(schedule: &[u8], tags: &mut [u8]) {
         &mut [1; 32],
         &mut [8; 32],
         schedule,
-        sizes(1),
+        sizes(n),
     );
     let answer = x.answer;
     match answer {
@@ -556,6 +563,10 @@ fn run_over(schedule: &[u8], tags: &mut [u8]) {
     print(b", kind ");
     io::print_hex(STDOUT_FILENO, row.kind as u64, 2);
     print(b"\n");
+}
+
+fn run_over(schedule: &[u8], tags: &mut [u8]) {
+    run_state(rows_from(trial_row()), 1, trial_table(), schedule, tags);
 }
 
 fn run_trials() {
@@ -575,6 +586,94 @@ fn run_trials() {
     run_over(&[1, 0], &mut [1; 8]);
     print(b"an unsound state, a list of 65,536: ");
     run_over(&[1; 65536], &mut [7; 8]);
+}
+
+// ---- live counts: tasks 1 to 7 with two processes each; an image of 866 bytes
+
+fn listed(task: u8) -> Row {
+    let mut row = trial_row();
+    row.task = task;
+    row
+}
+
+fn pair(first: u8, second: u8) -> Queue {
+    let mut queue = no_processes();
+    queue.pts[0] = first;
+    queue.pts[1] = second;
+    queue.len = 2;
+    queue
+}
+
+// Writes the state with these live counts and this total, and runs it.
+fn count_trial(live: [usize; TASKS], processes: usize) {
+    let rows = [
+        listed(1),
+        listed(2),
+        listed(3),
+        listed(4),
+        listed(5),
+        listed(6),
+        listed(7),
+    ];
+    let queues = [
+        pair(0, 1),
+        pair(2, 3),
+        pair(4, 5),
+        pair(6, 7),
+        pair(8, 9),
+        pair(10, 11),
+        pair(12, 13),
+    ];
+    let table = ProcessTable {
+        psw: [0; PTS],
+        queues,
+        flag: 0,
+        live,
+        processes,
+    };
+    let mut out = [MARK; 866];
+    write_to(&mut out, rows, TASKS, table, &[2; 3], &[1; 8], &[1; 32]);
+    print(b"    run: ");
+    run_state(rows, TASKS, table, &[1, 7], &mut [1; 8]);
+}
+
+// The count of task k + 1 is n.
+fn miscount(k: usize, n: usize) {
+    if k < TASKS {
+        let mut live = [2; TASKS];
+        live[k] = n;
+        print(b"count of task ");
+        print_number(k + 1);
+        print(b" is ");
+        print_number(n);
+        print(b": ");
+        count_trial(live, 14);
+    }
+}
+
+fn count_trials() {
+    print(b"counts of 2, total 14: ");
+    count_trial([2; TASKS], 14);
+    print(b"total 15: ");
+    count_trial([2; TASKS], 15);
+    print(b"total 13: ");
+    count_trial([2; TASKS], 13);
+    print(b"count of task 1 is 3, total 15: ");
+    count_trial([3, 2, 2, 2, 2, 2, 2], 15);
+    miscount(0, 3);
+    miscount(0, 1);
+    miscount(1, 3);
+    miscount(1, 1);
+    miscount(2, 3);
+    miscount(2, 1);
+    miscount(3, 3);
+    miscount(3, 1);
+    miscount(4, 3);
+    miscount(4, 1);
+    miscount(5, 3);
+    miscount(5, 1);
+    miscount(6, 3);
+    miscount(6, 1);
 }
 
 // ---- step
@@ -634,5 +733,6 @@ fn main() {
     write_tables();
     read_state();
     run_trials();
+    count_trials();
     step_trials();
 }

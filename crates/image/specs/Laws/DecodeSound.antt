@@ -10,6 +10,7 @@ use Rattle.window.specs.declared.Cell.{Cell}
 use Rattle.window.specs.Memories.{tagOf, wordOf}
 use Rattle.word.specs.Laws.Conjunctions.{also}
 use Rattle.step.specs.Soundness.{every, sound}
+use Rattle.step.specs.Laws.Sound.{made-live}
 use Rattle.image.specs.declared.Process.{Process}
 use Rattle.image.specs.Codec.{Bytes}
 use Rattle.image.specs.Image.{Image, good, ptsOf, queueOf, queuesOf, memoryOf, stateOf, decode}
@@ -34,6 +35,7 @@ state-shape i few = record {
   wide = length-pswTable (i .processes);
   seven = length-queuesOf 7 1 (i .processes);
   full = queues-full 7 1 (i .processes) few;
+  counted = made-live _ _ _;
   constants = pairs (i .constants);
   registers = pairs (i .registers);
   dataWords = pairs (i .dataWords);

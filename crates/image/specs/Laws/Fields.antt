@@ -14,7 +14,7 @@ use Rattle.word.specs.Laws.Conjunctions.{also, both}
 use Rattle.step.specs.declared.Queue.{Queue}
 use Rattle.step.specs.Queues.{listOf, livePts}
 use Rattle.step.specs.State.{State, pswsOf}
-use Rattle.step.specs.Soundness.{every, distinct, hasRow, queueShaped, queuesSound, ptSound, totalSound, memorySound, windowsSound, sound}
+use Rattle.step.specs.Soundness.{every, distinct, hasRow, queueShaped, queuesSound, ptSound, totalSound, memorySound, windowsSound, liveSound, sound}
 use Rattle.window.specs.Sound.{qualitySound, tagSound, stateSound}
 use Rattle.word.specs.Fields.{pswSound}
 use Rattle.step.specs.Laws.Occurrences.{length-once}
@@ -60,7 +60,7 @@ psws-from : (psw : List ℕ) (t : ℕ) (qs : List Queue) → map pswOf (processe
 unfolding pswsOf
 psws-from psw t qs = map-from psw (λ p. getD psw p 0) pswOf (λ t p. refl) t qs
 
-length-from : (psw : List ℕ) (t : ℕ) (qs : List Queue) → length (processesFrom psw t qs) ≡ length (livePts qs)
+pub length-from : (psw : List ℕ) (t : ℕ) (qs : List Queue) → length (processesFrom psw t qs) ≡ length (livePts qs)
 length-from psw t qs = sym (length-map (processesFrom psw t qs) ptOf) ∙ ap length (pts-from psw t qs)
 
 -- ---- tasks
@@ -117,6 +117,7 @@ pub record Shape (s : State) : Type 0 where
   pub wide : length (s .table .psw) ≡ 64
   pub seven : length (s .table .queues) ≡ 7
   pub full : placesFull (s .table .queues) ≡ true
+  pub counted : liveSound (s .table) ≡ true
   pub constants : length (s .constants .tags) ≡ length (s .constants .words)
   pub registers : length (s .registers .tags) ≡ length (s .registers .words)
   pub dataWords : length (s .dataWords .tags) ≡ length (s .dataWords .words)
@@ -144,6 +145,7 @@ shape-of s e =
       wide = p .table .wide;
       seven = p .table .seven;
       full = queues-parts s e .0;
+      counted = p .table .counted;
       constants = paired-of 4096 qualitySound (s .constants) (p .memories .constants);
       registers = paired-of 2048 tagSound (s .registers) (p .memories .registers);
       dataWords = paired-of _ stateSound (s .dataWords) (p .memories .dataWords);
@@ -219,6 +221,7 @@ accepted-sound s h a =
         psws = ap (every pswSound) (sym (psws-from psw 1 qs)) ∙ i .processes .psws;
         flag = i .processes .flag;
         room = ap (λ (n : ℕ). totalSound n (s .table .flag)) (sym (length-from psw 1 qs)) ∙ a .after .room;
+        counted = h .counted;
       };
       memories = record {
         constants = ap (memorySound 4096 qualitySound) (sym (constants-same s h)) ∙ i .constants;

@@ -36,18 +36,18 @@ pub shape-shaped : (s : State) → Shape s → shaped s ≡ true
 unfolding shaped paired
 shape-shaped s h =
     also (also (eq-eqb (length (s .table .psw)) 64 (h .wide)) (also (eq-eqb (length (s .table .queues)) 7 (h .seven)) (h .full)))
-    (also (eq-eqb (length (s .constants .tags)) (length (s .constants .words)) (h .constants))
+    (also (h .counted) (also (eq-eqb (length (s .constants .tags)) (length (s .constants .words)) (h .constants))
     (also (eq-eqb (length (s .registers .tags)) (length (s .registers .words)) (h .registers))
-    (eq-eqb (length (s .dataWords .tags)) (length (s .dataWords .words)) (h .dataWords))))
+    (eq-eqb (length (s .dataWords .tags)) (length (s .dataWords .words)) (h .dataWords)))))
 
 shaped-shape : (s : State) → shaped s ≡ true → Shape s
 unfolding shaped paired
 shaped-shape s e =
     let u =
     both (both (eqb-true (length (s .table .psw)) 64) (both (eqb-true (length (s .table .queues)) 7) (λ k. k)))
-    (both (eqb-true (length (s .constants .tags)) (length (s .constants .words)))
-    (both (eqb-true (length (s .registers .tags)) (length (s .registers .words))) (eqb-true (length (s .dataWords .tags)) (length (s .dataWords .words))))) e in
-    record { wide = u .0 .0; seven = u .0 .1 .0; full = u .0 .1 .1; constants = u .1 .0; registers = u .1 .1 .0; dataWords = u .1 .1 .1 }
+    (both (λ k. k) (both (eqb-true (length (s .constants .tags)) (length (s .constants .words)))
+    (both (eqb-true (length (s .registers .tags)) (length (s .registers .words))) (eqb-true (length (s .dataWords .tags)) (length (s .dataWords .words)))))) e in
+    record { wide = u .0 .0; seven = u .0 .1 .0; full = u .0 .1 .1; counted = u .1 .0; constants = u .1 .1 .0; registers = u .1 .1 .1 .0; dataWords = u .1 .1 .1 .1 }
 
 pub image-of-sound : (s : State) → sound s ≡ true → SomeImageReads s
 image-of-sound s e = record { bytes = encode s; string = written-bytes s; image = imageOf s; accepted = read-again s e; same = same-again s e }

@@ -9,6 +9,7 @@ use Rattle.image_check.specs.Laws.Found.{found}
 use Rattle.image_read.specs.Laws.Few.{found-few}
 use Rattle.image_read.specs.Laws.Room.{room-of}
 use Rattle.image_read.specs.Laws.Read.{same-places, read-image}
+use Rattle.image_bytes.specs.Laws.Fields.{all-bytes}
 use Rattle.image_read.proofs.Whole.{table-read}
 use borrow.Author.Needs.{needs}
 use Rattle.image_read.proofs.read_fitting.Statement.{statement}
@@ -57,7 +58,7 @@ same-length-7 c = search needs
 
 returns : tie.Need-returns
 unfolding numberAt
-returns c = λ table. let a = c .before .before .before .before .before .before .before .before .before .before .before .before .before .before .before .before .before .before .before .before .before .before .before .before .before .before .before .before .before .before .before .before .before .before .before .args in let seven = sym (length-map (a .rows .at) _) ∙ c .before .before .before .before .before .before .before .before .before .before .before .before .before .before .before .before .before .before .before .before .before .before .before .before .before .before .before .before .before .before .before .before .before .before .before .good .0 .1 .1 .0 .1 .0 .1 in let f = found (a .image .now) (a .n) (c .before .before .before .before .before .before .before .before .before .before .before .before .before .before .before .before .before .before .before .before .before .before .before .before .before .before .before .before .before .before .before .before .before .before .before .pre .0) in let t = table-read (a .n) _ (a .image .now) (c .before .before .before .before .before .before .before .before .before .before .before .before .before .before .before .before .before .before .before .before .before .before .before .number-at .ensures .0) (c .before .before .before .before .before .before .before .before .before .before .before .before .before .before .before .before .before .before .before .before .before .before .table-at .ensures) in let w = c .before .before .before .before .before .before .before .before .before .before .before .before .before .before .before .before .before .before .before .before .before .before .before .before .before .rows-at .ensures in (read-image (a .rows) table (a .constant-tags .now) (a .constant-words .now) (a .register-tags .now) (a .register-words .now) (a .program .now) (a .data-tags .now) (a .data-words .now) (a .image .now) (a .n) seven f (c .before .before .before .before .before .before .before .before .before .before .before .before .before .before .before .before .before .before .before .before .before .before .before .before .before .before .before .before .before .before .before .before .before .before .before .pre .1) w t (c .before .before .before .before .before .before .before .before .before .before .before .before .before .before .fill .ensures), same-places (a .rows) table (a .constant-tags .now) (a .constant-words .now) (a .register-tags .now) (a .register-words .now) (a .program .now) (a .data-tags .now) (a .data-words .now) (a .image .now) (a .n) seven f (c .before .before .before .before .before .before .before .before .before .before .before .before .before .before .before .before .before .before .before .before .before .before .before .before .before .before .before .before .before .before .before .before .before .before .before .pre .1) w)
+returns c = λ table. let a = c .before .before .before .before .before .before .before .before .before .before .before .before .before .before .before .before .before .before .before .before .before .before .before .before .before .before .before .before .before .before .before .before .before .before .before .args in let seven = sym (length-map (a .rows .at) _) ∙ c .before .before .before .before .before .before .before .before .before .before .before .before .before .before .before .before .before .before .before .before .before .before .before .before .before .before .before .before .before .before .before .before .before .before .before .good .0 .1 .1 .0 .1 .0 .1 in let f = found (a .image .now) (a .n) (c .before .before .before .before .before .before .before .before .before .before .before .before .before .before .before .before .before .before .before .before .before .before .before .before .before .before .before .before .before .before .before .before .before .before .before .pre .0) in let t = table-read (a .n) _ (a .image .now) (all-bytes _ (λ i. omega (arith, c .before .before .before .before .before .before .before .before .before .before .before .before .before .before .before .before .before .before .before .before .before .before .before .before .before .before .before .shared-slice-known .given i))) f (c .before .before .before .before .before .before .before .before .before .before .before .before .before .before .before .before .before .before .before .before .before .before .before .number-at .ensures .0) (c .before .before .before .before .before .before .before .before .before .before .before .before .before .before .before .before .before .before .before .before .before .before .table-at .ensures) in let w = c .before .before .before .before .before .before .before .before .before .before .before .before .before .before .before .before .before .before .before .before .before .before .before .before .before .rows-at .ensures in (read-image (a .rows) table (a .constant-tags .now) (a .constant-words .now) (a .register-tags .now) (a .register-words .now) (a .program .now) (a .data-tags .now) (a .data-words .now) (a .image .now) (a .n) seven f (c .before .before .before .before .before .before .before .before .before .before .before .before .before .before .before .before .before .before .before .before .before .before .before .before .before .before .before .before .before .before .before .before .before .before .before .pre .1) w t (c .before .before .before .before .before .before .before .before .before .before .before .before .before .before .fill .ensures), same-places (a .rows) table (a .constant-tags .now) (a .constant-words .now) (a .register-tags .now) (a .register-words .now) (a .program .now) (a .data-tags .now) (a .data-words .now) (a .image .now) (a .n) seven f (c .before .before .before .before .before .before .before .before .before .before .before .before .before .before .before .before .before .before .before .before .before .before .before .before .before .before .before .before .before .before .before .before .before .before .before .pre .1) w)
 
 pub read-fitting-spec : {M : Type 1} → statement M
 read-fitting-spec =

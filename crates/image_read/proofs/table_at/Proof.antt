@@ -26,11 +26,14 @@ add-queues-at c = search needs
 queues-at-requires : tie.Need-queues-at-requires
 queues-at-requires c κs = search needs
 
+live-counts-requires : tie.Need-live-counts-requires
+live-counts-requires c κs = search needs
+
 returns : tie.Need-returns
 unfolding numberAt
-returns c = rw (c .queues-at .ensures, c .before .psws-at .ensures, c .before .before .number-at .ensures .0)
+returns c = rw (c .live-counts .ensures, c .before .queues-at .ensures, c .before .before .psws-at .ensures, c .before .before .before .number-at .ensures .0)
 
 pub table-at-spec : {M : Type 1} → statement M
 table-at-spec =
     tie.close
-    (tie.spec add-number-at number-at-requires cast-flag add-psws-at psws-at-requires add-queues-at queues-at-requires returns)
+    (tie.spec add-number-at number-at-requires cast-flag add-psws-at psws-at-requires add-queues-at queues-at-requires live-counts-requires returns)

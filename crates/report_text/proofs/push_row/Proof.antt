@@ -44,7 +44,7 @@ unfolding rowLine
 returns c =
     let a = c .before .before .before .before .before .before .before .before .before .before .args in
     let g = c .before .before .before .before .before .before .before .before .before .struct-known .given in
-    let q : length (a .table .queues) ≡ 7 = simp length-map at (c .before .before .before .before .before .before .before .before .before .before .good .1 .0 .1 .1 .1 .0 .1 .0 .1) in
+    let q : length (a .table .live) ≡ 7 = simp length-map at (c .before .before .before .before .before .before .before .before .before .before .good .1 .0 .1 .1 .1 .1 .1 .0 .1 .0 .1) in
     (length-row (a .table) (a .row) q (g .0 .fits), simp (c .push4 .ensures, c .before .push-pc .ensures, c .before .before .push3 .ensures, c .before .before .before .push-kind .ensures, c .before .before .before .before .push2 .ensures, c .before .before .before .before .before .push-decimal2 .ensures, c .before .before .before .before .before .before .live .ensures, c .before .before .before .before .before .before .before .push .ensures, c .before .before .before .before .before .before .before .before .push-decimal .ensures, appended-twice, append-assoc))
 
 pub push-row-spec : {M : Type 1} → statement M

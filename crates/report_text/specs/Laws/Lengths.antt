@@ -1,31 +1,24 @@
 -- How long the lines of a report can be.
 use Prim.Native.Nat.{ℕ, zero, suc, _+_, _*_, _-_, _/_, _%_, _^_, _≤_, _<_}
-use mathlib.Core.Path.{_≡_, refl, ap, _∙_}
+use mathlib.Core.Path.{_≡_, refl}
 use mathlib.Core.Bool.{Bool, true, false, cond}
 use mathlib.Core.List.{List, [], _∷_, _++_}
 use native.Mathlib.Omega.{arith}
 use borrow.Author.Tests.{ltb-true, ltb-false, lt-ltb}
 use lib.Dec.{ltb, eqb}
-use lib.ListN.{length, getD, replicate, length-append, length-map, List·getD-eq-default}
+use lib.ListN.{length, getD, replicate, length-append, List·getD-eq-default}
 use Rattle.word.specs.Fields.{pcOf}
 use Rattle.window.specs.declared.Row.{Row}
 use Rattle.step.specs.declared.ProcessTable.{ProcessTable}
-use Rattle.step.specs.Queues.{listOf}
-use Rattle.step.specs.State.{noQueue, queueIn, pswsOf, processesOf}
-use Rattle.step.specs.Laws.Queues.{length-list}
+use Rattle.step.specs.State.{liveCount}
 use Rattle.run.specs.declared.Counts.{Counts}
 use Rattle.report.specs.Report.{decimalBy, decimal, hexDigit, hex, kindText, pcText, rowLine, rowLines, countsLine, newline}
 use Rattle.report_text.specs.Texts.{longestRow, longestCounts, longestReport, reportRoom}
 
--- the live processes of a task are as many as its queue says
-pub length-processes : (table : ProcessTable) (task : ℕ) → length (processesOf table task) ≡ getD (table .queues) (task - 1) noQueue .len
-unfolding processesOf pswsOf queueIn
-length-processes table task = length-map (listOf (queueIn (table .queues) task)) (λ p. getD (table .psw) p 0) ∙ length-list (queueIn (table .queues) task)
-
--- past the queues there are none
-pub no-processes : (table : ProcessTable) (task : ℕ) → length (table .queues) ≡ 7 → 7 ≤ task - 1 → length (processesOf table task) ≡ 0
-no-processes table task q h =
-    length-processes table task ∙ ap (λ x. x .len) (List·getD-eq-default (table .queues) noQueue {n = task - 1} (omega arith))
+-- past the counts there are none
+pub no-count : (table : ProcessTable) (task : ℕ) → length (table .live) ≡ 7 → 7 ≤ task - 1 → liveCount table task ≡ 0
+unfolding liveCount
+no-count table task q h = List·getD-eq-default (table .live) 0 {n = task - 1} (omega arith)
 
 -- ---- digits
 
@@ -80,18 +73,18 @@ length-pc : (kind psw : ℕ) → length (pcText kind psw) ≡ 5
 unfolding pcText
 length-pc kind psw = dashed (eqb kind 255) (45 ∷ 45 ∷ 45 ∷ 45 ∷ 45 ∷ []) (hex 5 (pcOf psw)) 5 refl (length-hex 5 (pcOf psw))
 
--- a task with a queue has one digit, one without has no processes
-length-task : (table : ProcessTable) (task : ℕ) → length (table .queues) ≡ 7 → task < 256 → length (decimal task) + length (decimal (length (processesOf table task))) ≤ 21
+-- a task with a count has one digit, one without has no processes
+length-task : (table : ProcessTable) (task : ℕ) → length (table .live) ≡ 7 → task < 256 → length (decimal task) + length (decimal (liveCount table task)) ≤ 21
 unfolding decimal
 length-task table task q h = go (ltb task 8) refl
   where
-    go : (b : Bool) → ltb task 8 ≡ b → length (decimal task) + length (decimal (length (processesOf table task))) ≤ 21
-    go true e = omega (arith, digits-1 20 task (omega (arith, ltb-true task 8 e)), digits-at-most 20 (length (processesOf table task)))
+    go : (b : Bool) → ltb task 8 ≡ b → length (decimal task) + length (decimal (liveCount table task)) ≤ 21
+    go true e = omega (arith, digits-1 20 task (omega (arith, ltb-true task 8 e)), digits-at-most 20 (liveCount table task))
     go false e =
-        rw (no-processes table task q (omega (arith, ltb-false task 8 e)))
+        rw (no-count table task q (omega (arith, ltb-false task 8 e)))
         (omega (arith, digits-3 20 task (omega arith), digits-1 20 0 (omega arith)))
 
-pub length-row : (table : ProcessTable) (r : Row) → length (table .queues) ≡ 7 → r .task < 256 → length (rowLine table r) ≤ longestRow
+pub length-row : (table : ProcessTable) (r : Row) → length (table .live) ≡ 7 → r .task < 256 → length (rowLine table r) ≤ longestRow
 unfolding rowLine
 length-row table r q h = simp length-append (omega (arith, length-task table (r .task) q h, length-kind (r .kind), length-pc (r .kind) (r .psw)))
 
@@ -120,10 +113,10 @@ largest = 2 ^ 64 - 1
 unfoldable pub longRow : Row
 longRow = record { task = 1; cb = 0; rb = 0; rl = 0; pb = 0; pl = 0; db = 0; dl = 0; kind = 255; psw = 0 }
 
-pub longest-row : (table : ProcessTable) → getD (table .queues) 0 noQueue .len ≡ largest → length (rowLine table longRow) ≡ longestRow
-unfolding largest longRow rowLine decimal decimalBy kindText pcText
-longest-row table h = rw (length-processes table 1, h)
+pub longest-row : (table : ProcessTable) → getD (table .live) 0 0 ≡ largest → length (rowLine table longRow) ≡ longestRow
+unfolding largest longRow rowLine liveCount decimal decimalBy kindText pcText
+longest-row table h = rw h
 
-pub longest-report : (table : ProcessTable) → getD (table .queues) 0 noQueue .len ≡ largest → length (rowLines table (replicate 7 longRow) ++ countsLine (record { executed = largest; waved = largest; trapped = largest; idle = largest }) 255) ≡ longestReport
+pub longest-report : (table : ProcessTable) → getD (table .live) 0 0 ≡ largest → length (rowLines table (replicate 7 longRow) ++ countsLine (record { executed = largest; waved = largest; trapped = largest; idle = largest }) 255) ≡ longestReport
 unfolding largest rowLines countsLine decimal decimalBy
 longest-report table h = simp (length-append, longest-row table h)

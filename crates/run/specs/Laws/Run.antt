@@ -11,6 +11,7 @@ use Rattle.step.specs.declared.Ending.{Ending}
 use Rattle.step.specs.declared.Ending.the-variants.{Executed, Waved, Trapped, Idle}
 use Rattle.step.specs.State.{State}
 use Rattle.step.specs.Step.{stepBy}
+use Rattle.step.specs.LiveCounts.{Counted, step-keeps-counted}
 use Rattle.step.specs.Laws.Step.{flag-kept}
 use Rattle.step.specs.Laws.Lengths.{SameLengths, same-lengths, lengths-join, step-lengths}
 use Rattle.run.specs.declared.Counts.{Counts}
@@ -53,6 +54,12 @@ module _ (instructions : Environment → Decision) where
   -- the flag is down at the end: it was down throughout
   pub after-flag : (ts : List ℕ) (s : State) → after ts s .table .flag ≡ 0 → s .table .flag ≡ 0
   after-flag ts s = after-kept (λ (x : ℕ). x ≡ 0 → s .table .flag ≡ 0) (λ e. absurd (omega arith)) ts s (λ z. z)
+
+  -- the live counts stay those found by counting
+  pub after-counted : (ts : List ℕ) (s : State) → Counted (s .table) → Counted (after ts s .table)
+  unfolding after
+  after-counted [] s k = k
+  after-counted (t ∷ ts) s k = after-counted ts (stepBy instructions t s .state) (step-keeps-counted instructions t s k)
 
   after-lengths : (ts : List ℕ) (s : State) → SameLengths (after ts s) s
   unfolding after

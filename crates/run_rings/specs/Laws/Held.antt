@@ -1,25 +1,24 @@
 -- What the numbers of a run say of its queues, and how they keep it: turn, leave and create in ring m of the n rings from k on.
 use mathlib.Core.Path.{_≡_, refl, sym, ap, _∙_}
 use mathlib.Core.Logic.{_≢_}
-use mathlib.Core.Bool.{Bool, true, false, cond, not}
+use mathlib.Core.Bool.{Bool, true, false, cond}
 use mathlib.Core.List.{List}
 use Prim.Native.Nat.{ℕ, _+_, _-_, _*_, _%_, _^_, _≤_, _<_}
 use native.Mathlib.Omega.{arith}
-use lib.Dec.{eqb, ltb}
+use lib.Dec.{ltb}
 use lib.ListN.{length, getD, set}
 use lib.Count.{trailingZeros}
 use borrow.Author.Tests.{ltb-true, ltb-false}
 use Rattle.step.specs.declared.Queue.{Queue}
 use Rattle.step.specs.Queues.{headOf, turned, shifted, joined, livePts, occ, lowestFree}
 use Rattle.step.specs.State.{noQueue}
-use Rattle.step.specs.Code.Parts.{belowTotal}
 use Rattle.step.specs.Laws.Occurrences.{Free, free-spec, hit-same}
 use Rattle.step.specs.Laws.Queues.{Shaped, len-get}
 use Rattle.run_rings.specs.Code.Rings.{queueAt, queuesFrom, Moves}
 use Rattle.run_rings.specs.Code.Held.{Held}
 use Rattle.run_rings.specs.Laws.Rings.{head-at, length-queues, queue-of-ring, moved-from}
 use Rattle.run_rings.specs.Laws.Mask.{lowest-free, free-le, frees-taken, frees-given, given-lt, Adds}
-use Rattle.run_rings.specs.Laws.Live.{turned-frees, created-adds, shifted-adds, Once, room-left}
+use Rattle.run_rings.specs.Laws.Live.{turned-frees, created-adds, shifted-adds, Once}
 
 module _ (n k : ℕ) (a b c : List ℕ) (z : ℕ) (qs : List Queue) (h : Held n k a b c z qs) where
   held-length : length qs ≡ n
@@ -99,13 +98,7 @@ module _ (n k : ℕ) (a b c : List ℕ) (z : ℕ) (qs : List Queue) (h : Held n 
   pub held-short : (m : ℕ) → k ≤ m → m < k + n → length (livePts qs) < 64 → getD qs (m - k) noQueue .len < 64
   held-short m l r s = omega (arith, len-get qs (m - k) (omega (arith, held-length)), s)
 
-  -- whether a PT is left when the lowest free one is taken
-  pub held-room : (p : ℕ) → Once (livePts qs) → length (livePts qs) < 64 → p ≡ lowestFree qs → not (eqb (z - 2 ^ p) 0) ≡ belowTotal qs
-  held-room p o s e =
-      let f = held-free s in
-      ap (λ (p : ℕ). not (eqb (z - 2 ^ p) 0)) e ∙ room-left z (lowestFree qs) (livePts qs) (h .frees) o (f .small) (f .none-such)
-
-  -- the lowest free PT joins, the head going to the tail before where a PT is left
+  -- the lowest free PT joins, the head going to the tail before or not
   pub held-created : (m p : ℕ) (t : Bool) (a′ b′ c′ : List ℕ) → k ≤ m → m < k + n → Shaped (getD qs (m - k) noQueue) → length (livePts qs) < 64 → p ≡ lowestFree qs
       → Moves m (λ q. joined (cond t (turned q) q) p) a b c a′ b′ c′
       → Held n k a′ b′ c′ (z - 2 ^ p) (set qs (m - k) (joined (cond t (turned (getD qs (m - k) noQueue)) (getD qs (m - k) noQueue)) p))

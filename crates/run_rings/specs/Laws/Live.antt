@@ -68,60 +68,10 @@ shifted-adds qs i h n o =
         let e : occ j (listOf (shifted q)) ≡ occ j (x .tail) = ap (occ j) (shifted-list q ∙ ap rest (x .is)) in
         omega (arith, occ-set j qs i (shifted q) h, occ-cons j (headOf q) (x .tail), d, e)
 
--- ---- a word of zeros: as many live processes as PTs
-
-no-digit : (n z : ℕ) → z < 2 ^ n → ((j : ℕ) → j < n → z / 2 ^ j % 2 ≡ 0) → z ≡ 0
-no-digit zero z l h = omega arith
-no-digit (suc n) z l h =
-    let i : z / 2 ≡ 0 = no-digit n (z / 2) (omega (arith, pow-suc 2 n, l)) (λ j k. ap (λ (x : ℕ). x % 2) (sym (half z j)) ∙ h (suc j) (omega arith)) in
-    let d : z / 2 ^ 0 ≡ z = omega (arith, div-one z) in
-    let e : z % 2 ≡ 0 = ap (λ (x : ℕ). x % 2) (sym d) ∙ h 0 (omega arith) in
-    omega (arith, i, e)
-
 -- PTs below 64 that each stand once
 pub record Once (l : List ℕ) : Type 0 where
   pub once : (p : ℕ) → occ p l ≤ 1
   pub inside : (p : ℕ) → 64 ≤ p → occ p l ≡ 0
-
-once-more : (l : List ℕ) (p : ℕ) → Once l → p < 64 → occ p l ≡ 0 → Once (p ∷ l)
-once-more l p o h e = record {
-  once = λ j. one j (eqb j p) (eq? j p);
-  inside = λ j k. omega (arith, occ-cons j p l, o .inside j k, hit-differ j p (λ s. omega (arith, s, h, k)));
-}
-  where
-    one : (j : ℕ) → (b : Bool) → Eq? j p b → occ j (p ∷ l) ≤ 1
-    one j true (same s) =
-        let x : hit j p ≡ 1 = rw (← s) (hit-same j) in
-        let y : occ j l ≡ 0 = ap (λ (x : ℕ). occ x l) s ∙ e in
-        omega (arith, occ-cons j p l, x, y)
-    one j false (differ s) = omega (arith, occ-cons j p l, hit-differ j p s, o .once j)
-
--- a PT that is absent leaves room
-absent-lt : (l : List ℕ) (p : ℕ) → Once l → p < 64 → occ p l ≡ 0 → length l < 64
-absent-lt l p o h e = let m = once-more l p o h e in length-once 64 (p ∷ l) (m .once) (m .inside)
-
-full-zero : (z : ℕ) (l : List ℕ) → Frees z l → Once l → 64 ≤ length l → z ≡ 0
-full-zero z l f o h = no-digit 64 z (f .small) (λ j k. taken-digit z j l f k (λ e. omega (arith, h, absent-lt l j o k e)))
-
-zero-full : (z : ℕ) (l : List ℕ) → Frees z l → z ≡ 0 → 64 ≤ length l
-zero-full z l f e = go (leb 64 (length l)) (le? 64 (length l))
-  where
-    go : (b : Bool) → Le? 64 (length l) b → 64 ≤ length l
-    go true (below k) = k
-    go false (above k) =
-        let x : Free (freeFrom 64 0 l) 64 l = free-spec 64 l k in
-        absurd (omega (arith, free-le z (freeFrom 64 0 l) l f (x .small) (x .none-such), pow-pos (freeFrom 64 0 l), e))
-
--- a PT is left when one is taken: one process more is fewer than 64
-pub room-left : (z p : ℕ) (l : List ℕ) → Frees z l → Once l → p < 64 → occ p l ≡ 0 → not (eqb (z - 2 ^ p) 0) ≡ ltb (suc (length l)) 64
-room-left z p l f o h e = go (ltb (suc (length l)) 64) refl
-  where
-    f′ : Frees (z - 2 ^ p) (p ∷ l)
-    f′ = frees-taken z p l (p ∷ l) f h (record { absent = e; more = λ j. omega (arith, occ-cons j p l) })
-
-    go : (b : Bool) → ltb (suc (length l)) 64 ≡ b → not (eqb (z - 2 ^ p) 0) ≡ b
-    go true q = ap not (ne-eqb (z - 2 ^ p) 0 (λ r. omega (arith, zero-full (z - 2 ^ p) (p ∷ l) f′ r, ltb-true (suc (length l)) 64 q)))
-    go false q = ap not (eq-eqb (z - 2 ^ p) 0 (full-zero (z - 2 ^ p) (p ∷ l) f′ (once-more l p o h e) (ltb-false (suc (length l)) 64 q)))
 
 -- ---- the word made queue by queue
 after-append : (xs ys : List ℕ) (z : ℕ) → freeAfter (xs ++ ys) z ≡ freeAfter ys (freeAfter xs z)

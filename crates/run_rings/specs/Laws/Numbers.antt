@@ -28,11 +28,11 @@ use Rattle.step.specs.declared.Ending.{Ending}
 use Rattle.step.specs.declared.Ending.the-variants.{Idle}
 use Rattle.step.specs.declared.Decided.the-variants.{Decides}
 use Rattle.step.specs.declared.StepResult.{StepResult}
-use Rattle.step.specs.Queues.{headOf, livePts, hit, occ, freeFrom, lowestFree}
+use Rattle.step.specs.Queues.{belowTotal, headOf, livePts, liveTotal, hit, occ, freeFrom, lowestFree}
 use Rattle.step.specs.State.{State, state, findRow, putRow, noQueue, queueIn, taskQueue, processesOf, environment}
 use Rattle.step.specs.Act.{tableOf, Stepped}
 use Rattle.step.specs.Step.{noTrap, rowDecides, acted, headDecides, stepRow, stepBy, step}
-use Rattle.step.specs.Code.Parts.{decidedAs, belowTotal, rowAfter}
+use Rattle.step.specs.Code.Parts.{decidedAs, rowAfter}
 use Rattle.step.specs.Code.Performs.{trapCourse, fateCourse, courseOf, Performs, courseResult}
 use Rattle.step.specs.Soundness.{totalSound, sound}
 use Rattle.step.specs.Laws.Occurrences.{hit-same}
@@ -126,7 +126,7 @@ room-down live fl e z = go (leb 64 live) (le? 64 live) (ap (λ (b : Bool). not (
     go true (below k) p = absurd (false≢true p)
     go false (above k) p = k
 
-module _ (rs : List Row) (sp ks ss a b c ps : List ℕ) (fl z : ℕ) (cs : Memory) (g w pr u v : List ℕ) (h : Numbers rs sp ks ss a b c ps fl z cs g w pr u v)
+module _ (rs : List Row) (sp ks ss a b c ps : List ℕ) (fl z live : ℕ) (cs : Memory) (g w pr u v : List ℕ) (h : Numbers rs sp ks ss a b c ps fl z live cs g w pr u v)
     (t : ℕ) (low : 1 ≤ t) (high : t ≤ 7) where
   abbrev now : State
   now = state (rowsIn ks ss rs) (tableOf ps (queuesIn a b c) fl) cs (memory g w) pr (memory u v)
@@ -147,12 +147,12 @@ module _ (rs : List Row) (sp ks ss a b c ps : List ℕ) (fl z : ℕ) (cs : Memor
   len-is = held-len 7 1 a b c z (queuesIn a b c) held t low upto
 
   -- a step that changes nothing
-  stays : step t now ≡ record { state = now; ending = Idle } → Steps t Idle rs sp ks ss a b c ps fl g w u v ks ss a b c ps fl z g w u v cs pr
+  stays : step t now ≡ record { state = now; ending = Idle } → Steps t Idle rs sp ks ss a b c ps fl g w u v ks ss a b c ps fl z live g w u v cs pr
   unfolding stateFrom
   stays e = record { steps = e; numbers = h }
 
   -- a task that has trapped
-  pub idle-trapped : getD ks t 0 ≢ 255 → Steps t Idle rs sp ks ss a b c ps fl g w u v ks ss a b c ps fl z g w u v cs pr
+  pub idle-trapped : getD ks t 0 ≢ 255 → Steps t Idle rs sp ks ss a b c ps fl g w u v ks ss a b c ps fl z live g w u v cs pr
   idle-trapped n = stays (go (findRow t (rowsIn ks ss rs)) refl)
     where
       go : (o : Option Row) → findRow t (rowsIn ks ss rs) ≡ o → step t now ≡ record { state = now; ending = Idle }
@@ -162,7 +162,7 @@ module _ (rs : List Row) (sp ks ss a b c ps : List ℕ) (fl z : ℕ) (cs : Memor
           (trapped-silent now r (processesOf (now .table) t) (λ q. n (sym (listed-kind ks ss t rs r (listed ks ss t rs r e)) ∙ q)))
 
   -- a task without processes
-  pub idle-empty : getD c t 0 ≡ 0 → Steps t Idle rs sp ks ss a b c ps fl g w u v ks ss a b c ps fl z g w u v cs pr
+  pub idle-empty : getD c t 0 ≡ 0 → Steps t Idle rs sp ks ss a b c ps fl g w u v ks ss a b c ps fl z live g w u v cs pr
   idle-empty n = stays (go (findRow t (rowsIn ks ss rs)) refl)
     where
       go : (o : Option Row) → findRow t (rowsIn ks ss rs) ≡ o → step t now ≡ record { state = now; ending = Idle }
@@ -255,10 +255,11 @@ module _ (rs : List Row) (sp ks ss a b c ps : List ℕ) (fl z : ℕ) (cs : Memor
           (own-sound (record { sound = parts .table; low = low; high = high; lists = found-hasRow t (rowsIn ks ss rs) the-row finds; nonempty = alive }))
           (decides-some (rowDecides decide now the-row (processesOf (now .table) t)) decision-now decides)
 
-      pub live-ready : Ready t x a b c z
-      unfolding the-row decision-now
+      pub live-ready : Ready t x a b c z live
+      unfolding the-row decision-now liveTotal
       live-ready = record {
         frees = h .frees;
+        counted = h .counted;
         once = once;
         shaped = shaped;
         some = omega (arith, some-live);
@@ -266,24 +267,25 @@ module _ (rs : List Row) (sp ks ss a b c ps : List ℕ) (fl z : ℕ) (cs : Memor
       }
 
       -- the step
-      module _ (d : Ending) (ks′ ss′ a′ b′ c′ : List ℕ) (fl′ z′ : ℕ) (g′ w′ u′ v′ : List ℕ) (wide : 8 ≤ length ks) (long : 8 ≤ length ss)
-          (q : Settled t (courseResult f (belowTotal (queuesIn a b c)) (getD ps′ pt 0) x) d ks ss a b c fl ks′ ss′ a′ b′ c′ fl′ z′)
+      module _ (d : Ending) (ks′ ss′ a′ b′ c′ : List ℕ) (fl′ z′ live′ : ℕ) (g′ w′ u′ v′ : List ℕ) (wide : 8 ≤ length ks) (long : 8 ≤ length ss)
+          (q : Settled t (courseResult f (belowTotal live) (getD ps′ pt 0) x) d ks ss a b c fl ks′ ss′ a′ b′ c′ fl′ z′ live′)
           (j : m ≡ memory g′ w′) (k : n ≡ memory u′ v′) where
         result-now : StepResult
-        result-now = courseResult f (belowTotal (queuesIn a b c)) (getD ps′ pt 0) x
+        result-now = courseResult f (belowTotal live) (getD ps′ pt 0) x
 
         parts-made : Parts t now the-row (Decides decision-now) result-now ps′ m n
         unfolding the-row decision-now result-now
         parts-made = record {
           head = pt;
           free = f;
-          room = belowTotal (queuesIn a b c);
+          below = belowTotal live;
           row = finds;
+          counted = refl;
           decides = decides;
           heads = head-is pt e;
           lowest = λ _. i ∙ held-lowest 7 1 a b c z (queuesIn a b c) held;
-          places = λ _. refl;
-          acts = performs-acts pt f (belowTotal (queuesIn a b c)) ps (omega (arith, psws-wide, head-lt pt e)) (not-fresh pt f e i) the-row decision-now x ps′ (memory g w) m (memory u v) n p;
+          places = λ _. ap belowTotal (h .counted);
+          acts = performs-acts pt f (belowTotal live) ps (omega (arith, psws-wide, head-lt pt e)) (not-fresh pt f e i) the-row decision-now x ps′ (memory g w) m (memory u v) n p;
         }
 
         rows-made : rowsIn ks′ ss′ rs ≡ putRow t (rowAfter (result-now .ending) the-row) (rowsIn ks ss rs)
@@ -298,13 +300,14 @@ module _ (rs : List Row) (sp ks ss a b c ps : List ℕ) (fl z : ℕ) (cs : Memor
             step-made t now the-row (rowAfter (result-now .ending) the-row) (Decides decision-now) result-now ps′ m n (queuesIn a′ b′ c′) fl′ parts-made refl (q .queues) (q .raised)
             ∙ rw (← rows-made, j, k, q .ends) refl
 
-        pub live-steps : Steps t d rs sp ks ss a b c ps fl g w u v ks′ ss′ a′ b′ c′ ps′ fl′ z′ g′ w′ u′ v′ cs pr
+        pub live-steps : Steps t d rs sp ks ss a b c ps fl g w u v ks′ ss′ a′ b′ c′ ps′ fl′ z′ live′ g′ w′ u′ v′ cs pr
         unfolding stateFrom
         live-steps = record {
           steps = step-is;
           numbers = record {
             windows = h .windows;
             frees = q .frees;
+            counted = q .counted;
             sound = ap (λ (y : Stepped). sound (y .state)) (sym step-is) ∙ step-sound t now (h .sound);
           };
         }

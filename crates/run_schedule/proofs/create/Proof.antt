@@ -1,14 +1,21 @@
 -- Skeleton and paths (.before ..) are generated: docs/PROOFS.md.
+use mathlib.Core.Path.{refl, sym, _∙_}
 use native.Mathlib.Omega.{arith}
+use borrow.Author.Tests.{not-true, not-false}
 use Rattle.run_rings.specs.Laws.Rings.{moves-twice}
-use Rattle.run_rings.specs.Laws.Mask.{none-left, some-left}
 use Rattle.step.specs.Queues.{turned, joined}
 use borrow.Author.Needs.{needs}
 use Rattle.run_schedule.proofs.create.Statement.{statement}
 use Rattle.run_schedule.proofs.create.Tie as tie
 
+below-total-requires : tie.Need-below-total-requires
+below-total-requires c κs = search needs
+
 taken-requires : tie.Need-taken-requires
 taken-requires c κs = search needs
+
+add-processes : tie.Need-add-processes
+add-processes c = search needs
 
 cast-join : tie.Need-cast-join
 cast-join c = search needs
@@ -26,7 +33,7 @@ same-length-3 : tie.Need-same-length-3
 same-length-3 c = search needs
 
 returns : tie.Need-returns
-returns c = let t = c .before .before .before .before .before .before .before .before .before .taken in (c .before .before .before .before .join .ensures, t .ensures, none-left (t .result) _ (t .ensures) (c .before .before .before .before .before .before .before .before .if1 .taken))
+returns c = (c .before .before .before .before .join .ensures, c .before .before .before .before .before .before .before .before .before .taken .ensures, refl, sym (sym (c .before .before .before .before .before .before .before .before .before .before .before .below-total .ensures) ∙ not-true (c .before .before .before .before .before .before .before .before .before .before .before .below-total .result) (c .before .before .before .before .before .before .before .before .if1 .taken)))
 
 turn-requires : tie.Need-turn-requires
 turn-requires c κs = search needs
@@ -47,13 +54,15 @@ same-length-6 : tie.Need-same-length-6
 same-length-6 c = search needs
 
 returns-2 : tie.Need-returns-2
-returns-2 c = let a = c .before .before .before .before .before .before .before .before .before .before .before .before .before .before .before .before .before .before .before .before .before .args in let t = c .before .before .before .before .before .before .before .before .before .before .before .before .before .before .before .before .taken in (moves-twice (a .k) turned (λ q. joined q (a .p)) _ _ _ _ _ _ _ _ _ (c .before .before .before .before .before .before .before .before .before .before .before .before .turn .ensures (a .lens .now) (omega arith)) (c .before .before .before .before .join2 .ensures), t .ensures, some-left (t .result) _ (t .ensures) (c .before .before .before .before .before .before .before .before .before .before .before .before .before .before .before .if1 .left))
+returns-2 c = let a = c .before .before .before .before .before .before .before .before .before .before .before .before .before .before .before .before .before .before .before .before .before .before .before .args in (moves-twice (a .k) turned (λ q. joined q (a .p)) _ _ _ _ _ _ _ _ _ (c .before .before .before .before .before .before .before .before .before .before .before .before .turn .ensures (a .lens .now) (omega arith)) (c .before .before .before .before .join2 .ensures), c .before .before .before .before .before .before .before .before .before .before .before .before .before .before .before .before .taken .ensures, refl, sym (sym (c .before .before .before .before .before .before .before .before .before .before .before .before .before .before .before .before .before .before .below-total .ensures) ∙ not-false (c .before .before .before .before .before .before .before .before .before .before .before .before .before .before .before .before .before .before .below-total .result) (c .before .before .before .before .before .before .before .before .before .before .before .before .before .before .before .if1 .left)))
 
 pub create-spec : {M : Type 1} → statement M
 create-spec =
     tie.close
     (tie.spec
+    below-total-requires
     taken-requires
+    add-processes
     cast-join
     join-requires
     same-length

@@ -13,7 +13,7 @@ slice-read-if1 : tie.Need-slice-read-if1
 slice-read-if1 c = omega (arith, c .before .before .before .before .before .before .before .before .before .before .before .before .before .before .before .pre .1, c .before .before .before .before .before .before .before .before .before .before .before .before .before .before .before .pre .3)
 
 returns : tie.Need-returns
-returns c = let a = c .before .before .before .before .before .before .before .before .before .before .before .before .before .before .before .before .args in let r = c .before .before .before .before .before .before .before .before .before .before .before .before .before .before .before .before .pre in λ rs h. idle-trapped rs (a .spans .now) (a .kinds .now) (a .stored .now) (a .pts .now) (a .heads .now) (a .lens .now) (a .psws .now) (a .flag .now) (a .free .now) (memory (a .constant-tags .now) (a .constant-words .now)) (a .register-tags .now) (a .register-words .now) (a .program .now) (a .data-tags .now) (a .data-words .now) h (a .t) (r .0) (r .1) (c .if1 .taken)
+returns c = let a = c .before .before .before .before .before .before .before .before .before .before .before .before .before .before .before .before .args in let r = c .before .before .before .before .before .before .before .before .before .before .before .before .before .before .before .before .pre in λ rs h. idle-trapped rs (a .spans .now) (a .kinds .now) (a .stored .now) (a .pts .now) (a .heads .now) (a .lens .now) (a .psws .now) (a .flag .now) (a .free .now) (a .processes .now) (memory (a .constant-tags .now) (a .constant-words .now)) (a .register-tags .now) (a .register-words .now) (a .program .now) (a .data-tags .now) (a .data-words .now) h (a .t) (r .0) (r .1) (c .if1 .taken)
 
 mul-len : tie.Need-mul-len
 mul-len c = omega (arith, c .before .before .before .before .before .before .before .before .before .before .before .before .before .before .before .before .pre .1)
@@ -22,7 +22,7 @@ slice-read-len : tie.Need-slice-read-len
 slice-read-len c = omega (arith, c .before .before .before .before .before .before .before .before .before .before .before .before .before .before .before .before .before .pre .1, c .before .before .before .before .before .before .before .before .before .before .before .before .before .before .before .before .before .pre .7)
 
 returns-2 : tie.Need-returns-2
-returns-2 c = let a = c .before .before .before .before .before .before .before .before .before .before .before .before .before .before .before .before .before .before .args in let r = c .before .before .before .before .before .before .before .before .before .before .before .before .before .before .before .before .before .before .pre in λ rs h. idle-empty rs (a .spans .now) (a .kinds .now) (a .stored .now) (a .pts .now) (a .heads .now) (a .lens .now) (a .psws .now) (a .flag .now) (a .free .now) (memory (a .constant-tags .now) (a .constant-words .now)) (a .register-tags .now) (a .register-words .now) (a .program .now) (a .data-tags .now) (a .data-words .now) h (a .t) (r .0) (r .1) (c .if2 .taken)
+returns-2 c = let a = c .before .before .before .before .before .before .before .before .before .before .before .before .before .before .before .before .before .before .args in let r = c .before .before .before .before .before .before .before .before .before .before .before .before .before .before .before .before .before .before .pre in λ rs h. idle-empty rs (a .spans .now) (a .kinds .now) (a .stored .now) (a .pts .now) (a .heads .now) (a .lens .now) (a .psws .now) (a .flag .now) (a .free .now) (a .processes .now) (memory (a .constant-tags .now) (a .constant-words .now)) (a .register-tags .now) (a .register-words .now) (a .program .now) (a .data-tags .now) (a .data-words .now) h (a .t) (r .0) (r .1) (c .if2 .taken)
 
 mul-pt : tie.Need-mul-pt
 mul-pt c = omega (arith, c .before .before .before .before .before .before .before .before .before .before .before .before .before .before .before .before .before .before .pre .1)
@@ -40,16 +40,16 @@ slice-read-pt-2 : tie.Need-slice-read-pt-2
 slice-read-pt-2 c = omega (arith, c .before .before .before .before .before .before .before .before .before .before .before .before .before .before .before .before .before .before .before .before .pre .1, c .before .before .before .before .before .before .before .before .before .before .before .before .before .before .before .before .before .before .before .before .pre .5)
 
 cast-pt : tie.Need-cast-pt
-cast-pt c = let a = c .before .before .before .before .before .before .before .before .before .before .before .before .before .before .before .before .before .before .before .before .args in let r = c .before .before .before .before .before .before .before .before .before .before .before .before .before .before .before .before .before .before .before .before .pre in omega (arith, head-lt (r .8 .rows) (a .spans .now) (a .kinds .now) (a .stored .now) (a .pts .now) (a .heads .now) (a .lens .now) (a .psws .now) (a .flag .now) (a .free .now) (memory (a .constant-tags .now) (a .constant-words .now)) (a .register-tags .now) (a .register-words .now) (a .program .now) (a .data-tags .now) (a .data-words .now) (r .8 .numbers) (a .t) (r .0) (r .1) (c .before .before .if2 .left) _ refl)
+cast-pt c = let a = c .before .before .before .before .before .before .before .before .before .before .before .before .before .before .before .before .before .before .before .before .args in let r = c .before .before .before .before .before .before .before .before .before .before .before .before .before .before .before .before .before .before .before .before .pre in omega (arith, head-lt (r .8 .rows) (a .spans .now) (a .kinds .now) (a .stored .now) (a .pts .now) (a .heads .now) (a .lens .now) (a .psws .now) (a .flag .now) (a .free .now) (a .processes .now) (memory (a .constant-tags .now) (a .constant-words .now)) (a .register-tags .now) (a .register-words .now) (a .program .now) (a .data-tags .now) (a .data-words .now) (r .8 .numbers) (a .t) (r .0) (r .1) (c .before .before .if2 .left) _ refl)
 
 lowest-requires : tie.Need-lowest-requires
 lowest-requires c κs = search needs
 
 mul-psw : tie.Need-mul-psw
-mul-psw c = let a = c .before .before .before .before .before .before .before .before .before .before .before .before .before .before .before .before .before .before .before .before .before .before .args in let r = c .before .before .before .before .before .before .before .before .before .before .before .before .before .before .before .before .before .before .before .before .before .before .pre in omega (arith, head-lt (r .8 .rows) (a .spans .now) (a .kinds .now) (a .stored .now) (a .pts .now) (a .heads .now) (a .lens .now) (a .psws .now) (a .flag .now) (a .free .now) (memory (a .constant-tags .now) (a .constant-words .now)) (a .register-tags .now) (a .register-words .now) (a .program .now) (a .data-tags .now) (a .data-words .now) (r .8 .numbers) (a .t) (r .0) (r .1) (c .before .before .before .before .if2 .left) _ refl)
+mul-psw c = let a = c .before .before .before .before .before .before .before .before .before .before .before .before .before .before .before .before .before .before .before .before .before .before .args in let r = c .before .before .before .before .before .before .before .before .before .before .before .before .before .before .before .before .before .before .before .before .before .before .pre in omega (arith, head-lt (r .8 .rows) (a .spans .now) (a .kinds .now) (a .stored .now) (a .pts .now) (a .heads .now) (a .lens .now) (a .psws .now) (a .flag .now) (a .free .now) (a .processes .now) (memory (a .constant-tags .now) (a .constant-words .now)) (a .register-tags .now) (a .register-words .now) (a .program .now) (a .data-tags .now) (a .data-words .now) (r .8 .numbers) (a .t) (r .0) (r .1) (c .before .before .before .before .if2 .left) _ refl)
 
 slice-read-psw : tie.Need-slice-read-psw
-slice-read-psw c = let a = c .before .before .before .before .before .before .before .before .before .before .before .before .before .before .before .before .before .before .before .before .before .before .before .args in let r = c .before .before .before .before .before .before .before .before .before .before .before .before .before .before .before .before .before .before .before .before .before .before .before .pre in omega (arith, head-lt (r .8 .rows) (a .spans .now) (a .kinds .now) (a .stored .now) (a .pts .now) (a .heads .now) (a .lens .now) (a .psws .now) (a .flag .now) (a .free .now) (memory (a .constant-tags .now) (a .constant-words .now)) (a .register-tags .now) (a .register-words .now) (a .program .now) (a .data-tags .now) (a .data-words .now) (r .8 .numbers) (a .t) (r .0) (r .1) (c .before .before .before .before .before .if2 .left) _ refl, psws-wide (r .8 .rows) (a .spans .now) (a .kinds .now) (a .stored .now) (a .pts .now) (a .heads .now) (a .lens .now) (a .psws .now) (a .flag .now) (a .free .now) (memory (a .constant-tags .now) (a .constant-words .now)) (a .register-tags .now) (a .register-words .now) (a .program .now) (a .data-tags .now) (a .data-words .now) (r .8 .numbers) (a .t) (r .0) (r .1))
+slice-read-psw c = let a = c .before .before .before .before .before .before .before .before .before .before .before .before .before .before .before .before .before .before .before .before .before .before .before .args in let r = c .before .before .before .before .before .before .before .before .before .before .before .before .before .before .before .before .before .before .before .before .before .before .before .pre in omega (arith, head-lt (r .8 .rows) (a .spans .now) (a .kinds .now) (a .stored .now) (a .pts .now) (a .heads .now) (a .lens .now) (a .psws .now) (a .flag .now) (a .free .now) (a .processes .now) (memory (a .constant-tags .now) (a .constant-words .now)) (a .register-tags .now) (a .register-words .now) (a .program .now) (a .data-tags .now) (a .data-words .now) (r .8 .numbers) (a .t) (r .0) (r .1) (c .before .before .before .before .before .if2 .left) _ refl, psws-wide (r .8 .rows) (a .spans .now) (a .kinds .now) (a .stored .now) (a .pts .now) (a .heads .now) (a .lens .now) (a .psws .now) (a .flag .now) (a .free .now) (a .processes .now) (memory (a .constant-tags .now) (a .constant-words .now)) (a .register-tags .now) (a .register-words .now) (a .program .now) (a .data-tags .now) (a .data-words .now) (r .8 .numbers) (a .t) (r .0) (r .1))
 
 mul-at : tie.Need-mul-at
 mul-at c = omega (arith, c .before .before .before .before .before .before .before .before .before .before .before .before .before .before .before .before .before .before .before .before .before .before .before .pre .1, c .before .before .before .before .before .before .before .before .before .before .before .before .before .before .before .before .before .before .before .before .before .before .before .pre .2)
@@ -118,13 +118,13 @@ perform-requires : tie.Need-perform-requires
 perform-requires c κs = search needs
 
 mul-p : tie.Need-mul-p
-mul-p c = let a = c .before .before .before .before .before .before .before .before .before .before .before .before .before .before .before .before .before .before .before .before .before .before .before .before .before .before .before .before .before .before .before .before .before .before .before .before .before .before .before .before .before .before .before .before .before .before .before .args in let r = c .before .before .before .before .before .before .before .before .before .before .before .before .before .before .before .before .before .before .before .before .before .before .before .before .before .before .before .before .before .before .before .before .before .before .before .before .before .before .before .before .before .before .before .before .before .before .before .pre in omega (arith, head-lt (r .8 .rows) (a .spans .now) (a .kinds .now) (a .stored .now) (a .pts .now) (a .heads .now) (a .lens .now) (a .psws .now) (a .flag .now) (a .free .now) (memory (a .constant-tags .now) (a .constant-words .now)) (a .register-tags .now) (a .register-words .now) (a .program .now) (a .data-tags .now) (a .data-words .now) (r .8 .numbers) (a .t) (r .0) (r .1) (c .before .before .before .before .before .before .before .before .before .before .before .before .before .before .before .before .before .before .before .before .before .before .before .before .before .before .before .before .before .if2 .left) _ refl)
+mul-p c = let a = c .before .before .before .before .before .before .before .before .before .before .before .before .before .before .before .before .before .before .before .before .before .before .before .before .before .before .before .before .before .before .before .before .before .before .before .before .before .before .before .before .before .before .before .before .before .before .before .args in let r = c .before .before .before .before .before .before .before .before .before .before .before .before .before .before .before .before .before .before .before .before .before .before .before .before .before .before .before .before .before .before .before .before .before .before .before .before .before .before .before .before .before .before .before .before .before .before .before .pre in omega (arith, head-lt (r .8 .rows) (a .spans .now) (a .kinds .now) (a .stored .now) (a .pts .now) (a .heads .now) (a .lens .now) (a .psws .now) (a .flag .now) (a .free .now) (a .processes .now) (memory (a .constant-tags .now) (a .constant-words .now)) (a .register-tags .now) (a .register-words .now) (a .program .now) (a .data-tags .now) (a .data-words .now) (r .8 .numbers) (a .t) (r .0) (r .1) (c .before .before .before .before .before .before .before .before .before .before .before .before .before .before .before .before .before .before .before .before .before .before .before .before .before .before .before .before .before .if2 .left) _ refl)
 
 slice-read-p : tie.Need-slice-read-p
-slice-read-p c = let a = c .before .before .before .before .before .before .before .before .before .before .before .before .before .before .before .before .before .before .before .before .before .before .before .before .before .before .before .before .before .before .before .before .before .before .before .before .before .before .before .before .before .before .before .before .before .before .before .before .args in let r = c .before .before .before .before .before .before .before .before .before .before .before .before .before .before .before .before .before .before .before .before .before .before .before .before .before .before .before .before .before .before .before .before .before .before .before .before .before .before .before .before .before .before .before .before .before .before .before .before .pre in head-inside (r .8 .rows) (a .spans .now) (a .kinds .now) (a .stored .now) (a .pts .now) (a .heads .now) (a .lens .now) (a .psws .now) (a .flag .now) (a .free .now) (memory (a .constant-tags .now) (a .constant-words .now)) (a .register-tags .now) (a .register-words .now) (a .program .now) (a .data-tags .now) (a .data-words .now) (r .8 .numbers) (a .t) (r .0) (r .1) (c .before .before .before .before .before .before .before .before .before .before .before .before .before .before .before .before .before .before .before .before .before .before .before .before .before .before .before .before .before .before .if2 .left) _ (c .before .before .before .before .before .before .before .before .before .before .before .perform .last .1 .1 .1 .1 .1 .1 .1 .0) refl (c .before .before .before .before .before .before .before .before .before .before .before .perform .kept .1 .1 .1 .1 .1 .1 .1 .0)
+slice-read-p c = let a = c .before .before .before .before .before .before .before .before .before .before .before .before .before .before .before .before .before .before .before .before .before .before .before .before .before .before .before .before .before .before .before .before .before .before .before .before .before .before .before .before .before .before .before .before .before .before .before .before .args in let r = c .before .before .before .before .before .before .before .before .before .before .before .before .before .before .before .before .before .before .before .before .before .before .before .before .before .before .before .before .before .before .before .before .before .before .before .before .before .before .before .before .before .before .before .before .before .before .before .before .pre in head-inside (r .8 .rows) (a .spans .now) (a .kinds .now) (a .stored .now) (a .pts .now) (a .heads .now) (a .lens .now) (a .psws .now) (a .flag .now) (a .free .now) (a .processes .now) (memory (a .constant-tags .now) (a .constant-words .now)) (a .register-tags .now) (a .register-words .now) (a .program .now) (a .data-tags .now) (a .data-words .now) (r .8 .numbers) (a .t) (r .0) (r .1) (c .before .before .before .before .before .before .before .before .before .before .before .before .before .before .before .before .before .before .before .before .before .before .before .before .before .before .before .before .before .before .if2 .left) _ (c .before .before .before .before .before .before .before .before .before .before .before .perform .last .1 .1 .1 .1 .1 .1 .1 .0) refl (c .before .before .before .before .before .before .before .before .before .before .before .perform .kept .1 .1 .1 .1 .1 .1 .1 .0)
 
 settle-requires : tie.Need-settle-requires
-settle-requires c κs = let a = c .before .before .before .before .before .before .before .before .before .before .before .before .before .before .before .before .before .before .before .before .before .before .before .before .before .before .before .before .before .before .before .before .before .before .before .before .before .before .before .before .before .before .before .before .before .before .before .before .before .before .before .before .before .before .before .args in let r = c .before .before .before .before .before .before .before .before .before .before .before .before .before .before .before .before .before .before .before .before .before .before .before .before .before .before .before .before .before .before .before .before .before .before .before .before .before .before .before .before .before .before .before .before .before .before .before .before .before .before .before .before .before .before .before .pre in let alive = c .before .before .before .before .before .before .before .before .before .before .before .before .before .before .before .before .before .before .before .before .before .before .before .before .before .before .before .before .before .before .before .before .before .before .before .before .before .if2 .left in let y = live-listed (r .8 .rows) (a .spans .now) (a .kinds .now) (a .stored .now) (a .pts .now) (a .heads .now) (a .lens .now) (a .psws .now) (a .flag .now) (a .free .now) (memory (a .constant-tags .now) (a .constant-words .now)) (a .register-tags .now) (a .register-words .now) (a .program .now) (a .data-tags .now) (a .data-words .now) (r .8 .numbers) (a .t) (r .0) (r .1) alive in let w = live-windows (r .8 .rows) (a .spans .now) (a .kinds .now) (a .stored .now) (a .pts .now) (a .heads .now) (a .lens .now) (a .psws .now) (a .flag .now) (a .free .now) (memory (a .constant-tags .now) (a .constant-words .now)) (a .register-tags .now) (a .register-words .now) (a .program .now) (a .data-tags .now) (a .data-words .now) (r .8 .numbers) (a .t) (r .0) (r .1) alive in let p = c .before .before .before .before .before .before .before .before .before .before .before .before .before .before .before .before .before .before .perform .ensures (rowIn (a .kinds .now) (a .stored .now) (y .row)) (w .registers) (w .program) (w .bytes) refl in (r .0, r .1, r .3, r .4, r .5, r .6, r .7, live-ready (r .8 .rows) (a .spans .now) (a .kinds .now) (a .stored .now) (a .pts .now) (a .heads .now) (a .lens .now) (a .psws .now) (a .flag .now) (a .free .now) (memory (a .constant-tags .now) (a .constant-words .now)) (a .register-tags .now) (a .register-words .now) (a .program .now) (a .data-tags .now) (a .data-words .now) (r .8 .numbers) (a .t) (r .0) (r .1) alive (c .before .before .before .before .before .before .before .before .before .before .before .before .before .before .before .before .before .before .before .before .before .before .before .before .before .before .before .before .before .before .before .before .before .before .before .before .before .before .before .if1 .left) _ _ _ _ _ _ refl (c .before .before .before .before .before .before .before .before .before .before .before .before .before .before .before .before .before .before .before .before .before .before .before .before .before .before .before .before .before .before .before .before .before .lowest .ensures) p, refl, refl, c .before .before .before .before .before .before .before .before .before .before .before .before .before .before .before .before .before .before .before .before .before .before .before .before .before .before .before .before .before .before .before .before .before .lowest .ensures)
+settle-requires c κs = let a = c .before .before .before .before .before .before .before .before .before .before .before .before .before .before .before .before .before .before .before .before .before .before .before .before .before .before .before .before .before .before .before .before .before .before .before .before .before .before .before .before .before .before .before .before .before .before .before .before .before .before .before .before .before .before .before .before .args in let r = c .before .before .before .before .before .before .before .before .before .before .before .before .before .before .before .before .before .before .before .before .before .before .before .before .before .before .before .before .before .before .before .before .before .before .before .before .before .before .before .before .before .before .before .before .before .before .before .before .before .before .before .before .before .before .before .before .pre in let alive = c .before .before .before .before .before .before .before .before .before .before .before .before .before .before .before .before .before .before .before .before .before .before .before .before .before .before .before .before .before .before .before .before .before .before .before .before .before .before .if2 .left in let y = live-listed (r .8 .rows) (a .spans .now) (a .kinds .now) (a .stored .now) (a .pts .now) (a .heads .now) (a .lens .now) (a .psws .now) (a .flag .now) (a .free .now) (a .processes .now) (memory (a .constant-tags .now) (a .constant-words .now)) (a .register-tags .now) (a .register-words .now) (a .program .now) (a .data-tags .now) (a .data-words .now) (r .8 .numbers) (a .t) (r .0) (r .1) alive in let w = live-windows (r .8 .rows) (a .spans .now) (a .kinds .now) (a .stored .now) (a .pts .now) (a .heads .now) (a .lens .now) (a .psws .now) (a .flag .now) (a .free .now) (a .processes .now) (memory (a .constant-tags .now) (a .constant-words .now)) (a .register-tags .now) (a .register-words .now) (a .program .now) (a .data-tags .now) (a .data-words .now) (r .8 .numbers) (a .t) (r .0) (r .1) alive in let p = c .before .before .before .before .before .before .before .before .before .before .before .before .before .before .before .before .before .before .before .perform .ensures (rowIn (a .kinds .now) (a .stored .now) (y .row)) (w .registers) (w .program) (w .bytes) refl in (r .0, r .1, r .3, r .4, r .5, r .6, r .7, live-ready (r .8 .rows) (a .spans .now) (a .kinds .now) (a .stored .now) (a .pts .now) (a .heads .now) (a .lens .now) (a .psws .now) (a .flag .now) (a .free .now) (a .processes .now) (memory (a .constant-tags .now) (a .constant-words .now)) (a .register-tags .now) (a .register-words .now) (a .program .now) (a .data-tags .now) (a .data-words .now) (r .8 .numbers) (a .t) (r .0) (r .1) alive (c .before .before .before .before .before .before .before .before .before .before .before .before .before .before .before .before .before .before .before .before .before .before .before .before .before .before .before .before .before .before .before .before .before .before .before .before .before .before .before .before .if1 .left) _ _ _ _ _ _ refl (c .before .before .before .before .before .before .before .before .before .before .before .before .before .before .before .before .before .before .before .before .before .before .before .before .before .before .before .before .before .before .before .before .before .before .lowest .ensures) p, refl, refl, c .before .before .before .before .before .before .before .before .before .before .before .before .before .before .before .before .before .before .before .before .before .before .before .before .before .before .before .before .before .before .before .before .before .before .lowest .ensures)
 
 same-length : tie.Need-same-length
 same-length c = c .before .before .before .before .before .before .before .before .before .before .settle .kept .1 .1 .1 .1 .1 .1 .0
@@ -142,22 +142,22 @@ same-length-5 : tie.Need-same-length-5
 same-length-5 c = c .before .before .before .before .before .before .before .before .before .before .settle .kept .1 .1 .1 .1 .1 .1 .1 .1 .1 .1 .0
 
 same-length-6 : tie.Need-same-length-6
-same-length-6 c = c .before .before .before .before .before .before .before .before .before .before .before .before .before .before .before .before .before .before .before .before .before .before .before .before .before .before .before .before .before .perform .kept .1 .1 .1 .1 .1 .1 .1 .0
+same-length-6 c = c .before .before .before .before .before .before .before .before .before .before .before .before .before .before .before .before .before .before .before .before .before .before .before .before .before .before .before .before .before .before .perform .kept .1 .1 .1 .1 .1 .1 .1 .0
 
 same-length-7 : tie.Need-same-length-7
-same-length-7 c = c .before .before .before .before .before .before .before .before .before .before .before .before .before .before .before .before .before .before .before .before .before .before .before .before .before .before .before .before .before .perform .kept .1 .1 .1 .1 .1 .1 .1 .1 .1 .1 .1 .1 .1 .1 .0
+same-length-7 c = c .before .before .before .before .before .before .before .before .before .before .before .before .before .before .before .before .before .before .before .before .before .before .before .before .before .before .before .before .before .before .perform .kept .1 .1 .1 .1 .1 .1 .1 .1 .1 .1 .1 .1 .1 .1 .0
 
 same-length-8 : tie.Need-same-length-8
-same-length-8 c = c .before .before .before .before .before .before .before .before .before .before .before .before .before .before .before .before .before .before .before .before .before .before .before .before .before .before .before .before .before .perform .kept .1 .1 .1 .1 .1 .1 .1 .1 .1 .1 .1 .1 .1 .1 .1 .0
+same-length-8 c = c .before .before .before .before .before .before .before .before .before .before .before .before .before .before .before .before .before .before .before .before .before .before .before .before .before .before .before .before .before .before .perform .kept .1 .1 .1 .1 .1 .1 .1 .1 .1 .1 .1 .1 .1 .1 .1 .0
 
 same-length-9 : tie.Need-same-length-9
-same-length-9 c = c .before .before .before .before .before .before .before .before .before .before .before .before .before .before .before .before .before .before .before .before .before .before .before .before .before .before .before .before .before .perform .kept .1 .1 .1 .1 .1 .1 .1 .1 .1 .1 .1 .1 .1 .1 .1 .1 .1 .0
+same-length-9 c = c .before .before .before .before .before .before .before .before .before .before .before .before .before .before .before .before .before .before .before .before .before .before .before .before .before .before .before .before .before .before .perform .kept .1 .1 .1 .1 .1 .1 .1 .1 .1 .1 .1 .1 .1 .1 .1 .1 .1 .0
 
 same-length-10 : tie.Need-same-length-10
-same-length-10 c = c .before .before .before .before .before .before .before .before .before .before .before .before .before .before .before .before .before .before .before .before .before .before .before .before .before .before .before .before .before .perform .kept .1 .1 .1 .1 .1 .1 .1 .1 .1 .1 .1 .1 .1 .1 .1 .1 .1 .1 .0
+same-length-10 c = c .before .before .before .before .before .before .before .before .before .before .before .before .before .before .before .before .before .before .before .before .before .before .before .before .before .before .before .before .before .before .perform .kept .1 .1 .1 .1 .1 .1 .1 .1 .1 .1 .1 .1 .1 .1 .1 .1 .1 .1 .0
 
 returns-3 : tie.Need-returns-3
-returns-3 c = let a = c .before .before .before .before .before .before .before .before .before .before .before .before .before .before .before .before .before .before .before .before .before .before .before .before .before .before .before .before .before .before .before .before .before .before .before .before .before .before .before .before .before .before .before .before .before .before .before .before .before .before .before .before .before .before .before .before .before .before .before .before .before .before .before .before .before .before .args in let r = c .before .before .before .before .before .before .before .before .before .before .before .before .before .before .before .before .before .before .before .before .before .before .before .before .before .before .before .before .before .before .before .before .before .before .before .before .before .before .before .before .before .before .before .before .before .before .before .before .before .before .before .before .before .before .before .before .before .before .before .before .before .before .before .before .before .before .pre in let alive = c .before .before .before .before .before .before .before .before .before .before .before .before .before .before .before .before .before .before .before .before .before .before .before .before .before .before .before .before .before .before .before .before .before .before .before .before .before .before .before .before .before .before .before .before .before .before .before .before .if2 .left in λ rs h. let y = live-listed rs (a .spans .now) (a .kinds .now) (a .stored .now) (a .pts .now) (a .heads .now) (a .lens .now) (a .psws .now) (a .flag .now) (a .free .now) (memory (a .constant-tags .now) (a .constant-words .now)) (a .register-tags .now) (a .register-words .now) (a .program .now) (a .data-tags .now) (a .data-words .now) h (a .t) (r .0) (r .1) alive in let w = live-windows rs (a .spans .now) (a .kinds .now) (a .stored .now) (a .pts .now) (a .heads .now) (a .lens .now) (a .psws .now) (a .flag .now) (a .free .now) (memory (a .constant-tags .now) (a .constant-words .now)) (a .register-tags .now) (a .register-words .now) (a .program .now) (a .data-tags .now) (a .data-words .now) h (a .t) (r .0) (r .1) alive in let p = c .before .before .before .before .before .before .before .before .before .before .before .before .before .before .before .before .before .before .before .before .before .before .before .before .before .before .before .before .before .perform .ensures (rowIn (a .kinds .now) (a .stored .now) (y .row)) (w .registers) (w .program) (w .bytes) refl in live-steps rs (a .spans .now) (a .kinds .now) (a .stored .now) (a .pts .now) (a .heads .now) (a .lens .now) (a .psws .now) (a .flag .now) (a .free .now) (memory (a .constant-tags .now) (a .constant-words .now)) (a .register-tags .now) (a .register-words .now) (a .program .now) (a .data-tags .now) (a .data-words .now) h (a .t) (r .0) (r .1) alive (c .before .before .before .before .before .before .before .before .before .before .before .before .before .before .before .before .before .before .before .before .before .before .before .before .before .before .before .before .before .before .before .before .before .before .before .before .before .before .before .before .before .before .before .before .before .before .before .before .before .before .if1 .left) _ _ _ _ _ _ refl (c .before .before .before .before .before .before .before .before .before .before .before .before .before .before .before .before .before .before .before .before .before .before .before .before .before .before .before .before .before .before .before .before .before .before .before .before .before .before .before .before .before .before .before .before .lowest .ensures) p _ _ _ _ _ _ _ _ _ _ _ _ (r .3) (r .4) (c .before .before .before .before .before .before .before .before .before .before .settle .ensures) refl refl
+returns-3 c = let a = c .before .before .before .before .before .before .before .before .before .before .before .before .before .before .before .before .before .before .before .before .before .before .before .before .before .before .before .before .before .before .before .before .before .before .before .before .before .before .before .before .before .before .before .before .before .before .before .before .before .before .before .before .before .before .before .before .before .before .before .before .before .before .before .before .before .before .before .args in let r = c .before .before .before .before .before .before .before .before .before .before .before .before .before .before .before .before .before .before .before .before .before .before .before .before .before .before .before .before .before .before .before .before .before .before .before .before .before .before .before .before .before .before .before .before .before .before .before .before .before .before .before .before .before .before .before .before .before .before .before .before .before .before .before .before .before .before .before .pre in let alive = c .before .before .before .before .before .before .before .before .before .before .before .before .before .before .before .before .before .before .before .before .before .before .before .before .before .before .before .before .before .before .before .before .before .before .before .before .before .before .before .before .before .before .before .before .before .before .before .before .before .if2 .left in λ rs h. let y = live-listed rs (a .spans .now) (a .kinds .now) (a .stored .now) (a .pts .now) (a .heads .now) (a .lens .now) (a .psws .now) (a .flag .now) (a .free .now) (a .processes .now) (memory (a .constant-tags .now) (a .constant-words .now)) (a .register-tags .now) (a .register-words .now) (a .program .now) (a .data-tags .now) (a .data-words .now) h (a .t) (r .0) (r .1) alive in let w = live-windows rs (a .spans .now) (a .kinds .now) (a .stored .now) (a .pts .now) (a .heads .now) (a .lens .now) (a .psws .now) (a .flag .now) (a .free .now) (a .processes .now) (memory (a .constant-tags .now) (a .constant-words .now)) (a .register-tags .now) (a .register-words .now) (a .program .now) (a .data-tags .now) (a .data-words .now) h (a .t) (r .0) (r .1) alive in let p = c .before .before .before .before .before .before .before .before .before .before .before .before .before .before .before .before .before .before .before .before .before .before .before .before .before .before .before .before .before .before .perform .ensures (rowIn (a .kinds .now) (a .stored .now) (y .row)) (w .registers) (w .program) (w .bytes) refl in live-steps rs (a .spans .now) (a .kinds .now) (a .stored .now) (a .pts .now) (a .heads .now) (a .lens .now) (a .psws .now) (a .flag .now) (a .free .now) (a .processes .now) (memory (a .constant-tags .now) (a .constant-words .now)) (a .register-tags .now) (a .register-words .now) (a .program .now) (a .data-tags .now) (a .data-words .now) h (a .t) (r .0) (r .1) alive (c .before .before .before .before .before .before .before .before .before .before .before .before .before .before .before .before .before .before .before .before .before .before .before .before .before .before .before .before .before .before .before .before .before .before .before .before .before .before .before .before .before .before .before .before .before .before .before .before .before .before .before .if1 .left) _ _ _ _ _ _ refl (c .before .before .before .before .before .before .before .before .before .before .before .before .before .before .before .before .before .before .before .before .before .before .before .before .before .before .before .before .before .before .before .before .before .before .before .before .before .before .before .before .before .before .before .before .before .lowest .ensures) p _ _ _ _ _ _ _ _ _ _ _ _ _ (r .3) (r .4) (c .before .before .before .before .before .before .before .before .before .before .settle .ensures) refl refl
 
 pub step-task-spec : {M : Type 1} → statement M
 step-task-spec =

@@ -1,6 +1,6 @@
 -- A run of slices that are cut to their sizes is a run of the state in the buffers.
 use Prim.Native.Nat.{ℕ, min, _≤_}
-use mathlib.Core.Path.{_≡_, sym, ap, _∙_}
+use mathlib.Core.Path.{_≡_, sym, ap, _∙_, subst}
 use mathlib.Core.Bool.{true, false}
 use mathlib.Core.List.{List, _++_}
 use native.Mathlib.Omega.{arith}
@@ -9,8 +9,11 @@ use borrow.Author.Tests.{not-false}
 use Rattle.window.specs.Memories.{memory}
 use Rattle.window.specs.declared.Row.{Row}
 use Rattle.step.specs.declared.ProcessTable.{ProcessTable}
+use Rattle.step.specs.Queues.{liveTotal}
 use Rattle.step.specs.State.{State}
-use Rattle.step.specs.Soundness.{every}
+use Rattle.step.specs.Act.{tableOf}
+use Rattle.step.specs.Soundness.{every, liveSound}
+use Rattle.step.specs.Laws.Sound.{sound-parts, live-counted, live-made}
 use Rattle.run.specs.declared.Counts.{Counts}
 use Rattle.run.specs.Run.{Ran, run}
 use Rattle.run.specs.Laws.Run.{run-lengths}
@@ -45,22 +48,47 @@ module _ (v : Rows) (table : ProcessTable) (constantTags constantWords tags word
   pub sizes-fit : Fitting n (lengths v table constantTags constantWords tags words program dataTags dataWords)
   sizes-fit = fitting n (lengths v table constantTags constantWords tags words program dataTags dataWords) fit
 
-  -- the state that is cut is sound
-  pub cut-sound : soundIn (n .rows) given ≡ true
-  cut-sound = not-false (soundIn (n .rows) given) (cut-refused v table constantTags constantWords tags words program dataTags dataWords n seven fit ∙ sound)
+  -- the table is the one that is made of its PSWs, queues and flag
+  counted : liveSound table ≡ true
+  unfolding fieldsIn
+  counted = sound-parts (fieldsIn n held) (accepted n held sound .1) .table .counted
+
+  abbrev made : ProcessTable
+  made = tableOf (table .psw) (table .queues) (table .flag)
+
+  pub total-counted : table .processes ≡ liveTotal (table .queues)
+  total-counted = live-counted table counted .1
+
+  -- the state that is cut, with this table, is sound
+  pub cut-sound : soundIn (n .rows) (cut v made constantTags constantWords tags words program dataTags dataWords n) ≡ true
+  cut-sound =
+      subst (λ (t : ProcessTable). soundIn (n .rows) (cut v t constantTags constantWords tags words program dataTags dataWords n) ≡ true) (live-made table counted)
+      (not-false (soundIn (n .rows) given) (cut-refused v table constantTags constantWords tags words program dataTags dataWords n seven fit ∙ sound))
 
   -- the rows that are not held stay
   pub rows-beyond : (rows′ : List Row) → drop (n .rows) rows′ ≡ drop (n .rows) (v .at) → drop (v .n) rows′ ≡ drop (v .n) (v .at)
   rows-beyond rows′ d = let h : n .rows ≤ min (v .n) 7 = sizes-fit .rows in drop-later (n .rows) (v .n) (v .at) rows′ (omega (arith, h)) d
 
   module _ (l : List ℕ) (rows′ : List Row) (table′ : ProcessTable) (c : Counts) (tags′ words′ dataTags′ dataWords′ : List ℕ) where
+    abbrev cutFrom : ProcessTable → State
+    cutFrom t = stateIn rows′ (n .rows) t (memory (take (n .constants) constantTags) (take (n .constants) constantWords)) tags′ words′ (take (n .program) program) dataTags′ dataWords′
+
     abbrev cutAfter : State
-    cutAfter = stateIn rows′ (n .rows) table′ (memory (take (n .constants) constantTags) (take (n .constants) constantWords)) tags′ words′ (take (n .program) program) dataTags′ dataWords′
+    cutAfter = cutFrom table′
 
     abbrev after : Buffers
     after =
         lentBuffers (take (v .n) rows′) table′ constantTags constantWords (tags′ ++ drop (n .registers) tags) (words′ ++ drop (n .registers) words) program
         (dataTags′ ++ drop (n .data_words) dataTags) (dataWords′ ++ drop (n .data_words) dataWords)
+
+    -- a run from the table that is made to one that is made
+    pub run-made : table′ ≡ tableOf (table′ .psw) (table′ .queues) (table′ .flag)
+        → record { state = cutFrom (tableOf (table′ .psw) (table′ .queues) (table′ .flag)); counts = c } ≡ run l (cut v made constantTags constantWords tags words program dataTags dataWords n)
+        → record { state = cutAfter; counts = c } ≡ run l given
+    run-made e s =
+        ap (λ (t : ProcessTable). record { state = cutFrom t; counts = c }) e
+        ∙ s
+        ∙ ap (λ (t : ProcessTable). run l (cut v t constantTags constantWords tags words program dataTags dataWords n)) (sym (live-made table counted))
 
     -- there are seven rows still
     pub rows-left : record { state = cutAfter; counts = c } ≡ run l given → drop (n .rows) rows′ ≡ drop (n .rows) (v .at) → length rows′ ≡ 7

@@ -13,7 +13,7 @@ use Rattle.window.specs.declared.Row.{Row}
 use Rattle.window.specs.Memories.{Memory, memory}
 use Rattle.window.specs.Sound.{stateSound}
 use Rattle.step.specs.declared.Queue.{Queue}
-use Rattle.step.specs.Queues.{livePts}
+use Rattle.step.specs.Queues.{livePts, liveTotal}
 use Rattle.step.specs.State.{state, findRow}
 use Rattle.step.specs.Act.{tableOf}
 use Rattle.step.specs.Soundness.{sound}
@@ -68,10 +68,11 @@ module _ (rows : List Row) (n : ℕ) (qs : List Queue) (fl : ℕ) (ps : List ℕ
         (rows-start ks ss 0 (take n rows) (parts .rows) (λ t r f. let x = tells t r f in (x .kind, x .psw)))
         queues
 
-    pub numbers-start : (z : ℕ) → Frees z (livePts qs) → Numbers (take n rows) sp ks ss a b c ps fl z cs g w pr u v
-    numbers-start z f = record {
+    pub numbers-start : (z m : ℕ) → Frees z (livePts qs) → m ≡ liveTotal qs → Numbers (take n rows) sp ks ss a b c ps fl z m cs g w pr u v
+    numbers-start z m f l = record {
       windows = λ t r e. tells t r e .windows;
       frees = subst (λ (qs : List Queue). Frees z (livePts qs)) (sym queues) f;
+      counted = l ∙ ap liveTotal (sym queues);
       sound = ap sound state-start ∙ whole;
     }
 

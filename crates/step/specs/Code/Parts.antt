@@ -1,13 +1,12 @@
 -- A step in the parts that code makes one after another: what is decided, how the step ends, and what becomes of the queue, the PSWs, the row
--- and the flag. `free` is the lowest free PT, and `below` says that one process more is fewer than 64; only a create looks at them.
+-- and the flag. `free` is the lowest free PT, and `below` says that one process more is fewer than the total; only a create looks at them.
 -- Document 01 has none of these parts: it names `step` alone, and law step-made (Laws/Parts) says that together they are `step`.
-use Prim.Native.Nat.{ℕ, suc}
+use Prim.Native.Nat.{ℕ}
 use mathlib.Core.Path.{_≡_}
 use mathlib.Core.Bool.{Bool, true, false, cond}
 use mathlib.Core.Option.{Option, none, some}
 use mathlib.Core.List.{List, []}
-use lib.Dec.{ltb}
-use lib.ListN.{length, set}
+use lib.ListN.{set}
 use Rattle.window.specs.declared.Row.{Row}
 use Rattle.window.specs.declared.Write.{Write}
 use Rattle.window.specs.Windows.{registerWindow, dataWordWindow}
@@ -27,17 +26,13 @@ use Rattle.step.specs.declared.Decided.the-variants as decided
 use Rattle.step.specs.declared.Motion.{Motion}
 use Rattle.step.specs.declared.Motion.the-variants.{Stays, Turns, Leaves, TurnsAndJoins, Joins}
 use Rattle.step.specs.declared.StepResult.{StepResult}
-use Rattle.step.specs.Queues.{total, turned, shifted, joined, livePts}
+use Rattle.step.specs.Queues.{turned, shifted, joined}
 use Rattle.step.specs.Act.{registerWrites, dataWrites, trappedRow}
 
 -- a decision, or none, as an answer
 unfoldable pub decidedAs : Option Decision → Decided
 decidedAs none = decided.Idle
 decidedAs (some d) = Decides d
-
--- one process more is fewer than the total
-abbrev pub belowTotal : List Queue → Bool
-belowTotal qs = ltb (suc (length (livePts qs))) total
 
 -- whether a process joins
 unfoldable pub fateCreates : Fate → Bool

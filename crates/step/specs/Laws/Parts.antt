@@ -24,11 +24,11 @@ use Rattle.step.specs.declared.Ending.the-variants as ending
 use Rattle.step.specs.declared.Decided.{Decided}
 use Rattle.step.specs.declared.Decided.the-variants.{Idle, Decides}
 use Rattle.step.specs.declared.StepResult.{StepResult}
-use Rattle.step.specs.Queues.{ring, listOf, headOf, lowestFree}
+use Rattle.step.specs.Queues.{belowTotal, ring, listOf, headOf, lowestFree}
 use Rattle.step.specs.State.{State, state, findRow, putRow, noQueue, queueIn, taskQueue, withQueue, pswsOf, processesOf, environment}
 use Rattle.step.specs.Act.{registerWrites, dataWrites, trappedRow, tableOf, Change, Stepped, changeOf, fateIn, createdIn, faultIn, createdPsws, headPsws, act}
 use Rattle.step.specs.Step.{noTrap, headDecides, rowDecides, acted, stepRow, stepBy, step}
-use Rattle.step.specs.Code.Parts.{decidedAs, belowTotal, fateCreates, creates, fateResult, decisionResult, resultOf, fatePsws, decisionPsws, pswsAfter, registersWritten, dataWritten, movedQueue, flagAfter, rowAfter, Acts}
+use Rattle.step.specs.Code.Parts.{decidedAs, fateCreates, creates, fateResult, decisionResult, resultOf, fatePsws, decisionPsws, pswsAfter, registersWritten, dataWritten, movedQueue, flagAfter, rowAfter, Acts}
 use Rattle.step.specs.Laws.Occurrences.{Heads}
 use Rattle.step.specs.Laws.Queues.{heads}
 use Rattle.step.specs.Laws.Rows.{put-same, find-task}
@@ -65,13 +65,13 @@ changed table r x psw = record {
   ending = x .ending;
 }
 
-module _ (table : ProcessTable) (r : Row) (free : ℕ) (room : Bool) where
-  fate-parts : (f : Fate) → (fateCreates f ≡ true → free ≡ lowestFree (table .queues)) → (fateCreates f ≡ true → room ≡ belowTotal (table .queues))
-      → fateIn table r f ≡ changed table r (fateResult free room f) (fatePsws (headOf (taskQueue table (r .task))) free f (table .psw))
+module _ (table : ProcessTable) (r : Row) (free : ℕ) (below : Bool) where
+  fate-parts : (f : Fate) → (fateCreates f ≡ true → free ≡ lowestFree (table .queues)) → (fateCreates f ≡ true → below ≡ belowTotal (table .processes))
+      → fateIn table r f ≡ changed table r (fateResult free below f) (fatePsws (headOf (taskQueue table (r .task))) free f (table .psw))
   unfolding fateIn fateCreates fateResult fatePsws headPsws createdIn createdPsws faultIn rowAfter movedQueue flagAfter
   fate-parts (Continues p) g h = refl
   fate-parts Quits g h = refl
-  fate-parts (Creates p new) g h = rw (g refl, h refl) (go (belowTotal (table .queues)))
+  fate-parts (Creates p new) g h = rw (g refl, h refl) (go (belowTotal (table .processes)))
     where
       go : (b : Bool) → cond b (createdIn table r p new) (faultIn table r p new)
           ≡ changed table r (fateResult (lowestFree (table .queues)) b (Creates p new)) (createdPsws table r p new)
@@ -79,8 +79,8 @@ module _ (table : ProcessTable) (r : Row) (free : ℕ) (room : Bool) where
       go false = refl
 
   change-parts : (d : Decision) → (creates (decidedAs (some d)) ≡ true → free ≡ lowestFree (table .queues))
-      → (creates (decidedAs (some d)) ≡ true → room ≡ belowTotal (table .queues))
-      → changeOf table r d ≡ changed table r (decisionResult free room d) (decisionPsws (headOf (taskQueue table (r .task))) free d (table .psw))
+      → (creates (decidedAs (some d)) ≡ true → below ≡ belowTotal (table .processes))
+      → changeOf table r d ≡ changed table r (decisionResult free below d) (decisionPsws (headOf (taskQueue table (r .task))) free d (table .psw))
   unfolding changeOf creates decidedAs decisionResult decisionPsws headPsws rowAfter movedQueue flagAfter
   change-parts (Waits w) g h = refl
   change-parts (Traps k p) g h =
@@ -96,15 +96,17 @@ unfoldable steppedBy : State → Row → StepResult → (psw : List ℕ) → (re
 steppedBy s r x psw registers dataWords =
     let c : Change = changed (s .table) r x psw in after s (putRow (r .task) (c .row) (s .rows)) (c .table) registers dataWords (c .ending)
 
-module _ (s : State) (r : Row) (head free : ℕ) (room : Bool) (x : StepResult) (psw : List ℕ) (m n : Memory) (stands : putRow (r .task) r (s .rows) ≡ s .rows)
-    (heads : head ≡ headOf (taskQueue (s .table) (r .task))) where
+module _ (s : State) (r : Row) (head free : ℕ) (below : Bool) (x : StepResult) (psw : List ℕ) (m n : Memory) (stands : putRow (r .task) r (s .rows) ≡ s .rows)
+    (heads : head ≡ headOf (taskQueue (s .table) (r .task)))
+    (counted : s .table ≡ tableOf (s .table .psw) (s .table .queues) (s .table .flag)) where
   acted-parts : (o : Option Decision) → (creates (decidedAs o) ≡ true → free ≡ lowestFree (s .table .queues))
-      → (creates (decidedAs o) ≡ true → room ≡ belowTotal (s .table .queues)) → Acts r (decidedAs o) head free room x (s .table .psw) psw (s .registers) m (s .dataWords) n
+      → (creates (decidedAs o) ≡ true → below ≡ belowTotal (s .table .processes)) → Acts r (decidedAs o) head free below x (s .table .psw) psw (s .registers) m (s .dataWords) n
       → acted decide s r o ≡ steppedBy s r x psw m n
   unfolding acted act steppedBy decidedAs resultOf pswsAfter registersWritten dataWritten written storedAll rowAfter movedQueue flagAfter
   acted-parts none g h a =
       rw (a .ends, a .psws, a .registers, a .dataWords)
-      (ap₂ {C = Stepped} (λ rs qs. after s rs (tableOf (s .table .psw) qs (s .table .flag)) (s .registers) (s .dataWords) ending.Idle)
+      (ap (λ (t : ProcessTable). after s (s .rows) t (s .registers) (s .dataWords) ending.Idle) counted
+      ∙ ap₂ {C = Stepped} (λ rs qs. after s rs (tableOf (s .table .psw) qs (s .table .flag)) (s .registers) (s .dataWords) ending.Idle)
       (sym stands)
       (sym (queue-same (s .table .queues) (r .task))))
   acted-parts (some d) g h a =
@@ -114,19 +116,20 @@ module _ (s : State) (r : Row) (head free : ℕ) (room : Bool) (x : StepResult) 
       (written (registerWindow r) (registerWrites d) (s .registers))
       (written (dataWordWindow r) (dataWrites d) (s .dataWords))
       (c .ending))
-      (change-parts (s .table) r free room d g h))
+      (change-parts (s .table) r free below d g h))
 
 -- the parts that a step of task t makes, one after another
 pub record Parts (t : ℕ) (s : State) (r : Row) (d : Decided) (x : StepResult) (psw : List ℕ) (m n : Memory) : Type 0 where
   pub head : ℕ
   pub free : ℕ
-  pub room : Bool
+  pub below : Bool
   pub row : findRow t (s .rows) ≡ some r
+  pub counted : s .table ≡ tableOf (s .table .psw) (s .table .queues) (s .table .flag)
   pub decides : d ≡ decidedAs (rowDecides decide s r (processesOf (s .table) t))
   pub heads : head ≡ headOf (taskQueue (s .table) t)
   pub lowest : creates d ≡ true → free ≡ lowestFree (s .table .queues)
-  pub places : creates d ≡ true → room ≡ belowTotal (s .table .queues)
-  pub acts : Acts r d head free room x (s .table .psw) psw (s .registers) m (s .dataWords) n
+  pub places : creates d ≡ true → below ≡ belowTotal (s .table .processes)
+  pub acts : Acts r d head free below x (s .table .psw) psw (s .registers) m (s .dataWords) n
 
 step-parts : (t : ℕ) (s : State) (r : Row) (d : Decided) (x : StepResult) (psw : List ℕ) (m n : Memory) → Parts t s r d x psw m n
     → step t s ≡ steppedBy s r x psw m n
@@ -134,13 +137,13 @@ unfolding step stepBy stepRow
 step-parts t s r d x psw m n p =
     let e : t ≡ r .task = sym (find-task t (s .rows) r (p .row)) in
     rw (p .row)
-    (acted-parts s r (p .head) (p .free) (p .room) x psw m n
+    (acted-parts s r (p .head) (p .free) (p .below) x psw m n
     (subst (λ (u : ℕ). putRow u r (s .rows) ≡ s .rows) e (put-same t (s .rows) r (p .row)))
-    (subst (λ (u : ℕ). p .head ≡ headOf (taskQueue (s .table) u)) e (p .heads))
+    (subst (λ (u : ℕ). p .head ≡ headOf (taskQueue (s .table) u)) e (p .heads)) (p .counted)
     (rowDecides decide s r (processesOf (s .table) t))
     (subst (λ (d : Decided). creates d ≡ true → p .free ≡ lowestFree (s .table .queues)) (p .decides) (p .lowest))
-    (subst (λ (d : Decided). creates d ≡ true → p .room ≡ belowTotal (s .table .queues)) (p .decides) (p .places))
-    (subst (λ (d : Decided). Acts r d (p .head) (p .free) (p .room) x (s .table .psw) psw (s .registers) m (s .dataWords) n) (p .decides) (p .acts)))
+    (subst (λ (d : Decided). creates d ≡ true → p .below ≡ belowTotal (s .table .processes)) (p .decides) (p .places))
+    (subst (λ (d : Decided). Acts r d (p .head) (p .free) (p .below) x (s .table .psw) psw (s .registers) m (s .dataWords) n) (p .decides) (p .acts)))
 
 -- with what a run holds after the step: the row, the queues and the flag, each left as it is where it does not change
 pub step-made : (t : ℕ) (s : State) (r r′ : Row) (d : Decided) (x : StepResult) (psw : List ℕ) (m n : Memory) (queues : List Queue) (flag : ℕ) → Parts t s r d x psw m n

@@ -2,10 +2,8 @@
 use mathlib.Core.Path.{_≡_, refl, ap, _∙_}
 use mathlib.Core.Bool.{Bool, true, false, cond}
 use mathlib.Core.Option.{Option, none, some}
-use Prim.Native.Nat.{ℕ, suc}
+use Prim.Native.Nat.{ℕ}
 use native.Mathlib.Omega.{arith}
-use lib.Dec.{ltb}
-use lib.ListN.{length}
 use Rattle.window.specs.declared.Row.{Row}
 use Rattle.operation.specs.Environment.{Environment}
 use Rattle.operation.specs.declared.Wait.{Wait}
@@ -15,7 +13,7 @@ use Rattle.operation.specs.declared.Decision.{Decision}
 use Rattle.operation.specs.declared.Decision.the-variants.{Waits, Traps, Executes}
 use Rattle.step.specs.declared.ProcessTable.{ProcessTable}
 use Rattle.step.specs.declared.Ending.the-variants.{Waved}
-use Rattle.step.specs.Queues.{total, livePts}
+use Rattle.step.specs.Queues.{belowTotal}
 use Rattle.step.specs.State.{State, findRow, processesOf}
 use Rattle.step.specs.Act.{createdIn, faultIn, fateIn, changeOf, act}
 use Rattle.step.specs.Step.{rowDecides, acted, stepRow, stepBy}
@@ -25,7 +23,7 @@ fate-ends : (table : ProcessTable) (r : Row) (f : Fate) → fateIn table r f .en
 unfolding fateIn createdIn faultIn
 fate-ends table r (Continues p) e = let z : _≡_ {A = ℕ} 0 1 = cc in omega arith
 fate-ends table r Quits e = let z : _≡_ {A = ℕ} 0 1 = cc in omega arith
-fate-ends table r (Creates p new) e = go (ltb (suc (length (livePts (table .queues)))) total) e
+fate-ends table r (Creates p new) e = go (belowTotal (table .processes)) e
   where
     go : (b : Bool) → cond b (createdIn table r p new) (faultIn table r p new) .ending ≡ Waved → ⊥
     go true e = let z : _≡_ {A = ℕ} 0 1 = cc in omega arith

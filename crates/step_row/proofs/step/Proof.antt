@@ -1,5 +1,5 @@
 -- Skeleton and paths (.before ..) are generated: docs/PROOFS.md.
-use Rattle.step_row.specs.Laws.Call.{task-range, fitted, unsound-kept, item-kept, row-kept, step-kept}
+use Rattle.step_row.specs.Laws.Call.{task-range, counted-few, fitted, unsound-kept, item-kept, row-kept, step-kept}
 use lib.Seq.{length-take-le}
 use borrow.Author.Tests.{not-true, not-false}
 use mathlib.Core.Path.{refl, sym, _∙_}
@@ -83,7 +83,7 @@ slice-aggregate-step-of-7 : tie.Need-slice-aggregate-step-of-7
 slice-aggregate-step-of-7 c = let a = c .before .before .before .before .before .before .before .before .before .before .before .before .before .before .before .before .before .before .before .before .before .before .args in let f = fitted (a .rows) (a .table) (a .constant-tags .now) (a .constant-words .now) (a .register-tags .now) (a .register-words .now) (a .program .now) (a .data-tags .now) (a .data-words .now) (a .n) (c .before .before .before .before .before .before .before .before .before .before .refused .result) (c .before .before .before .before .before .before .before .before .before .before .refused .ensures) (c .before .before .before .before .before .before .before .before .before .if1 .left) in sym (length-take-le (a .n .data_words) (a .data-words .now) (f .dataWords))
 
 step-of-requires : tie.Need-step-of-requires
-step-of-requires c κs = task-range (c .before .before .before .before .before .before .before .before .before .before .before .before .before .before .before .before .before .before .before .before .before .before .args .task) (sym (c .before .before .before .before .before .before .before .before .item-sound .ensures) ∙ not-false _ (c .before .before .before .before .before .before .before .if2 .left))
+step-of-requires c κs = let a = c .before .before .before .before .before .before .before .before .before .before .before .before .before .before .before .before .before .before .before .before .before .before .args in let r = task-range (a .task) (sym (c .before .before .before .before .before .before .before .before .item-sound .ensures) ∙ not-false _ (c .before .before .before .before .before .before .before .if2 .left)) in let k = counted-few (a .rows) (a .table) (a .constant-tags .now) (a .constant-words .now) (a .register-tags .now) (a .register-words .now) (a .program .now) (a .data-tags .now) (a .data-words .now) (a .n) (c .before .before .before .before .before .before .before .before .before .before .refused .result) (c .before .before .before .before .before .before .before .before .before .before .refused .ensures) (c .before .before .before .before .before .before .before .before .before .if1 .left) in (r .0, r .1, k .0, k .1)
 
 same-length-9 : tie.Need-same-length-9
 same-length-9 c = search needs

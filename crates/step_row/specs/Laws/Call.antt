@@ -4,6 +4,7 @@ use mathlib.Core.Path.{_≡_, refl, sym, _∙_}
 use mathlib.Core.Bool.{Bool, true, false}
 use mathlib.Core.Option.{none, some}
 use mathlib.Core.List.{List, _++_}
+use native.Mathlib.Omega.{arith}
 use lib.Dec.{leb}
 use lib.ListN.{length, set, take, drop}
 use borrow.Author.Tests.{leb-true}
@@ -15,7 +16,10 @@ use Rattle.window.specs.Memories.{memory}
 use Rattle.step.specs.declared.ProcessTable.{ProcessTable}
 use Rattle.step.specs.State.{State, state, putRow}
 use Rattle.step.specs.Step.{step}
-use Rattle.step.specs.Soundness.{hasRow}
+use Rattle.step.specs.Queues.{livePts, liveTotal}
+use Rattle.step.specs.Soundness.{hasRow, liveSound}
+use Rattle.step.specs.Laws.Occurrences.{length-once}
+use Rattle.step.specs.Laws.Sound.{sound-parts, tidy-of}
 use Rattle.run.specs.Schedule.{itemSound}
 use Rattle.library.specs.declared.Rows.{Rows}
 use Rattle.library.specs.declared.Sizes.{Sizes}
@@ -45,6 +49,16 @@ pub fitted : (v : Rows) (table : ProcessTable) (constantTags constantWords regis
 unfolding roomOf
 fitted v table constantTags constantWords registerTags registerWords program dataTags dataWords n r e f =
     fitting n _ (accepted n (before v table constantTags constantWords registerTags registerWords program dataTags dataWords) (sym e ∙ f) .0)
+
+-- its live counts are those of its queues, and no more than the total
+pub counted-few : (v : Rows) (table : ProcessTable) (constantTags constantWords registerTags registerWords program dataTags dataWords : List ℕ) (n : Sizes) (r : Bool)
+    → r ≡ stateRefused n (before v table constantTags constantWords registerTags registerWords program dataTags dataWords) → r ≡ false
+    → (liveSound table ≡ true) × (table .processes ≤ 64)
+unfolding fieldsIn liveTotal
+counted-few v table constantTags constantWords registerTags registerWords program dataTags dataWords n r e f =
+    let p = sound-parts _ (accepted n (before v table constantTags constantWords registerTags registerWords program dataTags dataWords) (sym e ∙ f) .1) in
+    let tidy = tidy-of _ table (p .table) in
+    (p .table .counted, omega (arith, tidy .counted, length-once 64 (livePts (table .queues)) (tidy .once) (tidy .small)))
 
 module _ (v : Rows) (row : Row) (table : ProcessTable) (constantTags constantWords registerTags registerWords program dataTags dataWords : List ℕ) (n : Sizes) (t : ℕ) where
   abbrev held : Buffers

@@ -5,9 +5,9 @@ use mathlib.Core.Path.{_≡_, sym, ap, _∙_}
 use lib.ListN.{take, length, length-map}
 use borrow.Author.Tests.{not-true, not-false, eq-eqb, le-leb, lt-leb}
 use borrow.Author.Needs.{needs}
-use Rattle.step.specs.Queues.{livePts}
-use Rattle.step.specs.Soundness.{queuesSound, processesSound, totalSound, flagSound, tableSound}
-use Rattle.step_soundness.proofs.Loops.{room-counted}
+use Rattle.step.specs.Queues.{livePts, liveTotal}
+use Rattle.step.specs.Soundness.{queuesSound, processesSound, totalSound, flagSound, liveSound, tableSound}
+use Rattle.step.specs.Laws.Sound.{live-counted}
 use Rattle.step_soundness.proofs.table_sound.Statement.{statement}
 use Rattle.step_soundness.proofs.table_sound.Tie as tie
 
@@ -15,7 +15,7 @@ use Rattle.step_soundness.proofs.table_sound.Tie as tie
 opened : (c : tie.Start) → (let rows = take (c .args .n) (c .args .rows) in let t = c .args .table in
     tableSound rows t
     ≡ queuesSound rows 1 (t .queues)
-    && (processesSound (t .psw) (livePts (t .queues)) && (flagSound (t .flag) && totalSound (length (livePts (t .queues))) (t .flag))))
+    && (processesSound (t .psw) (livePts (t .queues)) && (flagSound (t .flag) && (liveSound t && totalSound (liveTotal (t .queues)) (t .flag)))))
 unfolding tableSound
 opened c =
     let wide : length (c .args .table .psw) ≡ 64 = search needs in
@@ -46,14 +46,8 @@ returns-3 c =
     let p = c .before .before .processes-sound in
     sym (opened s ∙ simp (sym (q .ensures) ∙ not-false (q .result) (c .before .before .before .if1 .left), sym (p .ensures) ∙ not-false (p .result) (c .before .if2 .left), lt-leb _ _ (c .if3 .taken)))
 
-live-requires : tie.Need-live-requires
-live-requires c κs = search needs
-
-cast-total-sound : tie.Need-cast-total-sound
-cast-total-sound c = search needs
-
-total-sound-requires : tie.Need-total-sound-requires
-total-sound-requires c κs = search needs
+live-sound-requires : tie.Need-live-sound-requires
+live-sound-requires c κs = search needs
 
 returns-4 : tie.Need-returns-4
 unfolding flagSound
@@ -61,8 +55,25 @@ returns-4 c =
     let s = c .before .before .before .before .before .before .before .before .before in
     let q = c .before .before .before .before .before .before .queues-sound in
     let p = c .before .before .before .before .processes-sound in
-    let room = c .total-sound .ensures ∙ ap (λ (n : ℕ). totalSound n (s .args .table .flag)) (c .before .live .ensures) ∙ room-counted _ _ in
-    sym (opened s ∙ simp (sym (q .ensures) ∙ not-false (q .result) (c .before .before .before .before .before .if1 .left), sym (p .ensures) ∙ not-false (p .result) (c .before .before .before .if2 .left), le-leb _ _ (c .before .before .if3 .left), ← room))
+    let l = c .before .live-sound in
+    sym (opened s ∙ simp (sym (q .ensures) ∙ not-false (q .result) (c .before .before .before .before .before .if1 .left), sym (p .ensures) ∙ not-false (p .result) (c .before .before .before .if2 .left), le-leb _ _ (c .before .before .if3 .left), sym (l .ensures) ∙ not-true (l .result) (c .if4 .taken)))
+
+cast-total-sound : tie.Need-cast-total-sound
+cast-total-sound c = search needs
+
+total-sound-requires : tie.Need-total-sound-requires
+total-sound-requires c κs = search needs
+
+returns-5 : tie.Need-returns-5
+unfolding flagSound
+returns-5 c =
+    let s = c .before .before .before .before .before .before .before .before .before .before in
+    let q = c .before .before .before .before .before .before .before .queues-sound in
+    let p = c .before .before .before .before .before .processes-sound in
+    let l = c .before .before .live-sound in
+    let live = sym (l .ensures) ∙ not-false (l .result) (c .before .if4 .left) in
+    let room = c .total-sound .ensures ∙ ap (λ (n : ℕ). totalSound n (s .args .table .flag)) (live-counted (s .args .table) live .1) in
+    sym (opened s ∙ simp (sym (q .ensures) ∙ not-false (q .result) (c .before .before .before .before .before .before .if1 .left), sym (p .ensures) ∙ not-false (p .result) (c .before .before .before .before .if2 .left), le-leb _ _ (c .before .before .before .if3 .left), live, ← room))
 
 pub table-sound-spec : {M : Type 1} → statement M
 table-sound-spec =
@@ -73,7 +84,8 @@ table-sound-spec =
     processes-sound-requires
     returns-2
     returns-3
-    live-requires
+    live-sound-requires
+    returns-4
     cast-total-sound
     total-sound-requires
-    returns-4)
+    returns-5)

@@ -39,6 +39,9 @@ no-processes-requires-2 c κs = search needs
 array-set-from-queues : tie.Need-array-set-from-queues Inv-loop μ-loop
 array-set-from-queues c = search needs
 
+counted-requires : tie.Need-counted-requires Inv-loop μ-loop
+counted-requires c κs = search needs
+
 returns : tie.Need-returns Inv-loop μ-loop
 returns c = search needs
 
@@ -57,4 +60,5 @@ table-full-spec =
     loop-again
     no-processes-requires-2
     array-set-from-queues
+    counted-requires
     returns)

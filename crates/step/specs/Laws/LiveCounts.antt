@@ -1,0 +1,126 @@
+-- Stored live counts and those found by counting: of a task, of a turned queue, and after a step.
+use mathlib.Core.Path.{_≡_, refl, sym, ap, ap₂, _∙_}
+use mathlib.Core.Logic.{_≢_}
+use mathlib.Core.Bool.{Bool, true, false, cond}
+use mathlib.Core.List.{List, [], _∷_}
+use Prim.Native.Nat.{ℕ, _+_, _-_, _<_}
+use native.Mathlib.Omega.{arith}
+use lib.ListN.{length, getD, set, length-map, length-append}
+use lib.Seq.{set-getD}
+use Rattle.window.specs.declared.Row.{Row}
+use Rattle.operation.specs.Environment.{Environment}
+use Rattle.operation.specs.declared.Fate.{Fate}
+use Rattle.operation.specs.declared.Fate.the-variants.{Continues, Quits, Creates}
+use Rattle.operation.specs.declared.Decision.{Decision}
+use Rattle.operation.specs.declared.Decision.the-variants.{Waits, Traps, Executes}
+use Rattle.step.specs.declared.Queue.{Queue}
+use Rattle.step.specs.declared.ProcessTable.{ProcessTable}
+use Rattle.step.specs.Queues.{belowTotal, listOf, turned, shifted, joined, livePts, liveCounts, liveTotal}
+use Rattle.step.specs.State.{State, noQueue, queueIn, withQueue, liveCount, pswsOf, processesOf}
+use Rattle.step.specs.Act.{tableOf, createdIn, faultIn, fateIn, changeOf, act}
+use Rattle.step.specs.Step.{stepBy}
+use Rattle.step.specs.Soundness.{liveSound}
+use Rattle.step.specs.Laws.Queues.{length-list, turned-len, shifted-len, joined-len, length-live, len-get, counts-set, counts-get}
+use Rattle.step.specs.Laws.Sound.{live-counted, made-live}
+use Rattle.step.specs.Laws.Step.{idles, acts, steps}
+
+-- a test that cannot be true is false
+pub differs : (b : Bool) → (b ≡ true → ⊥) → b ≡ false
+differs true n = absurd (n refl)
+differs false n = refl
+
+-- the count of task t
+pub count-stored : (table : ProcessTable) (t : ℕ) → table .live ≡ liveCounts (table .queues) → liveCount table t ≡ length (processesOf table t)
+unfolding liveCount processesOf pswsOf queueIn
+count-stored table t e =
+    ap (λ (l : List ℕ). getD l (t - 1) 0) e ∙ counts-get (table .queues) (t - 1)
+    ∙ sym (length-map (listOf (getD (table .queues) (t - 1) noQueue)) (λ p. getD (table .psw) p 0) ∙ length-list (getD (table .queues) (t - 1) noQueue))
+
+-- counts that are those of the queues pass the test
+pub counted-passes : (table : ProcessTable) → table .live ≡ liveCounts (table .queues) → table .processes ≡ liveTotal (table .queues) → liveSound table ≡ true
+unfolding liveSound
+counted-passes table c n = rw (c, n) (made-live (table .psw) (table .queues) (table .flag))
+
+-- head to tail: as many of each task, and in all
+pub turned-counts : (qs : List Queue) (t : ℕ) → liveCounts (withQueue qs t (turned (queueIn qs t))) ≡ liveCounts qs
+unfolding withQueue queueIn
+turned-counts qs t =
+    counts-set qs (t - 1) (turned (getD qs (t - 1) noQueue))
+    ∙ ap (set (liveCounts qs) (t - 1)) (turned-len (getD qs (t - 1) noQueue) ∙ sym (counts-get qs (t - 1)))
+    ∙ set-getD (liveCounts qs) (t - 1) 0
+
+-- the total is the sum of the counts
+unfoldable pub sumOf : List ℕ → ℕ
+sumOf [] = 0
+sumOf (n ∷ l) = n + sumOf l
+
+pub total-sum : (qs : List Queue) → liveTotal qs ≡ sumOf (liveCounts qs)
+unfolding liveTotal livePts liveCounts sumOf
+total-sum [] = refl
+total-sum (q ∷ qs) = length-append (listOf q) (livePts qs) ∙ ap (λ (n : ℕ). length (listOf q) + n) (total-sum qs)
+
+pub turned-total : (qs : List Queue) (t : ℕ) → liveTotal (withQueue qs t (turned (queueIn qs t))) ≡ liveTotal qs
+turned-total qs t = total-sum (withQueue qs t (turned (queueIn qs t))) ∙ ap sumOf (turned-counts qs t) ∙ sym (total-sum qs)
+
+-- the head leaves: one fewer; a PT joins: one more
+moved-total : (qs : List Queue) (t : ℕ) (x : Queue) → t - 1 < length qs → liveTotal (withQueue qs t x) + queueIn qs t .len ≡ liveTotal qs + x .len
+unfolding liveTotal withQueue queueIn
+moved-total qs t x h = length-live qs (t - 1) x h
+
+pub shifted-total : (qs : List Queue) (t : ℕ) → t - 1 < length qs → queueIn qs t .len ≢ 0 → liveTotal (withQueue qs t (shifted (queueIn qs t))) ≡ liveTotal qs - 1
+shifted-total qs t h n = omega (arith, moved-total qs t (shifted (queueIn qs t)) h, shifted-len (queueIn qs t), n)
+
+pub joined-total : (qs : List Queue) (t p : ℕ) (b : Bool) → t - 1 < length qs → queueIn qs t .len < 64
+    → liveTotal (withQueue qs t (joined (cond b (turned (queueIn qs t)) (queueIn qs t)) p)) ≡ liveTotal qs + 1
+joined-total qs t p true h n =
+    let l = turned-len (queueIn qs t) in
+    omega (arith, moved-total qs t (joined (turned (queueIn qs t)) p) h, joined-len (turned (queueIn qs t)) p (omega (arith, l, n)), l)
+joined-total qs t p false h n = omega (arith, moved-total qs t (joined (queueIn qs t) p) h, joined-len (queueIn qs t) p n)
+
+-- the table with another queue of task t, its count and the total brought along
+pub moved-made : (table : ProcessTable) (t : ℕ) (x : Queue) (psw : List ℕ) (flag : ℕ) → liveSound table ≡ true → t - 1 < length (table .queues)
+    → _≡_ {A = ProcessTable}
+    (record {
+      psw = psw;
+      queues = set (table .queues) (t - 1) x;
+      flag = flag;
+      live = set (table .live) (t - 1) (x .len);
+      processes = table .processes - queueIn (table .queues) t .len + x .len;
+    })
+    (tableOf psw (set (table .queues) (t - 1) x) flag)
+unfolding liveTotal queueIn
+moved-made table t x psw flag e h =
+    let u = live-counted table e in
+    let n : table .processes - getD (table .queues) (t - 1) noQueue .len + x .len ≡ length (livePts (set (table .queues) (t - 1) x)) =
+    omega (arith, u .1, length-live (table .queues) (t - 1) x h, len-get (table .queues) (t - 1) h) in
+    ap₂ {C = ProcessTable} (λ l n. record { psw = psw; queues = set (table .queues) (t - 1) x; flag = flag; live = l; processes = n })
+    (ap (λ (l : List ℕ). set l (t - 1) (x .len)) (u .0) ∙ sym (counts-set (table .queues) (t - 1) x)) n
+
+-- ---- a step
+
+fate-live : (table : ProcessTable) (r : Row) (f : Fate) → liveSound (fateIn table r f .table) ≡ true
+unfolding fateIn createdIn faultIn
+fate-live table r (Continues p) = made-live _ _ _
+fate-live table r Quits = made-live _ _ _
+fate-live table r (Creates p new) = go (belowTotal (table .processes))
+  where
+    go : (b : Bool) → liveSound (cond b (createdIn table r p new) (faultIn table r p new) .table) ≡ true
+    go true = made-live _ _ _
+    go false = made-live _ _ _
+
+change-live : (table : ProcessTable) (r : Row) (d : Decision) → liveSound (changeOf table r d .table) ≡ true
+unfolding changeOf
+change-live table r (Waits w) = made-live _ _ _
+change-live table r (Traps k p) = made-live _ _ _
+change-live table r (Executes e) = fate-live table r (e .fate)
+
+act-live : (s : State) (r : Row) (d : Decision) → liveSound (act s r d .state .table) ≡ true
+unfolding act
+act-live s r d = change-live (s .table) r d
+
+pub step-live : (instructions : Environment → Decision) (t : ℕ) (s : State) → liveSound (s .table) ≡ true → liveSound (stepBy instructions t s .state .table) ≡ true
+step-live instructions t s e =
+    elim (steps instructions t s) [
+      | idles q n ↦ ap (λ (x : State). liveSound (x .table)) q ∙ e
+      | acts r d f q o n k ↦ ap (λ (x : State). liveSound (x .table)) k ∙ act-live s r d
+    ]
