@@ -113,7 +113,7 @@ pub fn split(input: &[u8]) -> Option<(&[u8], &[u8])> {
 fn report(machine: &Machine, counts: &Counts) -> String {
     let mut text = String::new();
     for task in machine.tasks() {
-        let live = machine.processes(task).len();
+        let live = machine.live_count(task);
         let trap = match machine.trap_record(task) {
             Some((kind, psw)) => format!("{kind:02X} {:05X}", psw::pc(psw)),
             None => "-- -----".to_string(),

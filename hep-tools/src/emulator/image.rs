@@ -210,11 +210,10 @@ fn processes(machine: &mut Machine, input: &mut Input) -> Refusable<Option<Refus
         let pt = input.value(&PT)?;
         let used = machine.used >> pt & 1 != 0;
         twice = twice.and(input.require(!used, &PT, pt, || "stands twice".to_string()));
-        machine.used |= 1 << pt;
         let task = process_task(machine, input, last)?;
         last = task;
         machine.psws[pt as usize] = input.status_word(&PSW)?;
-        machine.rows[task as usize].push(pt as usize);
+        machine.join(task as usize, pt as usize);
     }
     let crowd = (!machine.flag && machine.used == u64::MAX).then(|| {
         let wrong = format!("0x00 must be 0x01 beside {PROCESSES} processes");

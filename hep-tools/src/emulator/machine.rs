@@ -72,6 +72,7 @@ pub(crate) struct Row {
     pub listed: bool,
     pub kind: u8,
     pub head: u8,
+    /// Processes in the ring: the task's live count.
     pub length: u8,
     pub trapped: u64,
     pub constant_base: u32,
@@ -129,6 +130,8 @@ pub struct Machine {
     pub(crate) psws: [u64; PROCESSES],
     /// Bit n is up while process number n is in use.
     pub(crate) used: u64,
+    /// The live counts of all tasks added up; like these it has no place in an image.
+    pub(crate) live_total: u8,
     pub(crate) flag: bool,
     pub(crate) words: Box<[u64; CELLS]>,
     pub(crate) tags: Box<[u8; CELLS]>,
@@ -145,6 +148,7 @@ impl Machine {
             rows: [Row::UNLISTED; 8],
             psws: [0; PROCESSES],
             used: 0,
+            live_total: 0,
             flag: false,
             words: Box::new([0; CELLS]),
             tags: Box::new([0; CELLS]),
@@ -170,9 +174,35 @@ impl Machine {
         counts
     }
 
+    /// A process joins at a task's tail.
+    #[inline(always)]
+    pub(crate) fn join(&mut self, task: usize, pt: usize) {
+        self.rows[task].push(pt);
+        self.used |= 1 << pt;
+        self.live_total += 1;
+    }
+
+    /// A task's head, of this process number, leaves.
+    #[inline(always)]
+    pub(crate) fn leave(&mut self, task: usize, pt: usize) {
+        self.rows[task].pop();
+        self.used &= !(1 << pt);
+        self.live_total -= 1;
+    }
+
     /// The listed task numbers, ascending.
     pub fn tasks(&self) -> impl Iterator<Item = u8> + '_ {
         (1..8).filter(|&task| self.rows[usize::from(task)].listed)
+    }
+
+    /// A task's live processes, as stored; 0 if it is unlisted.
+    pub fn live_count(&self, task: u8) -> u8 {
+        self.rows[usize::from(task)].length
+    }
+
+    /// The live processes of all tasks, as stored.
+    pub fn live_total(&self) -> u8 {
+        self.live_total
     }
 
     /// Process numbers and status words of a task, from head to tail.
@@ -213,5 +243,51 @@ impl Machine {
 
     pub fn create_fault(&self) -> bool {
         self.flag
+    }
+}
+
+#[cfg(test)]
+mod tests {
+    use super::*;
+    use crate::emulator::batch;
+    use crate::generate;
+
+    /// Live counts and total as stored.
+    fn stored(machine: &Machine) -> ([u8; 8], u8) {
+        let counts = std::array::from_fn(|task| machine.live_count(task as u8));
+        (counts, machine.live_total())
+    }
+
+    /// Live counts and total by walking the queues, which have each process number in use once.
+    fn counted(machine: &Machine) -> ([u8; 8], u8) {
+        let mut in_use = machine.used;
+        let counts = machine.rows.each_ref().map(|row| {
+            let ring = row.queue.iter().cycle().skip(usize::from(row.head));
+            ring.take(usize::from(row.length)).fold(0, |count, &pt| {
+                let found = in_use >> pt & 1;
+                in_use &= !(1 << pt);
+                count + found as u8
+            })
+        });
+        assert_eq!(in_use, 0, "process numbers in use that stand in no queue");
+        (counts, counts.iter().sum())
+    }
+
+    #[test]
+    fn stored_live_counts_are_the_counted_ones() {
+        let (mut faults, mut quits) = (0, 0);
+        for n in 0..3_000 {
+            let input = generate::input(18, n);
+            let Ok((schedule, mut machine)) = batch::accepted(&input) else { continue };
+            assert_eq!(stored(&machine), counted(&machine), "input {n}, loaded");
+            for (item, &task) in schedule.iter().enumerate() {
+                let in_use = machine.used;
+                let ending = machine.step(task);
+                assert_eq!(stored(&machine), counted(&machine), "input {n}, behind item {item}");
+                faults += usize::from(matches!(ending, Ending::Trapped { kind: CREATE_FAULT, .. }));
+                quits += usize::from(in_use & !machine.used != 0);
+            }
+        }
+        assert!(faults > 20 && quits > 300, "{faults} faults, {quits} quits");
     }
 }

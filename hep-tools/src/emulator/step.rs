@@ -344,8 +344,7 @@ impl Machine {
         if !leaves {
             return self.advance(at, psw::next(at.psw));
         }
-        self.rows[at.task].pop();
-        self.used &= !(1 << at.pt);
+        self.leave(at.task, at.pt);
         Ok(())
     }
 
@@ -363,15 +362,14 @@ impl Machine {
         }
         self.release(&sources);
         let created = (!self.used).trailing_zeros() as usize;
-        self.used |= 1 << created;
         self.psws[created] = psw::merge(next, s1.word, at.word >> 48);
-        if self.used == u64::MAX {
+        if usize::from(self.live_total) + 1 == PROCESSES {
             self.flag = true;
-            self.rows[at.task].push(created);
+            self.join(at.task, created);
             return Err(Stop::CreateFault);
         }
         self.advance(at, next)?;
-        self.rows[at.task].push(created);
+        self.join(at.task, created);
         Ok(())
     }
 

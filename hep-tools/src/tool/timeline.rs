@@ -210,7 +210,7 @@ fn labels(out: &mut String, machine: &Machine, lane: &Lane, top: usize) {
     let Counts { executed, waved, trapped, idle } = counts;
     let x = (LEFT + PLOT + 10).to_string();
     text(out, &x, top + 13, "", &format!("E{executed} W{waved} T{trapped} I{idle}"));
-    let live = match machine.processes(lane.task).len() {
+    let live = match machine.live_count(lane.task) {
         _ if machine.tasks().all(|task| task != lane.task) => "not in the image".to_string(),
         1 => "1 process at the end".to_string(),
         live => format!("{live} processes at the end"),
