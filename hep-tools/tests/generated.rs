@@ -6,7 +6,9 @@ use hep_tools::emulator::batch;
 use hep_tools::emulator::codes::{listed, Low};
 use hep_tools::emulator::draft::{batch_input, Task};
 use hep_tools::emulator::image;
-use hep_tools::emulator::machine::{Counts, Ending, Machine, DATA_EXCEPTION, ILLEGAL, NO_TRAP};
+use hep_tools::emulator::machine::{
+    Counts, Ending, Machine, CREATE_FAULT, DATA_EXCEPTION, ILLEGAL, NO_TRAP,
+};
 use hep_tools::emulator::psw;
 use hep_tools::emulator::refusal::{Refusal, Section};
 use hep_tools::generate;
@@ -208,6 +210,54 @@ fn parts_are_loaded_and_stored() {
         assert!(carried > 100, "{carried} carried");
         let whole = came(&|a| a.low == 0 && !a.byte);
         assert!(whole > all.len() / 2, "{whole} of {} were whole words", all.len());
+    }
+}
+
+/// A process that was created or that quit while another task had some.
+struct Change {
+    /// The processes before it, and whether the flag was up.
+    live: u8,
+    flag: bool,
+    quits: bool,
+    faults: bool,
+    /// Whether one quit earlier in the run with the flag down.
+    after_quit: bool,
+}
+
+/// The changes in an input's run.
+fn changes(input: &[u8]) -> Vec<Change> {
+    let Ok((schedule, mut machine)) = batch::accepted(input) else { return Vec::new() };
+    let mut after_quit = false;
+    let step = |&task: &u8| {
+        let (live, flag) = (machine.live_total(), machine.create_fault());
+        let others = live - machine.live_count(task);
+        let ending = machine.step(task);
+        let quits = machine.live_total() < live;
+        let faults = matches!(ending, Ending::Trapped { kind: CREATE_FAULT, .. });
+        let change = Change { live, flag, quits, faults, after_quit };
+        after_quit |= quits && !flag;
+        (others > 0 && machine.live_total() != live).then_some(change)
+    };
+    schedule.iter().filter_map(step).collect()
+}
+
+/// Near 64 processes of several tasks some are created and some quit; the 64th faults, and no other.
+#[test]
+fn processes_come_and_go_near_the_total() {
+    for make in [generate::input, generate::small_input] {
+        let all: Vec<Change> = (0..6_000).flat_map(|n| changes(&make(19, n))).collect();
+        let came = |is_it: &dyn Fn(&Change) -> bool| all.iter().filter(|c| is_it(c)).count();
+        assert_eq!(came(&|c| c.faults != (!c.quits && c.live == 63)), 0);
+        let came = [
+            ("the 62nd is created", came(&|c| !c.quits && c.live == 61)),
+            ("the 63rd is created", came(&|c| !c.quits && c.live == 62)),
+            ("the 64th is created", came(&|c| c.faults)),
+            ("one quits near the total", came(&|c| c.quits && c.live >= 60 && !c.flag)),
+            ("one quits with the flag up", came(&|c| c.quits && c.flag)),
+            ("the 63rd or 64th after a quit", came(&|c| !c.quits && c.live >= 62 && c.after_quit)),
+        ];
+        let rare: Vec<_> = came.into_iter().filter(|(_, came)| *came <= 10).collect();
+        assert!(rare.is_empty(), "{rare:?}");
     }
 }
 

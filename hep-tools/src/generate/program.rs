@@ -18,7 +18,12 @@ struct Author<'a> {
     strays: u64,
     /// How many register operands in a hundred have an access code.
     accessed: u64,
+    /// How many instructions create or quit for a hundred of the usual ones.
+    turnover: u64,
 }
+
+/// From so many processes on some programs create and quit a lot.
+const CROWD: usize = 56;
 
 const THREE: [u16; 10] = [EOR, EQV, NAND, NOR, OR, BITCLR, BITSET, ADD, SUB, MUL];
 const TWO: [u16; 6] = [MOV, NOT, ENCODE0, ENCODE1, DEC, INC];
@@ -29,6 +34,7 @@ pub fn fill(draft: &mut Draft, size: Size, random: &mut Random) {
         Size::Any => (random.pick(&[0, 2, 8, 30]), random.pick(&[0, 0, 2, 8, 40])),
         Size::Small => (random.pick(&[0, 10, 40]), random.pick(&[0, 8, 20, 40])),
     };
+    let turnover = if draft.processes.len() < CROWD { 0 } else { random.pick(&[0, 40, 100]) };
     for task in draft.tasks.clone() {
         if task.pb > task.pl {
             continue;
@@ -36,7 +42,8 @@ pub fn fill(draft: &mut Draft, size: Size, random: &mut Random) {
         let length = (u64::from(task.pl) - u64::from(task.pb) + 1) * 16;
         let registers = (u64::from(task.rl) + 1).saturating_sub(u64::from(task.rb)) * 2;
         let constants = draft.constants.len() as u64;
-        let mut author = Author { random, task, constants, registers, length, strays, accessed };
+        let mut author =
+            Author { random, task, constants, registers, length, strays, accessed, turnover };
         let first = usize::from(task.pb) * 16;
         for word in &mut draft.program[first..][..length as usize] {
             *word = author.instruction();
@@ -50,7 +57,7 @@ impl Author<'_> {
         if self.random.rarely(self.strays) {
             return self.stray();
         }
-        match self.random.below(100) {
+        match self.random.below(100 + self.turnover) {
             0..=1 => word(NOP, 0, 0, 0),
             2..=32 => {
                 let code = self.random.pick(&THREE);
@@ -67,12 +74,11 @@ impl Author<'_> {
                 call(test, self.destination(), target, self.source())
             }
             73..=77 => self.create(),
-            78 => {
-                let test = self.random.below(16) as u16;
-                quit(test, self.source())
-            }
+            78 => self.quit(),
             79..=89 => self.load(),
-            _ => self.store(),
+            90..=99 => self.store(),
+            _ if self.random.chance(50) => self.create(),
+            _ => self.quit(),
         }
     }
 
@@ -112,6 +118,11 @@ impl Author<'_> {
         let act = self.random.below(16) as u16;
         let (test, start) = (self.test(), self.meant(Use::Status));
         create(test, act, start, self.source())
+    }
+
+    fn quit(&mut self) -> u64 {
+        let test = self.random.below(16) as u16;
+        quit(test, self.source())
     }
 
     fn load(&mut self) -> u64 {
