@@ -166,7 +166,7 @@ pub fn trial(line: &str) -> Result<Trial, String> {
 }
 
 /// Items and endings of `E 2:I T14`.
-fn items(text: &str) -> Result<(Vec<u8>, Vec<&str>), String> {
+pub fn items(text: &str) -> Result<(Vec<u8>, Vec<&str>), String> {
     let item = |text| match str::split_once(text, ':') {
         Some((task, ending)) => task.parse().map(|task| (task, ending)),
         None => Ok((1, text)),
@@ -205,16 +205,22 @@ fn settle(state: &mut State, endings: &[&str]) {
 
 /// The report by document 01.
 fn report(draft: &Draft, endings: &[&str]) -> String {
-    let mut out = String::new();
-    for task in &draft.tasks {
-        let live = draft.processes.iter().filter(|process| process.task == task.number).count();
-        out += &format!("{} {live} ", task.number);
-        out += &match task.kind {
-            NO_TRAP => "-- -----\n".to_string(),
-            kind => format!("{kind:02X} {:05X}\n", task.trapped & 0xF_FFFF),
-        };
+    let own = |task: u8| draft.processes.iter().filter(move |process| process.task == task);
+    let lines = draft.tasks.iter().map(|task| task_line(task, own(task.number).count()));
+    lines.collect::<String>() + &counts_line(draft, endings)
+}
+
+/// A task's line of the report, with so many live processes.
+pub fn task_line(task: &Task, live: usize) -> String {
+    match task.kind {
+        NO_TRAP => format!("{} {live} -- -----\n", task.number),
+        kind => format!("{} {live} {kind:02X} {:05X}\n", task.number, task.trapped & 0xF_FFFF),
     }
+}
+
+/// The report's last line.
+pub fn counts_line(draft: &Draft, endings: &[&str]) -> String {
     let count = |first| endings.iter().filter(|ending| ending.starts_with(first)).count();
     let (executed, waved, trapped, idle) = (count('E'), count('W'), count('T'), count('I'));
-    out + &format!("E{executed} W{waved} T{trapped} I{idle} CF{}\n", draft.flag)
+    format!("E{executed} W{waved} T{trapped} I{idle} CF{}\n", draft.flag)
 }

@@ -1,8 +1,10 @@
 //! Trials: inputs with the answers that document 01 gives them, worked out by hand.
 
 mod bench;
+mod crowds;
 pub mod edges;
 mod families;
+mod live;
 
 use crate::emulator::batch::Answer;
 use crate::tool::from_hex;
@@ -15,27 +17,35 @@ pub struct Trial {
     pub expected: Answer,
 }
 
+/// The trial of a line, or why there is none.
+type Reading = fn(&str) -> Result<Trial, String>;
+
 /// The trials that are written line by line.
-const WRITTEN: [(&str, &str); 4] = [
-    ("operations", include_str!("../../trials/operations.trials")),
-    ("operands", include_str!("../../trials/operands.trials")),
-    ("checks", include_str!("../../trials/checks.trials")),
-    ("processes", include_str!("../../trials/processes.trials")),
+const WRITTEN: [(&str, &str, Reading); 5] = [
+    ("operations", include_str!("../../trials/operations.trials"), bench::trial),
+    ("operands", include_str!("../../trials/operands.trials"), bench::trial),
+    ("checks", include_str!("../../trials/checks.trials"), bench::trial),
+    ("processes", include_str!("../../trials/processes.trials"), bench::trial),
+    ("live", include_str!("../../trials/live.trials"), live::trial),
 ];
 
 /// Every trial. A line that can't be read is an error with its file's name.
 pub fn all() -> Result<Vec<Trial>, String> {
     let mut trials = Vec::new();
-    for (file, text) in WRITTEN {
+    for (file, text, trial) in WRITTEN {
         for (i, line) in text.lines().enumerate() {
             if !line.trim().is_empty() && !line.starts_with('#') {
-                let trial = bench::trial(line);
+                let trial = trial(line);
                 trials.push(trial.map_err(|reason| format!("{file} line {}: {reason}", i + 1))?);
             }
         }
     }
-    for line in families::lines() {
-        trials.push(bench::trial(&line).map_err(|reason| format!("{line}: {reason}"))?);
+    let families: [(Vec<String>, Reading); 2] =
+        [(families::lines(), bench::trial), (crowds::lines(), live::trial)];
+    for (lines, trial) in families {
+        for line in lines {
+            trials.push(trial(&line).map_err(|reason| format!("{line}: {reason}"))?);
+        }
     }
     trials.extend(edges::all());
     trials.push(printed());
