@@ -18,7 +18,8 @@ use Rattle.step.specs.State.{State}
 use Rattle.step.specs.Soundness.{every, distinct, ptSound, wordsSound, memorySound}
 use Rattle.step.specs.Laws.Occurrences.{length-once}
 use Rattle.step.specs.Laws.Every.{once-of, every-at}
-use Rattle.step.specs.Laws.Sound.{sound-parts, live-counted}
+use Rattle.step.specs.Laws.Sound.{sound-parts}
+use Rattle.step.specs.Laws.Counted.{live-counted}
 use Rattle.image.specs.Image.{encode, rowLength, processLength}
 use Rattle.image_bytes.specs.Code.Writing.{laid, putAt}
 use Rattle.image_bytes.specs.Laws.Laid.{put-fits}

@@ -10,7 +10,8 @@ use Rattle.step.specs.Queues.{liveCounts, liveTotal}
 use Rattle.step.specs.State.{State, liveCount, processesOf}
 use Rattle.step.specs.Step.{stepBy}
 use Rattle.step.specs.Soundness.{liveSound, sound}
-use Rattle.step.specs.Laws.Sound.{live-counted, sound-parts}
+use Rattle.step.specs.Laws.Sound.{sound-parts}
+use Rattle.step.specs.Laws.Counted.{live-counted}
 use Rattle.step.specs.Laws.LiveCounts.{count-stored, counted-passes, step-live, differs}
 
 -- of each task and in all

@@ -2,7 +2,7 @@
 ghost use mathlib.Core.Path.{_≡_};
 ghost use mathlib.Core.Bool.{true, false};
 ghost use mathlib.Core.List.{List};
-ghost use Prim.Native.Nat.{ℕ, _≤_, _<_};
+ghost use Prim.Native.Nat.{ℕ, _≤_};
 ghost use lib.ListN.{getD, set, take};
 ghost use Rattle.window.specs.declared.Row.{Row};
 ghost use Rattle.window.specs.Memories.{memory};
@@ -16,7 +16,6 @@ ghost use Rattle.step.specs.Act.{trappedRow};
 ghost use Rattle.step.specs.Code.Parts.{rowAfter};
 ghost use Rattle.step.specs.Code.Performs.{Performs, courseResult};
 ghost use Rattle.step.specs.Soundness.{hasRow, liveSound};
-ghost use Rattle.run.specs.Schedule.{itemSound};
 ghost use Rattle.run_rings.specs.Code.Spans.{Narrow};
 ghost use Rattle.library.specs.declared.StepAnswer.the-variants.{Refused};
 ghost use Rattle.library.specs.Held.{lentBuffers};

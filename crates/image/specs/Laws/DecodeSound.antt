@@ -10,7 +10,7 @@ use Rattle.window.specs.declared.Cell.{Cell}
 use Rattle.window.specs.Memories.{tagOf, wordOf}
 use Rattle.word.specs.Laws.Conjunctions.{also}
 use Rattle.step.specs.Soundness.{every, sound}
-use Rattle.step.specs.Laws.Sound.{made-live}
+use Rattle.step.specs.Laws.Counted.{made-live}
 use Rattle.image.specs.declared.Process.{Process}
 use Rattle.image.specs.Codec.{Bytes}
 use Rattle.image.specs.Image.{Image, good, ptsOf, queueOf, queuesOf, memoryOf, stateOf, decode}

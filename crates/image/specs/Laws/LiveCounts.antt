@@ -1,5 +1,5 @@
 -- The live counts of the queues that an image's processes are laid in.
-use Prim.Native.Nat.{ℕ, zero, suc, _+_, _<_}
+use Prim.Native.Nat.{ℕ, zero, suc, _<_}
 use mathlib.Core.Path.{_≡_, refl, sym, ap, ap₂, _∙_}
 use mathlib.Core.Logic.{_≢_}
 use mathlib.Core.Bool.{true}
@@ -11,7 +11,8 @@ use Rattle.step.specs.Queues.{listOf, liveCounts, liveTotal}
 use Rattle.step.specs.State.{State}
 use Rattle.step.specs.Soundness.{sound}
 use Rattle.step.specs.Laws.Queues.{length-list}
-use Rattle.step.specs.Laws.Sound.{sound-parts, live-counted}
+use Rattle.step.specs.Laws.Sound.{sound-parts}
+use Rattle.step.specs.Laws.Counted.{live-counted}
 use Rattle.step.specs.Laws.LiveCounts.{sumOf, total-sum}
 use Rattle.image.specs.declared.Process.{Process}
 use Rattle.image.specs.Codec.{Bytes}

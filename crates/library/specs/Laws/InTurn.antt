@@ -73,7 +73,8 @@ output-unrefused room image h = rw (le-ltb room (length image) h)
 
 pub write-unrefused : (n : Sizes) (b : Buffers) (room : ℕ) → stateRefusal n b ≡ none → length (encode (fieldsIn n b)) ≤ room → writeRefusal n b room ≡ none
 unfolding writeRefusal orElse
-write-unrefused n b room e h = rw (e, output-unrefused room (encode (fieldsIn n b)) h)
+write-unrefused n b room e h =
+    ap (λ (o : Option Refusal). orElse o (outputRefusal room (encode (fieldsIn n b)))) e ∙ output-unrefused room (encode (fieldsIn n b)) h
 
 -- a run that isn't refused finds a sound state
 run-finds-sound : (n : Sizes) (b : Buffers) (schedule : List ℕ) → runRefusal n b schedule ≡ none → sound (fieldsIn n b) ≡ true

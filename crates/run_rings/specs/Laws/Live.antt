@@ -1,25 +1,19 @@
 -- The word of free PTs over the queues in any number of rings: turn keeps it, join takes a PT, leave gives one back.
 use mathlib.Core.Path.{_≡_, refl, sym, ap, _∙_}
 use mathlib.Core.Logic.{_≢_}
-use mathlib.Core.Bool.{Bool, true, false, cond, not}
+use mathlib.Core.Bool.{Bool, true, false, cond}
 use mathlib.Core.List.{List, [], _∷_, _++_}
-use Prim.Native.Nat.{ℕ, zero, suc, _+_, _-_, _/_, _%_, _^_, _≤_, _<_}
-use native.Mathlib.Nat.{div-one, pow-suc}
+use Prim.Native.Nat.{ℕ, _+_, _≤_, _<_}
 use native.Mathlib.Omega.{arith}
-use lib.Dec.{eqb, leb, ltb}
-use lib.Pow.{pow-pos}
 use lib.ListN.{length, getD, set, drop}
-use borrow.Author.Tests.{eq-eqb, ne-eqb, ltb-true, ltb-false}
-use Rattle.word.specs.Laws.Bools.{Eq?, same, differ, eq?, Le?, below, above, le?}
 use Rattle.step.specs.declared.Queue.{Queue}
-use Rattle.step.specs.Queues.{listOf, headOf, turned, shifted, joined, livePts, hit, occ, freeFrom}
+use Rattle.step.specs.Queues.{listOf, headOf, turned, shifted, joined, livePts, hit, occ}
 use Rattle.step.specs.State.{noQueue}
-use Rattle.step.specs.Laws.Occurrences.{hit-same, hit-differ, occ-cons, occ-rot, occ-snoc, rest, Heads, Free, free-spec, length-once}
+use Rattle.step.specs.Laws.Occurrences.{hit-same, occ-cons, occ-rot, occ-snoc, rest, Heads}
 use Rattle.step.specs.Laws.Queues.{Shaped, heads, turned-list, turned-shaped, turned-len, shifted-list, joined-list, occ-set, live-next, live-none}
 use Rattle.run_rings.specs.Code.Mask.{Frees}
 use Rattle.step_queue.specs.Code.Mask.{without, freeAfter}
-use Rattle.step_queue.specs.Laws.Digits.{half}
-use Rattle.run_rings.specs.Laws.Mask.{free-le, taken-digit, frees-same, frees-taken, Adds}
+use Rattle.run_rings.specs.Laws.Mask.{frees-same, Adds}
 
 -- head to tail: the same PTs are live
 turned-live : (qs : List Queue) (i p : ℕ) → i < length qs → Shaped (getD qs i noQueue)

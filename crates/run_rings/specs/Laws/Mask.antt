@@ -1,13 +1,12 @@
 -- The word of free PTs: its lowest one is the lowest free PT; a PT is taken, a PT is given back.
 use mathlib.Core.Path.{_≡_, refl, sym, ap, _∙_, subst}
 use mathlib.Core.Logic.{_≢_}
-use mathlib.Core.Bool.{Bool, true, false, cond, not}
+use mathlib.Core.Bool.{Bool, true, false, cond}
 use mathlib.Core.List.{List, [], _∷_, _++_}
 use Prim.Native.Nat.{ℕ, zero, suc, _+_, _-_, _*_, _/_, _%_, _^_, _≤_, _<_}
 use native.Mathlib.Nat.{add-zero, div-one, pow-suc}
 use native.Mathlib.Omega.{arith}
 use lib.Dec.{eqb, leb}
-use borrow.Author.Tests.{eq-eqb, ne-eqb}
 use lib.Pow.{high, ones-split, ones-lt, pow-pos}
 use lib.Count.{under, trailingZeros}
 use Rattle.word.specs.Laws.Bools.{Eq?, same, differ, eq?, Le?, below, above, le?}
@@ -115,7 +114,7 @@ free-digit z p l f h e = f .digit p h ∙ none-one (occ p l) e
 pub free-le : (z p : ℕ) (l : List ℕ) → Frees z l → p < 64 → occ p l ≡ 0 → 2 ^ p ≤ z
 free-le z p l f h e = digit-le p z (λ q. omega (arith, q, free-digit z p l f h e))
 
-pub taken-digit : (z p : ℕ) (l : List ℕ) → Frees z l → p < 64 → occ p l ≢ 0 → z / 2 ^ p % 2 ≡ 0
+taken-digit : (z p : ℕ) (l : List ℕ) → Frees z l → p < 64 → occ p l ≢ 0 → z / 2 ^ p % 2 ≡ 0
 taken-digit z p l f h e = f .digit p h ∙ none-zero (occ p l) e
 
 -- the word says the same of lists with the same numbers
@@ -221,11 +220,3 @@ frees-after l =
 
 pub frees-made : (z : ℕ) (l : List ℕ) → z ≡ freeAfter l (2 ^ 64 - 1) → Frees z l
 frees-made z l e = subst (λ (z : ℕ). Frees z l) (sym e) (frees-after l)
-
--- ---- whether a PT is left
-
-pub none-left : (r z : ℕ) → r ≡ z → r ≡ 0 → false ≡ not (eqb z 0)
-none-left r z e h = sym (ap not (eq-eqb z 0 (sym e ∙ h)))
-
-pub some-left : (r z : ℕ) → r ≡ z → r ≢ 0 → true ≡ not (eqb z 0)
-some-left r z e h = sym (ap not (ne-eqb z 0 (λ q. h (e ∙ q))))

@@ -4,7 +4,7 @@ use mathlib.Core.Path.{refl, sym, _∙_}
 use lib.ListN.{length-map}
 use lib.Seq.{length-take-le}
 use Rattle.library.specs.Code.HeldRows.{heldRows}
-use Rattle.step.specs.Laws.Sound.{live-made}
+use Rattle.step.specs.Laws.Counted.{live-made}
 use Rattle.step.specs.Laws.LiveCounts.{counted-passes}
 use Rattle.run_schedule.specs.Laws.Cut.{total-counted, run-made, sizes-fit, cut-sound, rows-left, rows-beyond, run-cuts}
 use borrow.Author.Needs.{needs}

@@ -13,7 +13,8 @@ use Rattle.step.specs.Queues.{liveTotal}
 use Rattle.step.specs.State.{State}
 use Rattle.step.specs.Act.{tableOf}
 use Rattle.step.specs.Soundness.{every, liveSound}
-use Rattle.step.specs.Laws.Sound.{sound-parts, live-counted, live-made}
+use Rattle.step.specs.Laws.Sound.{sound-parts}
+use Rattle.step.specs.Laws.Counted.{live-counted, live-made}
 use Rattle.run.specs.declared.Counts.{Counts}
 use Rattle.run.specs.Run.{Ran, run}
 use Rattle.run.specs.Laws.Run.{run-lengths}

@@ -7,21 +7,17 @@ use Prim.Native.Nat.{ℕ, _+_, _-_, _<_}
 use native.Mathlib.Omega.{arith}
 use lib.ListN.{length, getD, set, length-map, length-append}
 use lib.Seq.{set-getD}
-use Rattle.window.specs.declared.Row.{Row}
 use Rattle.operation.specs.Environment.{Environment}
-use Rattle.operation.specs.declared.Fate.{Fate}
-use Rattle.operation.specs.declared.Fate.the-variants.{Continues, Quits, Creates}
 use Rattle.operation.specs.declared.Decision.{Decision}
-use Rattle.operation.specs.declared.Decision.the-variants.{Waits, Traps, Executes}
 use Rattle.step.specs.declared.Queue.{Queue}
 use Rattle.step.specs.declared.ProcessTable.{ProcessTable}
-use Rattle.step.specs.Queues.{belowTotal, listOf, turned, shifted, joined, livePts, liveCounts, liveTotal}
+use Rattle.step.specs.Queues.{listOf, turned, shifted, joined, livePts, liveCounts, liveTotal}
 use Rattle.step.specs.State.{State, noQueue, queueIn, withQueue, liveCount, pswsOf, processesOf}
-use Rattle.step.specs.Act.{tableOf, createdIn, faultIn, fateIn, changeOf, act}
+use Rattle.step.specs.Act.{tableOf}
 use Rattle.step.specs.Step.{stepBy}
 use Rattle.step.specs.Soundness.{liveSound}
 use Rattle.step.specs.Laws.Queues.{length-list, turned-len, shifted-len, joined-len, length-live, len-get, counts-set, counts-get}
-use Rattle.step.specs.Laws.Sound.{live-counted, made-live}
+use Rattle.step.specs.Laws.Counted.{live-counted, made-live, act-live}
 use Rattle.step.specs.Laws.Step.{idles, acts, steps}
 
 -- a test that cannot be true is false
@@ -97,26 +93,6 @@ moved-made table t x psw flag e h =
     (ap (λ (l : List ℕ). set l (t - 1) (x .len)) (u .0) ∙ sym (counts-set (table .queues) (t - 1) x)) n
 
 -- ---- a step
-
-fate-live : (table : ProcessTable) (r : Row) (f : Fate) → liveSound (fateIn table r f .table) ≡ true
-unfolding fateIn createdIn faultIn
-fate-live table r (Continues p) = made-live _ _ _
-fate-live table r Quits = made-live _ _ _
-fate-live table r (Creates p new) = go (belowTotal (table .processes))
-  where
-    go : (b : Bool) → liveSound (cond b (createdIn table r p new) (faultIn table r p new) .table) ≡ true
-    go true = made-live _ _ _
-    go false = made-live _ _ _
-
-change-live : (table : ProcessTable) (r : Row) (d : Decision) → liveSound (changeOf table r d .table) ≡ true
-unfolding changeOf
-change-live table r (Waits w) = made-live _ _ _
-change-live table r (Traps k p) = made-live _ _ _
-change-live table r (Executes e) = fate-live table r (e .fate)
-
-act-live : (s : State) (r : Row) (d : Decision) → liveSound (act s r d .state .table) ≡ true
-unfolding act
-act-live s r d = change-live (s .table) r d
 
 pub step-live : (instructions : Environment → Decision) (t : ℕ) (s : State) → liveSound (s .table) ≡ true → liveSound (stepBy instructions t s .state .table) ≡ true
 step-live instructions t s e =

@@ -7,7 +7,7 @@ use mathlib.Core.List.{List}
 use Prim.Native.Nat.{ℕ, _-_}
 use lib.ListN.{getD}
 use lib.Seq.{set-getD}
-use borrow.Author.Tests.{eq-eqb, ne-eqb}
+use borrow.Author.Tests.{eq-eqb}
 use Rattle.window.specs.declared.Row.{Row}
 use Rattle.window.specs.Windows.{registerWindow, dataWordWindow}
 use Rattle.window.specs.Memories.{Memory, written, storedAll}
@@ -24,7 +24,7 @@ use Rattle.step.specs.declared.Ending.the-variants as ending
 use Rattle.step.specs.declared.Decided.{Decided}
 use Rattle.step.specs.declared.Decided.the-variants.{Idle, Decides}
 use Rattle.step.specs.declared.StepResult.{StepResult}
-use Rattle.step.specs.Queues.{belowTotal, ring, listOf, headOf, lowestFree}
+use Rattle.step.specs.Queues.{belowTotal, listOf, headOf, lowestFree}
 use Rattle.step.specs.State.{State, state, findRow, putRow, noQueue, queueIn, taskQueue, withQueue, pswsOf, processesOf, environment}
 use Rattle.step.specs.Act.{registerWrites, dataWrites, trappedRow, tableOf, Change, Stepped, changeOf, fateIn, createdIn, faultIn, createdPsws, headPsws, act}
 use Rattle.step.specs.Step.{noTrap, headDecides, rowDecides, acted, stepRow, stepBy, step}
@@ -38,15 +38,7 @@ queue-same : (qs : List Queue) (t : ℕ) → withQueue qs t (queueIn qs t) ≡ q
 unfolding withQueue queueIn
 queue-same qs t = set-getD qs (t - 1) noQueue
 
--- what is decided: a trapped task and one without processes decide nothing, else the head process does
-pub trapped-idle : (s : State) (r : Row) (psws : List ℕ) → r .kind ≢ noTrap → Idle ≡ decidedAs (rowDecides decide s r psws)
-unfolding rowDecides decidedAs
-trapped-idle s r psws h = simp (ne-eqb (r .kind) noTrap h)
-
-pub empty-idle : (s : State) (r : Row) (psw : List ℕ) (q : Queue) → r .kind ≡ noTrap → q .len ≡ 0 → Idle ≡ decidedAs (rowDecides decide s r (pswsOf psw (listOf q)))
-unfolding rowDecides headDecides decidedAs pswsOf listOf ring
-empty-idle s r psw q k e = simp (eq-eqb (r .kind) noTrap k, e)
-
+-- what is decided where the task has not trapped and has a process
 pub head-decides : (s : State) (r : Row) (psw : List ℕ) (q : Queue) (head word : ℕ) (d : Decision) → r .kind ≡ noTrap → q .len ≢ 0
     → head ≡ headOf q → word ≡ getD psw head 0 → d ≡ decide (environment s r word) → Decides d ≡ decidedAs (rowDecides decide s r (pswsOf psw (listOf q)))
 unfolding rowDecides headDecides decidedAs pswsOf

@@ -35,7 +35,8 @@ use Rattle.step.specs.Laws.Occurrences.{hit-same, occ-cons}
 use Rattle.step.specs.Laws.Queues.{heads, turned-len, shifted-len, joined-le, len-get}
 use Rattle.step.specs.Laws.Rows.{put-same}
 use Rattle.step.specs.Laws.Act.{Tidy, le}
-use Rattle.step.specs.Laws.Sound.{Sound, sound-parts, found-hasRow, tidy-of, live-counted, live-made}
+use Rattle.step.specs.Laws.Sound.{Sound, sound-parts, found-hasRow, tidy-of}
+use Rattle.step.specs.Laws.Counted.{live-counted, live-made}
 use Rattle.step.specs.Laws.LiveCounts.{moved-made}
 use Rattle.step.specs.Laws.MemoriesKept.{memory-parts}
 use Rattle.step.specs.Laws.Parts.{Parts, step-made, head-decides}

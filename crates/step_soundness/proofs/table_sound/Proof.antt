@@ -7,7 +7,7 @@ use borrow.Author.Tests.{not-true, not-false, eq-eqb, le-leb, lt-leb}
 use borrow.Author.Needs.{needs}
 use Rattle.step.specs.Queues.{livePts, liveTotal}
 use Rattle.step.specs.Soundness.{queuesSound, processesSound, totalSound, flagSound, liveSound, tableSound}
-use Rattle.step.specs.Laws.Sound.{live-counted}
+use Rattle.step.specs.Laws.Counted.{live-counted}
 use Rattle.step_soundness.proofs.table_sound.Statement.{statement}
 use Rattle.step_soundness.proofs.table_sound.Tie as tie
 
