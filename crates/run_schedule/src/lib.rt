@@ -14,7 +14,7 @@ ghost use Rattle.step.specs.Act.{tableOf};
 ghost use Rattle.step.specs.Code.Performs.{courseResult};
 ghost use Rattle.step.specs.Soundness.{every};
 ghost use Rattle.step_queue.specs.Code.Mask.{freeAfter};
-ghost use Rattle.run_rings.specs.Code.Rings.{Moves, ringPlaces};
+ghost use Rattle.run_rings.specs.Code.Rings.{Moves, queuesIn, ringPlaces};
 ghost use Rattle.run_rings.specs.Code.Settled.{Ready, Settled};
 ghost use Rattle.run_rings.specs.Code.Laid.{noTasks, tasksLaid};
 ghost use Rattle.run_rings.specs.Code.Numbers.{Numbers, Carried, Steps};
@@ -37,6 +37,7 @@ use operation::Trap;
 use refusal::Refusal;
 use run::Counts;
 use run::MOST_ITEMS;
+use run_rings::Rings;
 use run_rings::SPANS;
 use run_rings::Tasks;
 use step::Ending;
@@ -53,7 +54,7 @@ const ENDINGS: usize = 4;
 // What the items of a schedule leave besides the lent PSWs and memories.
 pub struct Left {
     pub rows: [Row; TASKS],
-    pub queues: [Queue; TASKS],
+    pub rings: Rings,
     pub flag: u8,
     pub processes: usize,
     pub counts: Counts,
@@ -387,7 +388,7 @@ fn run_items(
     data_words: &mut [u64],
 ) -> Left
     requires { ⌜ (every itemSound (now schedule) ≡ true) × (soundIn n (stateIn rows n (tableOf (now psws) queues flag) (memory (now «constant_tags») (now «constant_words»)) (now «register_tags») (now «register_words») (now program) (now data_tags) (now data_words)) ≡ true) × (numbers ≡ tasksLaid tasks 1 (take n rows) noTasks) × (free ≡ freeAfter (livePts queues) 18446744073709551615) × (processes ≡ liveTotal queues) ⌝ }
-    ensures { λ r. ⌜ (record { state = stateIn (r .rows) n (tableOf (now (psws .exit)) (r .queues) (r .flag)) (memory (now («constant_tags» .entry)) (now («constant_words» .entry))) (now («register_tags» .exit)) (now («register_words» .exit)) (now (program .entry)) (now (data_tags .exit)) (now (data_words .exit)); counts = r .counts } ≡ run (now (schedule .entry)) (stateIn rows n (tableOf (now (psws .entry)) queues flag) (memory (now («constant_tags» .entry)) (now («constant_words» .entry))) (now («register_tags» .entry)) (now («register_words» .entry)) (now (program .entry)) (now (data_tags .entry)) (now (data_words .entry)))) × (r .processes ≡ liveTotal (r .queues)) × (drop n (r .rows) ≡ drop n rows) ⌝ }
+    ensures { λ r. ⌜ (record { state = stateIn (r .rows) n (tableOf (now (psws .exit)) (queuesIn (r .rings .pts) (r .rings .heads) (r .rings .lens)) (r .flag)) (memory (now («constant_tags» .entry)) (now («constant_words» .entry))) (now («register_tags» .exit)) (now («register_words» .exit)) (now (program .entry)) (now (data_tags .exit)) (now (data_words .exit)); counts = r .counts } ≡ run (now (schedule .entry)) (stateIn rows n (tableOf (now (psws .entry)) queues flag) (memory (now («constant_tags» .entry)) (now («constant_words» .entry))) (now («register_tags» .entry)) (now («register_words» .entry)) (now (program .entry)) (now (data_tags .entry)) (now (data_words .entry)))) × (r .processes ≡ liveTotal (queuesIn (r .rings .pts) (r .rings .heads) (r .rings .lens))) × (drop n (r .rows) ≡ drop n rows) ⌝ }
 {
     let laid = run_rings::rings_of(queues);
     let mut pts = laid.pts;
@@ -427,11 +428,10 @@ fn run_items(
         i += 1;
     }
     let rows = run_rings::rows_with(rows, n, kinds, stored);
-    let queues = run_rings::queues_of(pts, heads, lens);
     let counts = counts_of(tally);
     Left {
         rows,
-        queues,
+        rings: Rings { pts, heads, lens },
         flag,
         processes,
         counts,
@@ -515,7 +515,11 @@ fn run_cut(
         &mut data_words[..data_count],
     );
     let at = left.rows;
-    let queues = left.queues;
+    let rings = left.rings;
+    let pts = rings.pts;
+    let heads = rings.heads;
+    let lens = rings.lens;
+    let queues = run_rings::queues_of(pts, heads, lens);
     let counts = left.counts;
     AfterRun {
         rows: Rows { at, n: rows.n },

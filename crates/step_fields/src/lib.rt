@@ -2,7 +2,7 @@
 ghost use mathlib.Core.Path.{_≡_};
 ghost use Rattle.step.specs.Soundness.{taskSound, kindSound, recordSound, endsIn, rowEndsIn, totalSound};
 use step::NO_TRAP;
-use step::PTS;
+use step::TOTAL;
 use window::Row;
 use window::TASKS;
 use window::Window;
@@ -63,7 +63,7 @@ pub fn row_ends_in(row: Row, registers: usize, program: usize, data_words: usize
 pub fn total_sound(live: usize, flag: u64) -> bool
     ensures { λ r. ⌜ r ≡ totalSound live flag ⌝ }
 {
-    if live < PTS {
+    if live < TOTAL {
         return true;
     }
     flag != 0

@@ -1,9 +1,10 @@
 -- Skeleton and paths (.before ..) are generated: docs/PROOFS.md.
 -- `run_schedule::run_cut` meets its contract: what the items leave of the cut slices is what a run leaves of the buffers.
-use mathlib.Core.Path.{refl, sym, _∙_}
+use mathlib.Core.Path.{refl, sym, ap, _∙_}
 use lib.ListN.{length-map}
 use lib.Seq.{length-take-le}
 use Rattle.library.specs.Code.HeldRows.{heldRows}
+use Rattle.step.specs.Queues.{liveTotal}
 use Rattle.step.specs.Laws.Counted.{live-made}
 use Rattle.step.specs.Laws.LiveCounts.{counted-passes}
 use Rattle.run_schedule.specs.Laws.Cut.{total-counted, run-made, sizes-fit, cut-sound, rows-left, rows-beyond, run-cuts}
@@ -56,6 +57,9 @@ slice-aggregate-run-items-8 c = let a = c .before .before .before .before .befor
 run-items-requires : tie.Need-run-items-requires
 run-items-requires c κs = let a = c .before .before .before .before .before .before .before .before .before .before .before .before .before .before .before .before .before .before .before .before .before .args in (c .before .before .before .before .before .before .before .before .before .before .before .before .before .before .before .before .before .before .before .before .before .pre .2, cut-sound (a .rows) (a .table) (a .constant-tags .now) (a .constant-words .now) (a .register-tags .now) (a .register-words .now) (a .program .now) (a .data-tags .now) (a .data-words .now) (a .n) (sym (length-map (a .rows .at) _) ∙ c .before .before .before .before .before .before .before .before .before .before .before .before .before .before .before .before .before .before .before .before .before .good .0 .1 .1 .0 .1 .0 .1) (c .before .before .before .before .before .before .before .before .before .before .before .before .before .before .before .before .before .before .before .before .before .pre .0), c .before .before .before .before .before .before .before .before .before .number-tasks .ensures, c .before .before .before .before .before .before .before .before .free-mask .ensures, total-counted (a .rows) (a .table) (a .constant-tags .now) (a .constant-words .now) (a .register-tags .now) (a .register-words .now) (a .program .now) (a .data-tags .now) (a .data-words .now) (a .n) (sym (length-map (a .rows .at) _) ∙ c .before .before .before .before .before .before .before .before .before .before .before .before .before .before .before .before .before .before .before .before .before .good .0 .1 .1 .0 .1 .0 .1) (c .before .before .before .before .before .before .before .before .before .before .before .before .before .before .before .before .before .before .before .before .before .pre .0))
 
+queues-of-requires : tie.Need-queues-of-requires
+queues-of-requires c κs = search needs
+
 live-counts-requires : tie.Need-live-counts-requires
 live-counts-requires c κs = search needs
 
@@ -73,7 +77,7 @@ same-length-4 c = search needs
 
 returns : tie.Need-returns
 unfolding heldRows
-returns c = let a = c .before .before .before .before .before .before .before .before .before .before .before .before .before .before .before .before .before .before .before .before .before .before .before .before .before .before .before .before .before .before .before .before .before .before .before .args in let seven = sym (length-map (a .rows .at) _) ∙ c .before .before .before .before .before .before .before .before .before .before .before .before .before .before .before .before .before .before .before .before .before .before .before .before .before .before .before .before .before .before .before .before .before .before .before .good .0 .1 .1 .0 .1 .0 .1 in let x = c .before .before .before .before .before .before .before .before .before .before .before .before .before .run-items in (run-cuts (a .rows) (a .table) (a .constant-tags .now) (a .constant-words .now) (a .register-tags .now) (a .register-words .now) (a .program .now) (a .data-tags .now) (a .data-words .now) (a .n) seven (c .before .before .before .before .before .before .before .before .before .before .before .before .before .before .before .before .before .before .before .before .before .before .before .before .before .before .before .before .before .before .before .before .before .before .before .pre .0) (a .schedule .now) _ _ _ _ _ _ _ (x .kept .1 .1 .1 .1 .1 .1 .1 .1 .1 .1 .1 .0) (x .kept .1 .1 .1 .1 .1 .1 .1 .1 .1 .1 .1 .1 .0) (x .kept .1 .1 .1 .1 .1 .1 .1 .1 .1 .1 .1 .1 .1 .1 .0) (x .kept .1 .1 .1 .1 .1 .1 .1 .1 .1 .1 .1 .1 .1 .1 .1 .0) (c .before .before .before .before .before .before .before .before .before .before .before .before .before .before .before .before .before .before .before .before .before .before .before .before .before .before .before .before .before .before .before .before .before .before .before .pre .1) (c .before .before .before .before .before .before .before .before .before .before .before .before .before .before .before .before .before .before .before .before .before .before .before .before .before .before .before .before .before .before .before .before .before .before .before .pre .2) (run-made (a .rows) (a .table) (a .constant-tags .now) (a .constant-words .now) (a .register-tags .now) (a .register-words .now) (a .program .now) (a .data-tags .now) (a .data-words .now) (a .n) seven (c .before .before .before .before .before .before .before .before .before .before .before .before .before .before .before .before .before .before .before .before .before .before .before .before .before .before .before .before .before .before .before .before .before .before .before .pre .0) (a .schedule .now) _ _ _ _ _ _ _ (live-made _ (counted-passes _ (c .live-counts .ensures) (x .ensures .1))) (x .ensures .0)) (x .ensures .2), record { count = refl; places = rows-left (a .rows) (a .table) (a .constant-tags .now) (a .constant-words .now) (a .register-tags .now) (a .register-words .now) (a .program .now) (a .data-tags .now) (a .data-words .now) (a .n) seven (c .before .before .before .before .before .before .before .before .before .before .before .before .before .before .before .before .before .before .before .before .before .before .before .before .before .before .before .before .before .before .before .before .before .before .before .pre .0) (a .schedule .now) _ _ _ _ _ _ _ (run-made (a .rows) (a .table) (a .constant-tags .now) (a .constant-words .now) (a .register-tags .now) (a .register-words .now) (a .program .now) (a .data-tags .now) (a .data-words .now) (a .n) seven (c .before .before .before .before .before .before .before .before .before .before .before .before .before .before .before .before .before .before .before .before .before .before .before .before .before .before .before .before .before .before .before .before .before .before .before .pre .0) (a .schedule .now) _ _ _ _ _ _ _ (live-made _ (counted-passes _ (c .live-counts .ensures) (x .ensures .1))) (x .ensures .0)) (x .ensures .2); beyond = rows-beyond (a .rows) (a .table) (a .constant-tags .now) (a .constant-words .now) (a .register-tags .now) (a .register-words .now) (a .program .now) (a .data-tags .now) (a .data-words .now) (a .n) seven (c .before .before .before .before .before .before .before .before .before .before .before .before .before .before .before .before .before .before .before .before .before .before .before .before .before .before .before .before .before .before .before .before .before .before .before .pre .0) _ (x .ensures .2) })
+returns c = let a = c .before .before .before .before .before .before .before .before .before .before .before .before .before .before .before .before .before .before .before .before .before .before .before .before .before .before .before .before .before .before .before .before .before .before .before .before .before .before .before .args in let seven = sym (length-map (a .rows .at) _) ∙ c .before .before .before .before .before .before .before .before .before .before .before .before .before .before .before .before .before .before .before .before .before .before .before .before .before .before .before .before .before .before .before .before .before .before .before .before .before .before .before .good .0 .1 .1 .0 .1 .0 .1 in let x = c .before .before .before .before .before .before .before .before .before .before .before .before .before .before .before .before .before .run-items in (run-cuts (a .rows) (a .table) (a .constant-tags .now) (a .constant-words .now) (a .register-tags .now) (a .register-words .now) (a .program .now) (a .data-tags .now) (a .data-words .now) (a .n) seven (c .before .before .before .before .before .before .before .before .before .before .before .before .before .before .before .before .before .before .before .before .before .before .before .before .before .before .before .before .before .before .before .before .before .before .before .before .before .before .before .pre .0) (a .schedule .now) _ _ _ _ _ _ _ (x .kept .1 .1 .1 .1 .1 .1 .1 .1 .1 .1 .1 .0) (x .kept .1 .1 .1 .1 .1 .1 .1 .1 .1 .1 .1 .1 .0) (x .kept .1 .1 .1 .1 .1 .1 .1 .1 .1 .1 .1 .1 .1 .1 .0) (x .kept .1 .1 .1 .1 .1 .1 .1 .1 .1 .1 .1 .1 .1 .1 .1 .0) (c .before .before .before .before .before .before .before .before .before .before .before .before .before .before .before .before .before .before .before .before .before .before .before .before .before .before .before .before .before .before .before .before .before .before .before .before .before .before .before .pre .1) (c .before .before .before .before .before .before .before .before .before .before .before .before .before .before .before .before .before .before .before .before .before .before .before .before .before .before .before .before .before .before .before .before .before .before .before .before .before .before .before .pre .2) (run-made (a .rows) (a .table) (a .constant-tags .now) (a .constant-words .now) (a .register-tags .now) (a .register-words .now) (a .program .now) (a .data-tags .now) (a .data-words .now) (a .n) seven (c .before .before .before .before .before .before .before .before .before .before .before .before .before .before .before .before .before .before .before .before .before .before .before .before .before .before .before .before .before .before .before .before .before .before .before .before .before .before .before .pre .0) (a .schedule .now) _ _ _ _ _ _ _ (live-made _ (counted-passes _ (c .live-counts .ensures) (x .ensures .1 ∙ ap liveTotal (sym (c .before .before .queues-of .ensures))))) (rw (← c .before .before .queues-of .ensures) at (x .ensures .0))) (x .ensures .2), record { count = refl; places = rows-left (a .rows) (a .table) (a .constant-tags .now) (a .constant-words .now) (a .register-tags .now) (a .register-words .now) (a .program .now) (a .data-tags .now) (a .data-words .now) (a .n) seven (c .before .before .before .before .before .before .before .before .before .before .before .before .before .before .before .before .before .before .before .before .before .before .before .before .before .before .before .before .before .before .before .before .before .before .before .before .before .before .before .pre .0) (a .schedule .now) _ _ _ _ _ _ _ (run-made (a .rows) (a .table) (a .constant-tags .now) (a .constant-words .now) (a .register-tags .now) (a .register-words .now) (a .program .now) (a .data-tags .now) (a .data-words .now) (a .n) seven (c .before .before .before .before .before .before .before .before .before .before .before .before .before .before .before .before .before .before .before .before .before .before .before .before .before .before .before .before .before .before .before .before .before .before .before .before .before .before .before .pre .0) (a .schedule .now) _ _ _ _ _ _ _ (live-made _ (counted-passes _ (c .live-counts .ensures) (x .ensures .1 ∙ ap liveTotal (sym (c .before .before .queues-of .ensures))))) (rw (← c .before .before .queues-of .ensures) at (x .ensures .0))) (x .ensures .2); beyond = rows-beyond (a .rows) (a .table) (a .constant-tags .now) (a .constant-words .now) (a .register-tags .now) (a .register-words .now) (a .program .now) (a .data-tags .now) (a .data-words .now) (a .n) seven (c .before .before .before .before .before .before .before .before .before .before .before .before .before .before .before .before .before .before .before .before .before .before .before .before .before .before .before .before .before .before .before .before .before .before .before .before .before .before .before .pre .0) _ (x .ensures .2) })
 
 pub run-cut-spec : {M : Type 1} → statement M
 run-cut-spec =
@@ -94,6 +98,7 @@ run-cut-spec =
     slice-relend-prefix-run-items-4
     slice-aggregate-run-items-8
     run-items-requires
+    queues-of-requires
     live-counts-requires
     same-length
     same-length-2

@@ -5,7 +5,6 @@ use mathlib.Core.Path.{_≡_, refl, sym, ap, ap₂, _∙_}
 use native.Mathlib.Omega.{arith}
 use lib.ListN.{length, take}
 use Rattle.window.specs.Memories.{memory}
-use Rattle.step.specs.Queues.{liveTotal}
 use Rattle.step.specs.State.{State}
 use Rattle.run.specs.declared.Counts.{Counts}
 use Rattle.run.specs.Run.{run}
@@ -89,29 +88,26 @@ loop-again c = let a = c .before .before .before .before .before .before .before
 rows-with-requires : tie.Need-rows-with-requires Inv-loop μ-loop
 rows-with-requires c κs = search needs
 
-queues-of-requires : tie.Need-queues-of-requires Inv-loop μ-loop
-queues-of-requires c κs = search needs
-
 counts-of-requires : tie.Need-counts-of-requires Inv-loop μ-loop
 counts-of-requires c κs = search needs
 
 same-length : tie.Need-same-length Inv-loop μ-loop
-same-length c = c .before .before .before .before .loop .inv .7
+same-length c = c .before .before .before .loop .inv .7
 
 same-length-2 : tie.Need-same-length-2 Inv-loop μ-loop
-same-length-2 c = c .before .before .before .before .loop .inv .8
+same-length-2 c = c .before .before .before .loop .inv .8
 
 same-length-3 : tie.Need-same-length-3 Inv-loop μ-loop
-same-length-3 c = c .before .before .before .before .loop .inv .9
+same-length-3 c = c .before .before .before .loop .inv .9
 
 same-length-4 : tie.Need-same-length-4 Inv-loop μ-loop
-same-length-4 c = c .before .before .before .before .loop .inv .10
+same-length-4 c = c .before .before .before .loop .inv .10
 
 same-length-5 : tie.Need-same-length-5 Inv-loop μ-loop
-same-length-5 c = c .before .before .before .before .loop .inv .11
+same-length-5 c = c .before .before .before .loop .inv .11
 
 returns : tie.Need-returns Inv-loop μ-loop
-returns c = let a = c .before .before .before .before .before .before .before .before .before .before .before .before .before .before .before .before .before .before .before .before .before .args in let l = c .before .before .before .before .loop in let w = c .before .before .rows-with in let g = c .before .before .before .before .before .before .before .before .before .before .before .before .before .before .before .before .before .before .before .before .before .good .0 in let f : length (a .rows) ≡ 7 = search needs in let m : a .n ≤ length (a .rows) = omega (arith, f, few (a .rows) (a .n) (a .queues) (a .flag) (a .psws .now) (memory (a .constant-tags .now) (a .constant-words .now)) (a .register-tags .now) (a .register-words .now) (a .program .now) (a .data-tags .now) (a .data-words .now) (c .before .before .before .before .before .before .before .before .before .before .before .before .before .before .before .before .before .before .before .before .before .pre .1)) in let i = state-end (a .rows) (w .result) (a .n) _ _ _ _ _ _ _ _ _ _ _ _ _ _ (with-take _ _ (a .rows) (a .n) (w .result) m (w .ensures)) (c .before .queues-of .ensures) in (ap₂ (λ (x : State) (k : Counts). record { state = x; counts = k }) (sym i) (c .counts-of .ensures) ∙ no-item (a .schedule .now) (l .i) _ (countsIn (l .tally)) (c .before .before .before .loop-test .left) (l .inv .0 .runs) ∙ ap (run (a .schedule .now)) (state-start (a .rows) (a .n) (a .queues) (a .flag) (a .psws .now) (memory (a .constant-tags .now) (a .constant-words .now)) (a .register-tags .now) (a .register-words .now) (a .program .now) (a .data-tags .now) (a .data-words .now) (c .before .before .before .before .before .before .before .before .before .before .before .before .before .before .before .before .before .before .before .before .before .pre .1) _ _ _ _ _ _ (told-start (a .rows) (a .n) (a .queues) (a .flag) (a .psws .now) (memory (a .constant-tags .now) (a .constant-words .now)) (a .register-tags .now) (a .register-words .now) (a .program .now) (a .data-tags .now) (a .data-words .now) (c .before .before .before .before .before .before .before .before .before .before .before .before .before .before .before .before .before .before .before .before .before .pre .1) (a .numbers) (c .before .before .before .before .before .before .before .before .before .before .before .before .before .before .before .before .before .before .before .before .before .pre .2)) (c .before .before .before .before .before .before .before .before .before .before .before .rings-of .ensures .1)), l .inv .1 .counted ∙ ap liveTotal (sym (c .before .queues-of .ensures)), with-drop _ _ (a .rows) (a .n) (w .result) m (w .ensures))
+returns c = let a = c .before .before .before .before .before .before .before .before .before .before .before .before .before .before .before .before .before .before .before .before .args in let l = c .before .before .before .loop in let w = c .before .rows-with in let g = c .before .before .before .before .before .before .before .before .before .before .before .before .before .before .before .before .before .before .before .before .good .0 in let f : length (a .rows) ≡ 7 = search needs in let m : a .n ≤ length (a .rows) = omega (arith, f, few (a .rows) (a .n) (a .queues) (a .flag) (a .psws .now) (memory (a .constant-tags .now) (a .constant-words .now)) (a .register-tags .now) (a .register-words .now) (a .program .now) (a .data-tags .now) (a .data-words .now) (c .before .before .before .before .before .before .before .before .before .before .before .before .before .before .before .before .before .before .before .before .pre .1)) in let i = state-end (a .rows) (w .result) (a .n) _ _ _ _ _ _ _ _ _ _ _ _ _ _ (with-take _ _ (a .rows) (a .n) (w .result) m (w .ensures)) refl in (ap₂ (λ (x : State) (k : Counts). record { state = x; counts = k }) (sym i) (c .counts-of .ensures) ∙ no-item (a .schedule .now) (l .i) _ (countsIn (l .tally)) (c .before .before .loop-test .left) (l .inv .0 .runs) ∙ ap (run (a .schedule .now)) (state-start (a .rows) (a .n) (a .queues) (a .flag) (a .psws .now) (memory (a .constant-tags .now) (a .constant-words .now)) (a .register-tags .now) (a .register-words .now) (a .program .now) (a .data-tags .now) (a .data-words .now) (c .before .before .before .before .before .before .before .before .before .before .before .before .before .before .before .before .before .before .before .before .pre .1) _ _ _ _ _ _ (told-start (a .rows) (a .n) (a .queues) (a .flag) (a .psws .now) (memory (a .constant-tags .now) (a .constant-words .now)) (a .register-tags .now) (a .register-words .now) (a .program .now) (a .data-tags .now) (a .data-words .now) (c .before .before .before .before .before .before .before .before .before .before .before .before .before .before .before .before .before .before .before .before .pre .1) (a .numbers) (c .before .before .before .before .before .before .before .before .before .before .before .before .before .before .before .before .before .before .before .before .pre .2)) (c .before .before .before .before .before .before .before .before .before .before .rings-of .ensures .1)), l .inv .1 .counted, with-drop _ _ (a .rows) (a .n) (w .result) m (w .ensures))
 
 pub run-items-spec : {M : Type 1} → statement M
 run-items-spec =
@@ -136,7 +132,6 @@ run-items-spec =
     loop-less
     loop-again
     rows-with-requires
-    queues-of-requires
     counts-of-requires
     same-length
     same-length-2
