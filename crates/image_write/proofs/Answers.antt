@@ -33,7 +33,7 @@ use Rattle.library.specs.Calls.{unless, leaving, orElse, stateRefused, stateRef
 use Rattle.library.specs.Promises.{writeAnswered, WritePromise}
 use Rattle.library.specs.Laws.InPlace.{fields-sized}
 use Rattle.library.specs.Laws.Places.{Fitting, fitting}
-use Rattle.library.specs.Laws.Held.{before, lengths, room-held, accepted}
+use Rattle.library.specs.Laws.Held.{before, lengths, room-held, accepted, accepted-live}
 use Rattle.library.specs.Laws.Numbers.{write-promise}
 use Rattle.library_state.specs.Laws.Cut.{cut, cut-fields}
 use Rattle.image_write.specs.Code.Bytes.{imageBytes}
@@ -110,8 +110,8 @@ module _ (v : Rows) (table : ProcessTable) (constantTags constantWords registerT
 
   -- the total that is stored is the number of the processes
   pub counted : table .processes ≡ length (livePts (table .queues))
-  unfolding fieldsIn liveTotal
-  counted = live-counted table (sound-parts (fieldsIn n held) (accepted n held fine .1) .table .counted) .1
+  unfolding liveTotal
+  counted = live-counted table (accepted-live n held fine) .1
 
   -- the slices that are cut to the sizes
   abbrev pub given : State

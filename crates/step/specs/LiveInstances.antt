@@ -20,7 +20,7 @@ unfoldable pub creating : (beside : ℕ) → Stepped
 creating n = step 1 (besideState n 0 (instructionWord 0x3970 0 0x4000 0x4000 ∷ 0 ∷ []))
 
 -- the ending, the counts of tasks 1 and 2, the total and the flag after a step
-pub record Leaves (x : Stepped) (e : Ending) (mine beside total up : ℕ) : Type 0 where
+pub record LiveAfter (x : Stepped) (e : Ending) (mine beside total up : ℕ) : Type 0 where
   pub ending : x .ending ≡ e
   pub live : x .state .table .live ≡ mine ∷ beside ∷ replicate 5 0
   pub processes : x .state .table .processes ≡ total
@@ -28,11 +28,11 @@ pub record Leaves (x : Stepped) (e : Ending) (mine beside total up : ℕ) : Type
 
 pub record LiveTrials : Type 0 where
   -- a process leaves: one fewer of its task and in all
-  pub quit : Leaves (quitting 4) Executed 1 4 5 0
+  pub quit : LiveAfter (quitting 4) Executed 1 4 5 0
   -- a create at 3, at 62 and, under trap 00, at 63: one more of its task and in all
-  pub created : Leaves (creating 1) Executed 3 1 4 0
-  pub last : Leaves (creating 60) Executed 3 60 63 0
-  pub fault : Leaves (creating 61) (Trapped CreateFault 1) 3 61 64 1
+  pub created : LiveAfter (creating 1) Executed 3 1 4 0
+  pub last : LiveAfter (creating 60) Executed 3 60 63 0
+  pub fault : LiveAfter (creating 61) (Trapped CreateFault 1) 3 61 64 1
 
 pub live-trials : LiveTrials
 unfolding opened instructionWord exclusionRow trialQueue besideState quitting creating

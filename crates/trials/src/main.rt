@@ -1,5 +1,5 @@
-// Refusals 7 to 10 of the calls read, run, step and write, at both sides of their boundaries, on one small state. A line for each call: what it
-// answered, and how many lent places are as they were before it.
+// Refusals 7 to 10 of the calls read, run, step and write, at both sides of their boundaries, on one small state; its live counts on one of seven
+// tasks. A line for each call: what it answered, and how many lent places are as they were before it.
 ghost use Prim.Native.Nat.{_≤_};
 use libc::STDOUT_FILENO;
 use library::ReadAnswer;

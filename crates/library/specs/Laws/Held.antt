@@ -6,7 +6,8 @@ use mathlib.Core.List.{List}
 use native.Mathlib.Omega.{arith}
 use lib.ListN.{length, length-take}
 use Rattle.step.specs.declared.ProcessTable.{ProcessTable}
-use Rattle.step.specs.Soundness.{sound}
+use Rattle.step.specs.Soundness.{liveSound, sound}
+use Rattle.step.specs.Laws.Sound.{sound-parts}
 use Rattle.library.specs.declared.Sizes.{Sizes}
 use Rattle.library.specs.declared.Rows.{Rows}
 use Rattle.library.specs.Buffers.{Buffers, Room, roomOf, fits, fieldsIn}
@@ -37,3 +38,8 @@ accepted n b e = go (fits n (roomOf b)) (sound (fieldsIn n b)) e
     go true true q = (refl, refl)
     go true false q = let z : _≡_ {A = ℕ} 0 1 = cc in absurd (omega arith)
     go false s q = let z : _≡_ {A = ℕ} 0 1 = cc in absurd (omega arith)
+
+-- its live counts are those of its queues
+pub accepted-live : (n : Sizes) (b : Buffers) → stateRefused n b ≡ false → liveSound (b .table) ≡ true
+unfolding fieldsIn
+accepted-live n b e = sound-parts (fieldsIn n b) (accepted n b e .1) .table .counted

@@ -13,7 +13,6 @@ use Rattle.step.specs.Queues.{liveTotal}
 use Rattle.step.specs.State.{State}
 use Rattle.step.specs.Act.{tableOf}
 use Rattle.step.specs.Soundness.{every, liveSound}
-use Rattle.step.specs.Laws.Sound.{sound-parts}
 use Rattle.step.specs.Laws.Counted.{live-counted, live-made}
 use Rattle.run.specs.declared.Counts.{Counts}
 use Rattle.run.specs.Run.{Ran, run}
@@ -29,7 +28,7 @@ use Rattle.library.specs.Held.{lentBuffers}
 use Rattle.library.specs.Code.HeldRows.{heldRows}
 use Rattle.library.specs.Promises.{RunPromise}
 use Rattle.library.specs.Laws.Places.{Fitting, fitting, over-first, over-cut, over-places, drop-later}
-use Rattle.library.specs.Laws.Held.{before, lengths, room-held, accepted}
+use Rattle.library.specs.Laws.Held.{before, lengths, room-held, accepted, accepted-live}
 use Rattle.library.specs.Laws.Numbers.{run-promise}
 use Rattle.library_state.specs.Laws.Cut.{cut, cut-fields, cut-refused}
 use Rattle.run_schedule.specs.Laws.Answers.{runs}
@@ -51,8 +50,7 @@ module _ (v : Rows) (table : ProcessTable) (constantTags constantWords tags word
 
   -- the table is the one that is made of its PSWs, queues and flag
   counted : liveSound table ≡ true
-  unfolding fieldsIn
-  counted = sound-parts (fieldsIn n held) (accepted n held sound .1) .table .counted
+  counted = accepted-live n held sound
 
   abbrev made : ProcessTable
   made = tableOf (table .psw) (table .queues) (table .flag)
