@@ -11,7 +11,7 @@ A slice more: one line in SLICES, the slice in hep's signatures and in those of 
 knows of a call is its contract alone, as PROMISES says it; the laws that lead from there to hep's own contract are in
 crates/hep/specs/Laws, over Buffers as a whole.
 
-The walks of load_rows, store_rows, find_row, row_at and put_row have one slice, the rows, and stand by hand.
+The walks of load_rows, store_rows and find_row have one slice, the rows, and stand by hand.
 
 The bodies that the walks follow are those of crates/hep/src/lib.rt: statement for statement, local for local. rt refuses a walk that does
 not follow its body.
@@ -50,7 +50,7 @@ LAST = {
 CORE = {
     "read": ("image_read", "read"),
     "run": ("run_schedule", "run"),
-    "step": ("step_row", "step"),
+    "step": ("run_schedule", "step"),
     "write": ("image_write", "write"),
 }
 
@@ -788,9 +788,9 @@ def lent_exit(params, given, answer, answered, held):
 
 
 class LentChanging:
-    """read, run: load the rows, call, store the table, store the rows. step: load the rows, search them, take one row, call, store the table,
-    store the row. `looks` are the calls that look at the rows, with the names of their results and their further operands; `kept` is what the
-    result has of the rows; `extra` are the locals that step has besides."""
+    """read, run: load the rows, call, store the table, store the rows. step: between loading and calling the rows are searched, and the call gets
+    the place. `looks` are the calls that look at the rows, with the names of their results and their further operands; `found` is the local of
+    the place."""
 
     def __init__(self, call):
         self.call, self.params = call, parameters(call, True)
@@ -799,51 +799,30 @@ class LentChanging:
         load = Callee("load", "hep", "load_rows", [shared_rows(0)], [("α₀", "ℕ"), ("δ₀", "GName")], ROWS, lambda v, ws: f"{v} ≡ loadedRows x₀")
         self.looks = [("v", load, lambda w: [])]
         self.core_params = [by_value(ROWS, "v", "(spelled-S v w₀ is₀)"), by_value(TABLE, "x₁", "g₁")] + [passed(p) for p in self.params[2:]]
-        self.bound, self.extra = [("v", "Rows")], []
+        promised = lambda last: promise(call, self.params, ("(heldRows v)", "x₁"), "(r .answer)", ("(heldRows (r .rows))", "(r .table)"), last)
+        self.bound, self.found, self.promised = [("v", "Rows")], [], promised
+        self.law = {"read": "{image}", "run": "{n} {schedule}", "step": "{n} {task}"}[call] + " (r .answer) v (r .rows)"
         if call == "step":
-            self.one_row()
+            self.one_task()
+        self.says, self.stored = lambda last: self.promised(last) + " × SamePlaces v (r .rows)", "storedRows x₀ (r .rows)"
         self.shift, self.c, self.n = len(self.core_params) - self.size, len(self.looks), sub(len(self.looks))
         self.parts = f"parts r w{self.n} is{self.n}"
-        if call == "step":
-            self.row_back()
-        else:
-            self.rows_back()
         self.core = Callee("core", *CORE[call], self.core_params, self.bound, self.after, lambda r, ws: self.says(lambda p: ws(p.i + self.shift)))
+        back = [passed(self.rows) | dict(fact="own0"), by_value(ROWS, "(r .rows)", f"({self.parts} .0)")]
+        self.store = Callee("store", "hep", "store_rows", back, [("r", self.after.denot)], VALUES["()"], lambda u, ws: f"{ws(0)} ≡ {self.stored}")
         callees = [callee for _, callee, _ in self.looks] + [self.core, self.store]
         about = "The rows are lent as `&` to be loaded, the table is copied out, the call is made by value, and table and rows are stored back."
         self.function = Function(call, self.params, [ROW, ROWS, TABLE, SIZES, self.answer, self.after], callees, about)
 
-    def one_row(self):
-        """The slice is searched by the task's number, and the row that stands there is taken."""
-        task, usize, i = self.names["task"], VALUES["usize"], self.size + 2
+    def one_task(self):
+        """The slice is searched by the task's number. What the call promises, it promises of the place where the row stands."""
+        task, usize, promised = self.names["task"], VALUES["usize"], self.promised
         find = Callee("find", "hep", "find_row", [shared_rows(1), by_value(task.of, task.x, task.g)], [("α₁", "ℕ"), ("δ₁", "GName")], usize, lambda i, ws: f"{i} ≡ placeOf {task.x} x₀")
-        one = Callee("one", "hep", "row_at", [shared_rows(2), by_value(usize, "i", "(refl, is₁ .1)")], [("α₂", "ℕ"), ("δ₂", "GName"), ("i", "ℕ")], ROW, lambda row, ws: f"{row} ≡ getD x₀ i emptyRow")
-        self.looks += [("i", find, lambda w: [w.copy(task.i + 1)]), ("row", one, lambda w: [w.copy(i)])]
-        self.core_params.insert(1, by_value(ROW, "row", "(spelled-T row w₂ is₂)"))
-        self.bound, self.extra = self.bound + [("row", "Row")], [i, i + 1]
-
-    def whole_rows(self):
-        """The lent rows, as whoever stores takes them."""
-        return passed(self.rows) | dict(fact="own0")
-
-    def row_back(self):
-        """The row goes back to its place. What the call promises, it promises of the place where the row stands."""
-        task, n = self.names["task"].x, self.names["n"].x
-        stands, unlisted = f"StandsAt {task} ({n} .rows) (heldRows v) j row", f"hasRow {task} (take ({n} .rows) (heldRows v)) ≡ false"
-        promised = lambda last: promise(self.call, self.params, ("(heldRows v)", "x₁"), "(r .answer)", ("(set (heldRows v) j (r .row))", "(r .table)"), last)
-        self.says = lambda last: f"((j : ℕ) → {stands} → {promised(last)}) × ({unlisted} → r .row ≡ row)"
-        self.kept, self.stored, self.law = ("row", ROW), "set x₀ i (r .row)", "{n} {task} (r .answer) v i row (r .row)"
-        params = [self.whole_rows(), by_value(VALUES["usize"], "i", "(refl, is₁ .1)"), by_value(ROW, "(r .row)", f"({self.parts} .0)")]
-        self.store = Callee("store", "hep", "put_row", params, [("i", "ℕ"), ("r", self.after.denot)], VALUES["()"], lambda u, ws: f"{ws(0)} ≡ {self.stored}")
-
-    def rows_back(self):
-        """The rows go back to their places."""
-        promised = lambda last: promise(self.call, self.params, ("(heldRows v)", "x₁"), "(r .answer)", ("(heldRows (r .rows))", "(r .table)"), last)
-        self.says = lambda last: promised(last) + " × SamePlaces v (r .rows)"
-        self.kept, self.stored = ("rows", ROWS), "storedRows x₀ (r .rows)"
-        self.law = ("{n} {schedule}" if self.call == "run" else "{image}") + " (r .answer) v (r .rows)"
-        params = [self.whole_rows(), by_value(ROWS, "(r .rows)", f"({self.parts} .0)")]
-        self.store = Callee("store", "hep", "store_rows", params, [("r", self.after.denot)], VALUES["()"], lambda u, ws: f"{ws(0)} ≡ {self.stored}")
+        self.looks.append(("i", find, lambda w: [w.copy(task.i + 1)]))
+        self.core_params.insert(1, by_value(usize, "i", "(refl, is₁ .1)"))
+        self.bound, self.found = self.bound + [("i", "ℕ")], [self.size + 2]
+        self.promised = lambda last: f"(StandsAt {task.x} (heldRows v) i → {promised(last)})"
+        self.law += " i"
 
     def steps(self):
         """The body, statement for statement."""
@@ -861,14 +840,14 @@ class LentChanging:
         places = slices_again(w, params, table + 1)
         w.comment("the call with rows and table by value")
         w.gather("owns", [p["fact"] for p in self.core_params])
-        calls(w, self.core, "tc", "owns", lambda w: [w.copy(l) for l in [size + 1, *self.extra[1:], table] + [places.get(p.i, p.i + 1) for p in params[2:]]], "r", c)
+        calls(w, self.core, "tc", "owns", lambda w: [w.copy(l) for l in [size + 1, *self.found, table] + [places.get(p.i, p.i + 1) for p in params[2:]]], "r", c)
         lands(w, self.after, "r", c, out)
         w.comment("the table is stored back")
         table_back(w, out, 1, "(r .table)", f"({self.parts} .1 .0)")
         w.comment("the rows are stored back")
         rows_given(w, self.rows, unit + 1)
         w.gather("owns", [p["fact"] for p in self.store.params])
-        calls(w, self.store, "T0", "owns", lambda w: [w.copy(l) for l in [unit + 2, *self.extra[:1]]] + [w.field(out, 0)], "u", c + 1)
+        calls(w, self.store, "T0", "owns", lambda w: [w.copy(unit + 2), w.field(out, 0)], "u", c + 1)
         lands(w, VALUES["()"], "u", c + 1, unit, spelled=False)
         w.drop("own")
         w.turn(["T0"], ["t0", "none"], "split ! $")
@@ -897,7 +876,7 @@ class LentChanging:
         finals = [f"(ws{sub(c + 1)} .0)"] + [f"({at(f'ws{self.n}', p.i + self.shift)})" for p in changed]
         equal = [f"n{sub(c + 1)}·0"] + [f"n{self.n}·{p.i + self.shift}" for p in changed]
         w.step(f"by ! (exits {' '.join([v for v, _ in variables] + finals)} ({self.parts}) {' '.join(facts + equal)})")
-        return self.function.file(laws_of(call), LENT + exits, w, after_parts(self.after, [self.kept, ("table", TABLE), ("answer", answer)]))
+        return self.function.file(laws_of(call), LENT + exits, w, after_parts(self.after, [("rows", ROWS), ("table", TABLE), ("answer", answer)]))
 
 
 def lent_looking(call):
@@ -1080,7 +1059,7 @@ class Owned:
     def __init__(self, call):
         self.call, self.changing, self.params = call, call != "write", parameters(call, False)
         self.answer = Declared("N", "library", f"{call.capitalize()}Answer", "EL")
-        self.after = Declared("O", "library", {"step": "AfterOwnedStep"}.get(call, f"After{call.capitalize()}")) if self.changing else self.answer
+        self.after = Declared("O", "library", f"After{call.capitalize()}") if self.changing else self.answer
         self.changed = [p for p in self.params if p.mut]
         kind, mut = "Mut" if self.changing else "Shr", self.changing
         rows = dict(row=f"{kind}Slice (named 0) (α ∷ []) T.the-row", denot="RefT (List Row)", arg="(lent-rows l γ)", vals="sliceVal (l, 0) (length x₀) ∷ []", κ="(α ∷ [])", q="fullShare", fact="own0", mut=mut, slice=True)
@@ -1182,9 +1161,7 @@ class Owned:
 SPECS = [
     "use Rattle.library.specs.Held.{lentBuffers}",
     "use Rattle.library.specs.Code.HeldRows.{heldRows, SamePlaces}",
-    "use Rattle.library.specs.Empty.{emptyRow}",
     "use Rattle.library.specs.Code.RowPlace.{placeOf, StandsAt}",
-    "use Rattle.step.specs.Soundness.{hasRow}",
     "use Rattle.hep.specs.Code.Rows.{loadedRows, storedRows}",
 ]
 

@@ -1,14 +1,13 @@
 // The public library: reading, running, stepping and writing a state that lies in lent buffers, and the same for a caller that owns its
 // rows and its process table.
 ghost use mathlib.Core.Path.{_≡_};
-ghost use lib.ListN.{getD, set};
 ghost use Rattle.library.specs.Code.RowPlace.{placeOf};
 ghost use Rattle.library.specs.Empty.{emptyRow, noRows, noProcesses};
 ghost use Rattle.library.specs.Held.{lentBuffers};
 ghost use Rattle.library.specs.Promises.{ReadPromise, RunPromise, StepPromise, WritePromise};
 ghost use Rattle.hep.specs.Code.Rows.{noneLoaded, withRow, rowOr, loadedRows, storedRows};
 ghost use Rattle.window.specs.Limits.{tasks};
-use library::AfterOwnedStep;
+use library::AfterStep;
 use library::AfterRead;
 use library::AfterRun;
 use library::ReadAnswer;
@@ -107,7 +106,7 @@ fn store_rows(rows: &mut [Row], v: Rows)
     }
 }
 
-// ---- a lent slice of rows, searched by task number; one row of it by value, and stored back
+// ---- a lent slice of rows, searched by task number
 
 // The place of the first row of a task; the length where there is none.
 fn find_row(rows: &[Row], task: u8) -> usize
@@ -121,25 +120,6 @@ fn find_row(rows: &[Row], task: u8) -> usize
         place += 1;
     }
     place
-}
-
-// Row i, or an empty one where there is none.
-fn row_at(rows: &[Row], i: usize) -> Row
-    ensures { λ r. ⌜ r ≡ getD (now (rows .entry)) i emptyRow ⌝ }
-{
-    if i < rows.len() {
-        return rows[i];
-    }
-    empty_row()
-}
-
-// Row i is made r. Nothing happens where there is no row i.
-fn put_row(rows: &mut [Row], i: usize, r: Row)
-    ensures { λ _. ⌜ now (rows .exit) ≡ set (now (rows .entry)) i r ⌝ }
-{
-    if i < rows.len() {
-        rows[i] = r;
-    }
 }
 
 // ---- the calls
@@ -232,11 +212,10 @@ pub fn step(
     ensures { λ r. ⌜ StepPromise n (lentBuffers (now (rows .entry)) (now (table .entry)) (now («constant_tags» .entry)) (now («constant_words» .entry)) (now («register_tags» .entry)) (now («register_words» .entry)) (now (program .entry)) (now (data_tags .entry)) (now (data_words .entry))) task r (lentBuffers (now (rows .exit)) (now (table .exit)) (now («constant_tags» .entry)) (now («constant_words» .entry)) (now («register_tags» .exit)) (now («register_words» .exit)) (now (program .entry)) (now (data_tags .exit)) (now (data_words .exit))) ⌝ }
 {
     let v = load_rows(rows);
-    let i = find_row(rows, task);
-    let row = row_at(rows, i);
-    let after = step_row::step(
+    let place = find_row(rows, task);
+    let after = run_schedule::step(
         v,
-        row,
+        place,
         *table,
         constant_tags,
         constant_words,
@@ -249,7 +228,7 @@ pub fn step(
         task,
     );
     *table = after.table;
-    put_row(rows, i, after.row);
+    store_rows(rows, after.rows);
     after.answer
 }
 
@@ -392,10 +371,10 @@ pub fn run_owned(
     after_run(lent_rows, lent_table, answer)
 }
 
-fn after_step(at: [Row; TASKS], table: ProcessTable, answer: StepAnswer) -> AfterOwnedStep
+fn after_step(at: [Row; TASKS], table: ProcessTable, answer: StepAnswer) -> AfterStep
     ensures { λ r. ⌜ r ≡ record { rows = record { at = at; n = tasks }; table = table; answer = answer } ⌝ }
 {
-    AfterOwnedStep {
+    AfterStep {
         rows: Rows { at, n: TASKS },
         table,
         answer,
@@ -415,7 +394,7 @@ pub fn step_owned(
     data_words: &mut [u64],
     n: Sizes,
     task: u8,
-) -> AfterOwnedStep
+) -> AfterStep
     ensures { λ r. ⌜ StepPromise n (lentBuffers rows table (now («constant_tags» .entry)) (now («constant_words» .entry)) (now («register_tags» .entry)) (now («register_words» .entry)) (now (program .entry)) (now (data_tags .entry)) (now (data_words .entry))) task (r .answer) (lentBuffers (r .rows .at) (r .table) (now («constant_tags» .entry)) (now («constant_words» .entry)) (now («register_tags» .exit)) (now («register_words» .exit)) (now (program .entry)) (now (data_tags .exit)) (now (data_words .exit))) × (r .rows .n ≡ tasks) ⌝ }
 {
     let mut lent_rows = rows;

@@ -61,13 +61,6 @@ pub struct AfterRun {
 
 // What a step answers, and what it leaves besides the lent memories.
 pub struct AfterStep {
-    pub row: Row,
-    pub table: ProcessTable,
-    pub answer: StepAnswer,
-}
-
-// What a step of an owner's rows answers, and what it leaves besides the lent memories.
-pub struct AfterOwnedStep {
     pub rows: Rows,
     pub table: ProcessTable,
     pub answer: StepAnswer,

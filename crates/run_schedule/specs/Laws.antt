@@ -4,3 +4,4 @@ pub mod Numbers
 pub mod Answers
 pub mod Cut
 pub mod Tally
+pub mod OneItem

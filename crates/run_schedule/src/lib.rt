@@ -1,4 +1,4 @@
-// A run over a schedule: the refusals 8, 9 and 10, then one step an item.
+// A run over a schedule: the refusals 8, 9 and 10, then one step an item. A step by itself is a run over one item.
 ghost use mathlib.Core.Path.{_≡_};
 ghost use mathlib.Core.Bool.{true, false, cond, _&&_};
 ghost use mathlib.Core.List.{List};
@@ -22,16 +22,20 @@ ghost use Rattle.run.specs.Run.{counted, run};
 ghost use Rattle.run.specs.Schedule.{itemSound};
 ghost use Rattle.step_soundness.specs.Code.Held.{stateIn, soundIn};
 ghost use Rattle.run_schedule.specs.Code.Tally.{endings, endingPlace, countsIn};
+ghost use Rattle.run_schedule.specs.Code.OneItem.{trapOf, endingOf, answerOf, rowAt};
 ghost use Rattle.library.specs.declared.RunAnswer.the-variants.{Refused};
 ghost use Rattle.library.specs.Calls.{stateRefused};
 ghost use Rattle.library.specs.Held.{lentBuffers};
 ghost use Rattle.library.specs.Code.HeldRows.{heldRows, SamePlaces};
-ghost use Rattle.library.specs.Promises.{RunPromise};
+ghost use Rattle.library.specs.Code.RowPlace.{StandsAt};
+ghost use Rattle.library.specs.Promises.{RunPromise, StepPromise};
 ghost use Rattle.window.specs.Limits.{tasks};
 use library::AfterRun;
+use library::AfterStep;
 use library::Rows;
 use library::RunAnswer;
 use library::Sizes;
+use library::StepAnswer;
 use operation::Course;
 use operation::Trap;
 use refusal::Refusal;
@@ -583,4 +587,96 @@ pub fn run(
         schedule,
         n,
     )
+}
+
+// ---- one step: a run over one item
+
+// The trap of a kind.
+fn trap_of(k: u8) -> Trap
+    ensures { λ r. ⌜ r ≡ trapOf k ⌝ }
+{
+    match k {
+        0x00 => Trap::CreateFault,
+        0x12 => Trap::IllegalInstruction,
+        0x14 => Trap::ProtectionViolation,
+        0x16 => Trap::PrivilegedInstruction,
+        0x1A => Trap::SupervisorCall,
+        0x1C => Trap::SimulatedInstruction,
+        _ => Trap::DataException,
+    }
+}
+
+// How the one item ended: by its count, and of a trap by the trap record of the task's row.
+fn ending_of(c: Counts, row: Row) -> Ending
+    ensures { λ r. ⌜ r ≡ endingOf c row ⌝ }
+{
+    if c.executed == 1 {
+        return Ending::Executed;
+    }
+    if c.waved == 1 {
+        return Ending::Waved;
+    }
+    if c.idle == 1 {
+        return Ending::Idle;
+    }
+    Ending::Trapped(trap_of(row.kind), row.psw)
+}
+
+fn answer_of(answer: RunAnswer, row: Row) -> StepAnswer
+    ensures { λ r. ⌜ r ≡ answerOf answer row ⌝ }
+{
+    match answer {
+        RunAnswer::Refused(e) => StepAnswer::Refused(e),
+        RunAnswer::Counted(c) => StepAnswer::Stepped(ending_of(c, row)),
+    }
+}
+
+// Row i of seven, counted round.
+fn row_at(rows: [Row; TASKS], i: usize) -> Row
+    ensures { λ r. ⌜ r ≡ rowAt rows i ⌝ }
+{
+    rows[i % TASKS]
+}
+
+// One step of a task, whose row stands at `place` where it is listed: 8, then 10.
+pub fn step(
+    rows: Rows,
+    place: usize,
+    table: ProcessTable,
+    constant_tags: &[u8],
+    constant_words: &[u64],
+    register_tags: &mut [u8],
+    register_words: &mut [u64],
+    program: &[u64],
+    data_tags: &mut [u8],
+    data_words: &mut [u64],
+    n: Sizes,
+    task: u8,
+) -> AfterStep
+    ensures { λ r. ⌜ (StandsAt task (heldRows rows) place → StepPromise n (lentBuffers (heldRows rows) table (now («constant_tags» .entry)) (now («constant_words» .entry)) (now («register_tags» .entry)) (now («register_words» .entry)) (now (program .entry)) (now (data_tags .entry)) (now (data_words .entry))) task (r .answer) (lentBuffers (heldRows (r .rows)) (r .table) (now («constant_tags» .entry)) (now («constant_words» .entry)) (now («register_tags» .exit)) (now («register_words» .exit)) (now (program .entry)) (now (data_tags .exit)) (now (data_words .exit)))) × SamePlaces rows (r .rows) ⌝ }
+{
+    let schedule = [task];
+    let after = run(
+        rows,
+        table,
+        constant_tags,
+        constant_words,
+        register_tags,
+        register_words,
+        program,
+        data_tags,
+        data_words,
+        &schedule,
+        n,
+    );
+    let rows = after.rows;
+    let table = after.table;
+    let answer = after.answer;
+    let at = rows.at;
+    let row = row_at(at, place);
+    AfterStep {
+        rows,
+        table,
+        answer: answer_of(answer, row),
+    }
 }

@@ -5,7 +5,7 @@ use native.Mathlib.Omega.{arith}
 use lib.ListN.{length, length-map}
 use borrow.Author.Needs.{needs}
 use borrow.Author.Tests.{le-leb, lt-leb}
-use Rattle.hep.specs.Laws.Rows.{getD-any}
+use Rattle.library.specs.Laws.RowPlace.{getD-any}
 use Rattle.hep.proofs.row_or.Statement.{statement}
 use Rattle.hep.proofs.row_or.Tie as tie
 

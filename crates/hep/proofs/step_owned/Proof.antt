@@ -66,9 +66,9 @@ use Rattle.library.proofs.Sizes.Laws as Z′
 use Rattle.library.specs.declared.StepAnswer.{StepAnswer}
 use Rattle.library.proofs.StepAnswer as N
 use Rattle.library.proofs.StepAnswer.Laws as N′
-use Rattle.library.specs.declared.AfterOwnedStep.{AfterOwnedStep}
-use Rattle.library.proofs.AfterOwnedStep as O
-use Rattle.library.proofs.AfterOwnedStep.Laws as O′
+use Rattle.library.specs.declared.AfterStep.{AfterStep}
+use Rattle.library.proofs.AfterStep as O
+use Rattle.library.proofs.AfterStep.Laws as O′
 use Rattle.hep.proofs.step as lent-fn
 use Rattle.hep.proofs.step.Symbol as lent-fn-def
 use Rattle.hep.proofs.step.Symbol.{name as #hep·step}
@@ -226,12 +226,12 @@ module _ {M : Type 1} (𝓤 : URA M) (H : Heap 𝓤) (A : Atoms 𝓤) (W : Given
   abbrev lent-table : ℕ → GName → RefT ProcessTable
   lent-table l δ = record { ptr = (l, 0); name = δ; now = x₁ }
 
-  exits : (r : StepAnswer) (o : AfterOwnedStep) (w : Val) (z₀ : List Row) (z₁ : ProcessTable) (z₄ : List ℕ) (z₅ : List ℕ) (z₇ : List ℕ) (z₈ : List ℕ) → StepPromise x₉ (lentBuffers x₀ x₁ x₂ x₃ x₄ x₅ x₆ x₇ x₈) x₁₀ r (lentBuffers z₀ z₁ x₂ x₃ z₄ z₅ x₆ z₇ z₈) → o ≡ record { rows = record { at = z₀; n = 7 }; table = z₁; answer = r } → length z₄ ≡ length x₄ → length z₅ ≡ length x₅ → length z₇ ≡ length x₇ → length z₈ ≡ length x₈
+  exits : (r : StepAnswer) (o : AfterStep) (w : Val) (z₀ : List Row) (z₁ : ProcessTable) (z₄ : List ℕ) (z₅ : List ℕ) (z₇ : List ℕ) (z₈ : List ℕ) → StepPromise x₉ (lentBuffers x₀ x₁ x₂ x₃ x₄ x₅ x₆ x₇ x₈) x₁₀ r (lentBuffers z₀ z₁ x₂ x₃ z₄ z₅ x₆ z₇ z₈) → o ≡ record { rows = record { at = z₀; n = 7 }; table = z₁; answer = r } → length z₄ ≡ length x₄ → length z₅ ≡ length x₅ → length z₇ ≡ length x₇ → length z₈ ≡ length x₈
       → ent 𝓤 (⋆ 𝓤 H A ((‵ (flft κ₂ q₂) ⊛ (‵ (flft κ₃ q₃) ⊛ (‵ (flft κ₄ q₄) ⊛ (‵ (flft κ₅ q₅) ⊛ (‵ (flft κ₆ q₆) ⊛ (‵ (flft κ₇ q₇) ⊛ (‵ (flft κ₈ q₈) ⊛ ‵ ftrue))))))) ∷ ‵ (O.the-row .own o (w ∷ [])) ∷ ‵ (finally u8 γ₄ z₄) ∷ ‵ (finally u64 γ₅ z₅) ∷ ‵ (finally u8 γ₇ z₇) ∷ ‵ (finally u64 γ₈ z₈) ∷ [])) (Post (w))
   exits r o w z₀ z₁ z₄ z₅ z₇ z₈ e₁ e₂ n₄ n₅ n₇ n₈ =
       qed W ((‵ (flft κ₂ q₂) ⊛ (‵ (flft κ₃ q₃) ⊛ (‵ (flft κ₄ q₄) ⊛ (‵ (flft κ₅ q₅) ⊛ (‵ (flft κ₆ q₆) ⊛ (‵ (flft κ₇ q₇) ⊛ (‵ (flft κ₈ q₈) ⊛ ‵ ftrue))))))) ∷ ‵ (O.the-row .own o (w ∷ [])) ∷ ‵ (finally u8 γ₄ z₄) ∷ ‵ (finally u64 γ₅ z₅) ∷ ‵ (finally u8 γ₇ z₇) ∷ ‵ (finally u64 γ₈ z₈) ∷ []) ∵
       suffices ! _ (ends-at 𝓤 H A step-owned′.ended stayed (step-owned′.clauses 𝓤 H A at-mem run) W bound (w) (o) (tt, (tt, (tt, (tt, (z₄, (z₅, (tt, (z₇, (z₈, (tt, (tt, tt))))))))))) (tt, (tt, (tt, (tt, (n₄, (n₅, (tt, (n₇, (n₈, (tt, (tt, tt)))))))))))) $
-      says ! (subst (λ (y : AfterOwnedStep). StepPromise x₉ (lentBuffers x₀ x₁ x₂ x₃ x₄ x₅ x₆ x₇ x₈) x₁₀ (y .answer) (lentBuffers (y .rows .at) (y .table) x₂ x₃ z₄ z₅ x₆ z₇ z₈) × (y .rows .n ≡ 7)) (sym e₂) (e₁, refl)) $
+      says ! (subst (λ (y : AfterStep). StepPromise x₉ (lentBuffers x₀ x₁ x₂ x₃ x₄ x₅ x₆ x₇ x₈) x₁₀ (y .answer) (lentBuffers (y .rows .at) (y .table) x₂ x₃ z₄ z₅ x₆ z₇ z₈) × (y .rows .n ≡ 7)) (sym e₂) (e₁, refl)) $
       frame ! $ nothing ! $ nothing ! $ fjoin ! $ nothing ! $ fjoin ! $ move ! (5 ∷ 0 ∷ []) $ fjoin ! $ move ! (4 ∷ 0 ∷ []) $ fjoin ! $ nothing ! $ fjoin ! $ move ! (3 ∷ 0 ∷ []) $ fjoin ! $ move ! (2 ∷ 0 ∷ []) $ fjoin ! $ nothing ! $
       fjoin ! $ nothing ! $ fjoin ! $ nothing ! $ fjoin ! $ nothing ! $ fjoin ! $ done !
 
@@ -316,7 +316,7 @@ module _ {M : Type 1} (𝓤 : URA M) (H : Heap 𝓤) (A : Atoms 𝓤) (W : Given
         owned ! Seven (Is Seven) (array-makes 𝓤 H A W T.the-row (LL.makes T.the-type T′.the-plain 𝓤 H A) 7) (ws₁ .0) _ h₀ $ fjoin ! $ move ! (1 ∷ 0 ∷ []) $
         use2 W (raw (Again 𝓤 H A at-mem run .pre (to-again (ws₁ .0) (ws₁ .1 .0) r))) (goes-again (ws₁ .0) (ws₁ .1 .0) r) $
         calls-at ! fm (Again 𝓤 H A at-mem run) known-again (to-again (ws₁ .0) (ws₁ .1 .0) r) (and-then ! (load ! (from ! (stop !)) (look ! 10 refl)) (and-then ! (load ! (from ! (stop !)) (look ! 8 refl)) (and-then ! (load ! (from ! (stop !)) (look ! 34 refl)) (no-more !)))) (λ w₂.
-        use1 W (later (some (λ (o : AfterOwnedStep). (‵ ftrue ⊛ ‵ (O.the-row .own o (w₂ ∷ []))) ⊛ raw (ensured 𝓤 H A again-fn.ended (again-fn.clauses 𝓤 H A at-mem run) tt (args-again (ws₁ .0) (ws₁ .1 .0) r) tt o)))) (id⊢ 𝓤 _) $ await ! tt $ pick ! (λ o.
+        use1 W (later (some (λ (o : AfterStep). (‵ ftrue ⊛ ‵ (O.the-row .own o (w₂ ∷ []))) ⊛ raw (ensured 𝓤 H A again-fn.ended (again-fn.clauses 𝓤 H A at-mem run) tt (args-again (ws₁ .0) (ws₁ .1 .0) r) tt o)))) (id⊢ 𝓤 _) $ await ! tt $ pick ! (λ o.
         split ! $ move ! (1 ∷ []) $
         use1 W (some (λ (ws₂ : Lasts again-fn.ended tt (args-again (ws₁ .0) (ws₁ .1 .0) r)). ‵ (lasts again-fn.ended tt (args-again (ws₁ .0) (ws₁ .1 .0) r) ws₂) ⊛ raw (fact 𝓤 (o ≡ record { rows = record { at = ws₁ .0; n = 7 }; table = ws₁ .1 .0; answer = r })))) (id⊢ 𝓤 _) $ pick ! (λ ws₂.
         split ! $ move ! (1 ∷ []) $ heard ! (o ≡ record { rows = record { at = ws₁ .0; n = 7 }; table = ws₁ .1 .0; answer = r }) (λ e₂. fsplit ! $ drop ! $ fsplit ! $ drop ! $ fsplit ! $ drop ! $ drop ! $ split ! $ move ! (1 ∷ []) $

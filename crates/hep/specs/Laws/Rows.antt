@@ -14,12 +14,6 @@ use Rattle.library.specs.declared.Rows.{Rows}
 use Rattle.library.specs.Empty.{noRows}
 use Rattle.hep.specs.Code.Rows.{noneLoaded, withRow, loadedFrom, loadedRows, storeFrom, storedRows}
 
--- what stands within a list stands there whatever stands elsewhere
-pub getD-any : (l : List Row) (i : ℕ) (a b : Row) → i < length l → getD l i a ≡ getD l i b
-getD-any [] i a b h = absurd (omega (arith, h))
-getD-any (x ∷ l) zero a b h = refl
-getD-any (x ∷ l) (suc i) a b h = getD-any l i a b (omega (arith, h))
-
 -- these rows were loaded
 pub record Loaded (rows : List Row) (v : Rows) : Type 0 where
   pub count : v .n ≡ min (length rows) 7

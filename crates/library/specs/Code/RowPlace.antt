@@ -4,7 +4,6 @@ use mathlib.Core.Path.{_≡_}
 use mathlib.Core.Bool.{true, cond}
 use mathlib.Core.List.{List, [], _∷_}
 use lib.Dec.{eqb}
-use lib.ListN.{getD, take}
 use Rattle.window.specs.declared.Row.{Row}
 use Rattle.step.specs.Soundness.{hasRow}
 
@@ -13,7 +12,6 @@ unfoldable pub placeOf : (t : ℕ) → List Row → ℕ
 placeOf t [] = 0
 placeOf t (r ∷ rs) = cond (eqb (r .task) t) 0 (suc (placeOf t rs))
 
--- i is the place of task t among the first n rows, where it is listed; what stands at i, if anything does, is this row
-pub record StandsAt (t n : ℕ) (rows : List Row) (i : ℕ) (row : Row) : Type 0 where
-  pub place : hasRow t (take n rows) ≡ true → i ≡ placeOf t (take n rows)
-  pub stands : getD rows i row ≡ row
+-- i is the place of task t among the rows, where it is listed
+abbrev pub StandsAt : (t : ℕ) → List Row → ℕ → Type 0
+StandsAt t rows i = hasRow t rows ≡ true → i ≡ placeOf t rows

@@ -1,2 +1,0 @@
--- Steps of the code, by which its functions say what they do: no promise of a call names them.
-pub mod Step
