@@ -1,3 +1,4 @@
+-- Skeleton and paths (.before ..) are generated: docs/PROOFS.md.
 use borrow.Author.Needs.{needs}
 use Rattle.run_schedule.specs.Code.OneItem.{answerOf}
 use Rattle.run_schedule.proofs.answer_of.Statement.{statement}

@@ -1,47 +1,34 @@
+-- Skeleton and paths (.before ..) are generated: docs/PROOFS.md.
 use mathlib.Core.Path.{refl}
 use borrow.Author.Needs.{needs}
 use Rattle.run_schedule.specs.Laws.OneItem.{step-by-run}
 use Rattle.run_schedule.proofs.step.Statement.{statement}
 use Rattle.run_schedule.proofs.step.Tie as tie
-use Rattle.run_schedule.proofs.step.Reads as reads
-use Rattle.run_schedule.proofs.step.Lts as lts
-use Rattle.run_schedule.proofs.answer_of.Reads as answer-of-reads
-use Rattle.run_schedule.proofs.row_at.Reads as row-at-reads
-use Rattle.run_schedule.proofs.run.Reads as run-reads
 
--- src/lib.rt:669:9
 slice-aggregate-run : tie.Need-slice-aggregate-run
 slice-aggregate-run c = search needs
 
--- src/lib.rt:659:9
 run-requires : tie.Need-run-requires
 run-requires c κs = search needs
 
--- src/lib.rt:676:9
 row-at-requires : tie.Need-row-at-requires
 row-at-requires c κs = search needs
 
--- src/lib.rt:680:17
 answer-of-requires : tie.Need-answer-of-requires
 answer-of-requires c κs = search needs
 
--- src/lib.rt:642:1
 same-length : tie.Need-same-length
 same-length c = search needs
 
--- src/lib.rt:642:1
 same-length-2 : tie.Need-same-length-2
 same-length-2 c = search needs
 
--- src/lib.rt:642:1
 same-length-3 : tie.Need-same-length-3
 same-length-3 c = search needs
 
--- src/lib.rt:642:1
 same-length-4 : tie.Need-same-length-4
 same-length-4 c = search needs
 
--- src/lib.rt:642:1
 returns : tie.Need-returns
 returns c =
     let a = c .before .before .before .before .before .before .before .before .before .before .before .before .before .before .before .before .before .before .before .before .before .before .before .before .before .before .args in

@@ -28,7 +28,7 @@ use Rattle.step.specs.Step.{rowDecides, acted, stepRow, stepBy, step}
 use Rattle.step.specs.Soundness.{every, hasRow}
 use Rattle.step.specs.Laws.Rows.{find-task}
 use Rattle.step.specs.Laws.Sound.{found-hasRow}
-use Rattle.run.specs.Run.{counts, noCounts, counted, Ran, runBy, run}
+use Rattle.run.specs.Run.{noCounts, counted, Ran, runBy, run}
 use Rattle.run.specs.Schedule.{itemSound, scheduleRefusal}
 use Rattle.run.specs.Laws.Run.{run-lengths}
 use Rattle.library.specs.declared.Rows.{Rows}
@@ -37,7 +37,7 @@ use Rattle.library.specs.declared.RunAnswer.{RunAnswer}
 use Rattle.library.specs.declared.StepAnswer.the-variants.{Stepped}
 use Rattle.library.specs.Buffers.{Buffers, fieldsIn, holding}
 use Rattle.library.specs.Calls.{unless, leaving, orElse, stateRefusal, runRefusal, runAnswer, runLeaves, taskRefusal, stepRefusal, stepAnswer, stepLeaves}
-use Rattle.library.specs.Code.HeldRows.{heldRows, SamePlaces}
+use Rattle.library.specs.Code.HeldRows.{heldRows}
 use Rattle.library.specs.Code.RowPlace.{placeOf, StandsAt}
 use Rattle.library.specs.Empty.{emptyRow}
 use Rattle.library.specs.InPlace.{run-in-place}
@@ -58,7 +58,7 @@ trap-again SupervisorCall = refl
 trap-again SimulatedInstruction = refl
 trap-again DataException = refl
 
--- the row says kind and PSW of a trap, and is the task's own
+-- the row says kind and PSW of a trap
 Records : Ending → Row → Type 0
 Records Executed r = _≡_ {A = ℕ} 0 0
 Records Waved r = _≡_ {A = ℕ} 0 0
@@ -112,9 +112,9 @@ module _ (t : ℕ) (s : State) where
             by none h = told Idle x (unfold Records in refl)
             by (some d) h =
                 let q : x ≡ changeOf (s .table) r d .row =
-                    h ∙ ap (λ (k : ℕ). getD (putRow k (changeOf (s .table) r d .row) (s .rows)) (placeOf t (s .rows)) emptyRow) (find-task t (s .rows) r f)
-                    ∙ ap (λ (l : List Row). getD l (placeOf t (s .rows)) emptyRow) (put-at t (changeOf (s .table) r d .row) (s .rows))
-                    ∙ getD-set-same (s .rows) (placeOf t (s .rows)) (changeOf (s .table) r d .row) emptyRow (place-below t (s .rows) listed) in
+                h ∙ ap (λ (k : ℕ). getD (putRow k (changeOf (s .table) r d .row) (s .rows)) (placeOf t (s .rows)) emptyRow) (find-task t (s .rows) r f)
+                ∙ ap (λ (l : List Row). getD l (placeOf t (s .rows)) emptyRow) (put-at t (changeOf (s .table) r d .row) (s .rows))
+                ∙ getD-set-same (s .rows) (placeOf t (s .rows)) (changeOf (s .table) r d .row) emptyRow (place-below t (s .rows) listed) in
                 told (changeOf (s .table) r d .ending) x (subst (λ (z : Row). Records (changeOf (s .table) r d .ending) z) (sym q) (change-records (s .table) r d))
 
     one-item : (hasRow t (s .rows) ≡ true → x ≡ getD (run (t ∷ []) s .state .rows) (placeOf t (s .rows)) emptyRow) → endingOf (run (t ∷ []) s .counts) x ≡ step t s .ending
@@ -157,7 +157,7 @@ module _ (n : Sizes) (b : Buffers) (t : ℕ) where
         let j : i ≡ placeOf t (take (n .rows) (b .rows)) = stands (f .0) ∙ sym (f .1) in
         let a : take (n .rows) (take (v .n) (v .at)) ≡ run (t ∷ []) (fieldsIn n b) .state .rows = ap (take (n .rows)) h ∙ ap (λ (s : State). s .rows) (run-in-place n b (t ∷ []) q) in
         let l : i < length (take (n .rows) (take (v .n) (v .at))) =
-            omega (arith, j, place-below t (take (n .rows) (b .rows)) e, ap length a, run-lengths (t ∷ []) (fieldsIn n b) .rows) in
+        omega (arith, j, place-below t (take (n .rows) (b .rows)) e, ap length a, run-lengths (t ∷ []) (fieldsIn n b) .rows) in
         let m : i < length (take (v .n) (v .at)) = omega (arith, l, length-take (n .rows) (take (v .n) (v .at))) in
         let z : i % 7 ≡ i = omega (arith, m, seven, length-take (v .n) (v .at)) in
         rw (← a, ← j, z)
