@@ -1,5 +1,5 @@
 -- Stored live counts and those found by counting: of a task, of a turned queue, and after a step.
-use mathlib.Core.Path.{_≡_, refl, sym, ap, ap₂, _∙_}
+use mathlib.Core.Path.{_≡_, refl, sym, ap, _∙_}
 use mathlib.Core.Logic.{_≢_}
 use mathlib.Core.Bool.{Bool, true, false, cond}
 use mathlib.Core.List.{List, [], _∷_}
@@ -13,11 +13,10 @@ use Rattle.step.specs.declared.Queue.{Queue}
 use Rattle.step.specs.declared.ProcessTable.{ProcessTable}
 use Rattle.step.specs.Queues.{listOf, turned, shifted, joined, livePts, liveCounts, liveTotal}
 use Rattle.step.specs.State.{State, noQueue, queueIn, withQueue, liveCount, pswsOf, processesOf}
-use Rattle.step.specs.Act.{tableOf}
 use Rattle.step.specs.Step.{stepBy}
 use Rattle.step.specs.Soundness.{liveSound}
-use Rattle.step.specs.Laws.Queues.{length-list, turned-len, shifted-len, joined-len, length-live, len-get, counts-set, counts-get}
-use Rattle.step.specs.Laws.Counted.{live-counted, made-live, act-live}
+use Rattle.step.specs.Laws.Queues.{length-list, turned-len, shifted-len, joined-len, length-live, counts-set, counts-get}
+use Rattle.step.specs.Laws.Counted.{made-live, act-live}
 use Rattle.step.specs.Laws.Step.{idles, acts, steps}
 
 -- a test that cannot be true is false
@@ -72,25 +71,6 @@ joined-total qs t p true h n =
     let l = turned-len (queueIn qs t) in
     omega (arith, moved-total qs t (joined (turned (queueIn qs t)) p) h, joined-len (turned (queueIn qs t)) p (omega (arith, l, n)), l)
 joined-total qs t p false h n = omega (arith, moved-total qs t (joined (queueIn qs t) p) h, joined-len (queueIn qs t) p n)
-
--- the table with another queue of task t, its count and the total brought along
-pub moved-made : (table : ProcessTable) (t : ℕ) (x : Queue) (psw : List ℕ) (flag : ℕ) → liveSound table ≡ true → t - 1 < length (table .queues)
-    → _≡_ {A = ProcessTable}
-    (record {
-      psw = psw;
-      queues = set (table .queues) (t - 1) x;
-      flag = flag;
-      live = set (table .live) (t - 1) (x .len);
-      processes = table .processes - queueIn (table .queues) t .len + x .len;
-    })
-    (tableOf psw (set (table .queues) (t - 1) x) flag)
-unfolding liveTotal queueIn
-moved-made table t x psw flag e h =
-    let u = live-counted table e in
-    let n : table .processes - getD (table .queues) (t - 1) noQueue .len + x .len ≡ length (livePts (set (table .queues) (t - 1) x)) =
-    omega (arith, u .1, length-live (table .queues) (t - 1) x h, len-get (table .queues) (t - 1) h) in
-    ap₂ {C = ProcessTable} (λ l n. record { psw = psw; queues = set (table .queues) (t - 1) x; flag = flag; live = l; processes = n })
-    (ap (λ (l : List ℕ). set l (t - 1) (x .len)) (u .0) ∙ sym (counts-set (table .queues) (t - 1) x)) n
 
 -- ---- a step
 
