@@ -1,6 +1,6 @@
-// Queues by value: head to tail, leave and join; the live processes of each; and the free PTs as a word, PT p at digit p from the right.
+// The live processes of each queue, and the free PTs as a word, PT p at digit p from the right.
 ghost use mathlib.Core.Path.{_≡_};
-ghost use Rattle.step.specs.Queues.{headOf, afterHead, tailIndex, listOf, turned, shifted, joined, liveCounts, belowTotal};
+ghost use Rattle.step.specs.Queues.{listOf, liveCounts, belowTotal};
 ghost use Rattle.step_queue.specs.Code.Mask.{without, freeAfter};
 use step::PLACES;
 use step::PTS;
@@ -10,69 +10,6 @@ use window::TASKS;
 
 // The first number that is no PT.
 const FIRST_NO_PT: u8 = PTS as u8;
-
-pub fn head_pt(q: Queue) -> u8
-    ensures { λ r. ⌜ r ≡ headOf q ⌝ }
-{
-    let head = q.head % PLACES;
-    q.pts[head]
-}
-
-// The place behind the head.
-fn after_head(q: Queue) -> usize
-    ensures { λ r. ⌜ r ≡ afterHead q ⌝ }
-{
-    (q.head % PLACES + 1) % PLACES
-}
-
-// The place behind the last.
-fn tail_index(q: Queue) -> usize
-    ensures { λ r. ⌜ r ≡ tailIndex q ⌝ }
-{
-    (q.head % PLACES + q.len % PLACES) % PLACES
-}
-
-// Head to tail; a queue of fewer than two processes is its own turn.
-pub fn turn(q: Queue) -> Queue
-    ensures { λ r. ⌜ r ≡ turned q ⌝ }
-{
-    if q.len < 2 {
-        return q;
-    }
-    let tail = tail_index(q);
-    let pt = head_pt(q);
-    let mut next = q;
-    next.pts[tail] = pt;
-    next.head = after_head(q);
-    next
-}
-
-// The head leaves.
-pub fn leave(q: Queue) -> Queue
-    ensures { λ r. ⌜ r ≡ shifted q ⌝ }
-{
-    if q.len == 0 {
-        return q;
-    }
-    let mut next = q;
-    next.head = after_head(q);
-    next.len = q.len - 1;
-    next
-}
-
-// A PT joins at the tail; a full queue stays.
-pub fn join(q: Queue, pt: u8) -> Queue
-    ensures { λ r. ⌜ r ≡ joined q pt ⌝ }
-{
-    if PLACES <= q.len {
-        return q;
-    }
-    let tail = tail_index(q);
-    let mut next = q;
-    next.pts[tail] = pt;
-    next.len = q.len + 1;
-    next
-}
 
 // The live processes of each task.
 pub fn live_counts(queues: [Queue; TASKS]) -> [usize; TASKS]
