@@ -4,44 +4,30 @@ set -euo pipefail
 source tools/proofs/common.sh
 C=operation_decide
 LAWS="use Rattle.operation_decide.specs.Laws.Codes"
-NUMBERS="use Rattle.operation_registers.specs.Laws.Numbers"
 TOLD="row _ _ _ _ _ _ _ _ _ _ _"
 # listed FACT FUNCTION ARGUMENTS: an operation under its roles
 listed() { echo "listed-told $TOLD _ _ _ (@$1 .given .1) refl (@$2 .ensures row $3)"; }
-B="λ row code program g s d own."
-fill $C perform_other <<E
+B="λ row code program s d own."
+fill $C decide_listed <<E
 use mathlib.Core.Path.{refl}
 use Rattle.operation.specs.Roles.{rolesOf}
-$NUMBERS.{vector, bit, integer, other-number}
 $LAWS.{listed-told}
 returns [rolesOf] := $B $(listed enum-told nop "$U7 own")
-returns-2 := $B absurd (other-number _ _ (@enum-told2 .given .1) (vector _) g)
-returns-3 := $B absurd (other-number _ _ (@enum-told3 .given .1) (bit _) g)
-returns-4 := $B absurd (other-number _ _ (@enum-told4 .given .1) (integer _) g)
-returns-5 [rolesOf] := $B $(listed op branch "$U5 s own")
-returns-6 [rolesOf] := $B $(listed op2 call "$U5 s own")
-returns-7 [rolesOf] := $B $(listed op3 create "_ _ _ s own")
-returns-8 [rolesOf] := $B $(listed op4 quit "$U5 s own")
-returns-9 [rolesOf] := $B $(listed op5 load-indirect "$U4 s d own")
-returns-10 [rolesOf] := $B $(listed op6 load-indexed "$U4 s d own")
-returns-11 [rolesOf] := $B $(listed op7 store-indirect "$U4 s d own")
-returns-12 [rolesOf] := $B $(listed op8 store-indexed "$U4 s d own")
-E
-B="λ row code program s d own."
-N="(@operation-number .ensures)"
-fill $C perform_listed <<E
-use mathlib.Core.Path.{refl, sym}
-use native.Mathlib.Omega.{arith}
-$NUMBERS.{three-roles, two-roles, one-roles}
-$LAWS.{listed-told}
-returns := $B listed-told $TOLD _ _ _ refl (three-roles _ _ $N (@if1 .taken)) (@three .ensures _ row $U5 (@if1 .taken) (sym $N) s own)
-returns-2 := $B listed-told $TOLD _ _ _ refl (two-roles _ _ $N (@if1 .left) (@if2 .taken)) (@two .ensures _ row $U5 (@if1 .left) (@if2 .taken) (sym $N) s own)
-returns-3 := $B listed-told $TOLD _ _ _ refl (one-roles _ _ $N (@if2 .left) (@if3 .taken)) (@one .ensures _ row $U7 (@if2 .left) (@if3 .taken) (sym $N) s own)
-returns-4 := $B @perform-other .ensures row _ _ (omega (arith, @operation-number .ensures, @if3 .left)) s d own
+returns-2 [rolesOf] := $B $(listed op three "$U5 s own")
+returns-3 [rolesOf] := $B $(listed op2 two "$U5 s own")
+returns-4 [rolesOf] := $B $(listed op3 one "$U7 s own")
+returns-5 [rolesOf] := $B $(listed op4 branch "$U5 s own")
+returns-6 [rolesOf] := $B $(listed op5 call "$U5 s own")
+returns-7 [rolesOf] := $B $(listed op6 create "_ _ _ s own")
+returns-8 [rolesOf] := $B $(listed op7 quit "$U5 s own")
+returns-9 [rolesOf] := $B $(listed op8 load-indirect "$U4 s d own")
+returns-10 [rolesOf] := $B $(listed op9 load-indexed "$U4 s d own")
+returns-11 [rolesOf] := $B $(listed op10 store-indirect "$U4 s d own")
+returns-12 [rolesOf] := $B $(listed op11 store-indexed "$U4 s d own")
 E
 B="λ row k program s d own."
 traps() { echo "code-traps row $U5 $U4 trap.$1 _ (@$2 .given .1) refl refl own"; }
-fill $C perform_code <<E
+fill $C decide_code <<E
 use mathlib.Core.Path.{refl}
 use Rattle.operation.specs.declared.Trap.the-variants as trap
 use Rattle.operation.specs.Environment.{environmentOf}
@@ -51,12 +37,12 @@ $LAWS.{code-told, code-traps}
 returns [decideCode environmentOf trapCourse] := $B $(traps PrivilegedInstruction enum-told)
 returns-2 [decideCode environmentOf trapCourse] := $B $(traps SimulatedInstruction enum-told2)
 returns-3 [environmentOf] := $B code-told $TOLD _ _ (@enum-told3 .given .1) (@svc .ensures row _ _ _ _ _ _ refl own)
-returns-4 := $B code-told $TOLD _ _ (@code .given .1) (@perform-listed .ensures row _ _ s d own)
+returns-4 := $B code-told $TOLD _ _ (@code .given .1) (@decide-listed .ensures row _ _ s d own)
 returns-5 [decideCode environmentOf trapCourse] := $B $(traps IllegalInstruction enum-told4)
 E
 B="λ row s p d own."
 fill $C perform <<E
 $LAWS.{outside, fetches-told}
 returns := $B outside row $U5 $U4 p (@pc .ensures) $U4 (@place-below .ensures) (@enum-told .given .1) own
-returns-2 := $B fetches-told row $U5 $U4 p (@pc .ensures) $U4 $U4 (@place-below .ensures) (@a .given .1) (@word-at .ensures) (@instruction-of .ensures) (@decode .ensures) $U4 (@perform-code .ensures row _ _ s d own)
+returns-2 := $B fetches-told row $U5 $U4 p (@pc .ensures) $U4 $U4 (@place-below .ensures) (@a .given .1) (@word-at .ensures) (@instruction-of .ensures) (@decode .ensures) $U4 (@decide-code .ensures row _ _ s d own)
 E

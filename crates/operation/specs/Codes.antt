@@ -3,11 +3,11 @@ use Prim.Native.Nat.{ℕ, _/_, _%_}
 use mathlib.Core.Bool.{cond}
 use mathlib.Core.List.{List, [], _∷_, map}
 use lib.Dec.{eqb, ltb}
-use Rattle.word.specs.declared.Vector.the-variants.{Mov, Clr, One, Not, Eor, Eqv, Nand, Nor, Or}
-use Rattle.word.specs.declared.Bit.the-variants.{Bitclr, Bitset, Encode0, Encode1}
-use Rattle.word.specs.declared.Integer.the-variants.{Add, Sub, Inc, Dec, Mul}
+use Rattle.operation.specs.declared.Three.the-variants.{Eor, Eqv, Nand, Nor, Or, Bitclr, Bitset, Add, Sub, Mul}
+use Rattle.operation.specs.declared.Two.the-variants.{Mov, Not, Encode0, Encode1, Inc, Dec}
+use Rattle.operation.specs.declared.One.the-variants.{Clr, Ones}
 use Rattle.operation.specs.declared.Operation.{Operation}
-use Rattle.operation.specs.declared.Operation.the-variants.{Nop, Vector, Bit, Integer, Branch, Call, Create, Quit, LoadIndirect, LoadIndexed, StoreIndirect, StoreIndexed}
+use Rattle.operation.specs.declared.Operation.the-variants.{Nop, Three, Two, One, Branch, Call, Create, Quit, LoadIndirect, LoadIndexed, StoreIndirect, StoreIndexed}
 use Rattle.operation.specs.declared.Code.{Code}
 use Rattle.operation.specs.declared.Code.the-variants.{Privileged, Simulated, Svc, Listed, Unlisted}
 
@@ -39,24 +39,24 @@ simulated = 0x7200 ∷ 0x7F00 ∷ 0x610A ∷ 0x6108 ∷ []
 unfoldable pub singleCodes : List Line
 singleCodes =
     line 0x0000 (Listed Nop) ∷
-    line 0x611F (Listed (Vector Mov)) ∷
-    line 0x411C (Listed (Vector Clr)) ∷
-    line 0x4113 (Listed (Vector One)) ∷
-    line 0x6110 (Listed (Vector Not)) ∷
-    line 0x7119 (Listed (Vector Eor)) ∷
-    line 0x7116 (Listed (Vector Eqv)) ∷
-    line 0x7111 (Listed (Vector Nand)) ∷
-    line 0x7114 (Listed (Vector Nor)) ∷
-    line 0x711B (Listed (Vector Or)) ∷
-    line 0x7728 (Listed (Bit Bitclr)) ∷
-    line 0x7720 (Listed (Bit Bitset)) ∷
-    line 0x6718 (Listed (Bit Encode0)) ∷
-    line 0x6710 (Listed (Bit Encode1)) ∷
-    line 0x7126 (Listed (Integer Add)) ∷
-    line 0x7139 (Listed (Integer Sub)) ∷
-    line 0x6130 (Listed (Integer Inc)) ∷
-    line 0x612F (Listed (Integer Dec)) ∷
-    line 0x7320 (Listed (Integer Mul)) ∷
+    line 0x611F (Listed (Two Mov)) ∷
+    line 0x411C (Listed (One Clr)) ∷
+    line 0x4113 (Listed (One Ones)) ∷
+    line 0x6110 (Listed (Two Not)) ∷
+    line 0x7119 (Listed (Three Eor)) ∷
+    line 0x7116 (Listed (Three Eqv)) ∷
+    line 0x7111 (Listed (Three Nand)) ∷
+    line 0x7114 (Listed (Three Nor)) ∷
+    line 0x711B (Listed (Three Or)) ∷
+    line 0x7728 (Listed (Three Bitclr)) ∷
+    line 0x7720 (Listed (Three Bitset)) ∷
+    line 0x6718 (Listed (Two Encode0)) ∷
+    line 0x6710 (Listed (Two Encode1)) ∷
+    line 0x7126 (Listed (Three Add)) ∷
+    line 0x7139 (Listed (Three Sub)) ∷
+    line 0x6130 (Listed (Two Inc)) ∷
+    line 0x612F (Listed (Two Dec)) ∷
+    line 0x7320 (Listed (Three Mul)) ∷
     line 0x0900 Svc ∷
     []
 

@@ -1,5 +1,6 @@
 pub mod Codes
 pub mod Roles
+pub mod Results
 pub mod Specified
 pub mod Environment
 pub mod Perform

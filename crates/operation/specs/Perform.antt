@@ -1,11 +1,8 @@
--- What an instruction decides once its operands are found, full or empty as they must be, and unmasked: checks 7 and 8, and the results.
+-- What an instruction decides once its operands are found, full or empty as they must be, and unmasked: checks 7 and 8, and what is written.
 use Prim.Native.Nat.{ℕ, _+_, _*_, _/_, _%_, _^_}
 use mathlib.Core.Bool.{Bool, cond, not, _&&_}
 use lib.Dec.{eqb}
 use Rattle.word.specs.Fields.{ciOf, riOf, utmOf, pcOf, pswOf, nextOf}
-use Rattle.word.specs.Vectors.{vectorOf}
-use Rattle.word.specs.Bits.{bitOf}
-use Rattle.word.specs.Integers.{integerOf}
 use Rattle.word.specs.Tests.{holdsOf}
 use Rattle.word.specs.Parts.{extracted, placed}
 use Rattle.word.specs.declared.Instruction.{Instruction}
@@ -34,6 +31,7 @@ use Rattle.operation.specs.declared.Fate.the-variants.{Continues, Quits,
 use Rattle.operation.specs.declared.Decision.{Decision}
 use Rattle.operation.specs.declared.Decision.the-variants.{Waits, Traps, Executes}
 use Rattle.operation.specs.Roles.{sacOf, dacOf}
+use Rattle.operation.specs.Results.{quality0, resultThree, resultTwo, resultOne}
 use Rattle.operation.specs.Specified.{specifiedPart}
 use Rattle.operation.specs.Environment.{Environment}
 
@@ -65,10 +63,6 @@ executed s destination datum fate =
 -- D gets a result
 unfoldable pub resultIn : FoundOperand → Outcome → Write
 resultIn s r = destinationLeft (s .access) (s .operand) (r .word) (r .quality)
-
--- a result with quality 0
-abbrev pub quality0 : ℕ → Outcome
-quality0 w = record { word = w; quality = 0 }
 
 -- an operation that ends with PC + 1
 unfoldable pub performResult : Environment → FoundOperands → Outcome → Decision
@@ -178,9 +172,9 @@ performStore v s low word e = storeTo v s low word (dataReach low e (bytePlace (
 -- what each operation does with D, S0, S1 and S2
 unfoldable pub perform : Operation → Environment → Instruction → FoundOperands → Decision
 perform operation.Nop v i s = executed s Nothing Nothing (Continues (nextOf (v .psw)))
-perform (operation.Vector op) v i s = performResult v s (quality0 (vectorOf op (wordS1 s) (wordS2 s)))
-perform (operation.Bit op) v i s = performResult v s (quality0 (bitOf op (wordS1 s) (wordS2 s)))
-perform (operation.Integer op) v i s = performResult v s (integerOf op (wordS1 s) (wordS2 s))
+perform (operation.Three op) v i s = performResult v s (resultThree op (wordS1 s) (wordS2 s))
+perform (operation.Two op) v i s = performResult v s (resultTwo op (wordS1 s))
+perform (operation.One op) v i s = performResult v s (resultOne op)
 perform (operation.Branch c p) v i s = performBranch v s c (p * 2 ^ 16 + i .first)
 perform (operation.Call c) v i s = performCall v s c
 perform (operation.Create c act) v i s = performCreate v s c act

@@ -5,17 +5,14 @@ use operand::Operand;
 use operand::Role;
 use window::Cell;
 use window::Write;
-use word::Bit;
-use word::Integer;
 use word::Part;
-use word::Vector;
 
 // An operation, with the test, the action list or the access bits that its code holds; of B also the left digit of its address.
 pub enum Operation {
     Nop,
-    Vector(Vector),
-    Bit(Bit),
-    Integer(Integer),
+    Three(Three),
+    Two(Two),
+    One(One),
     Branch(u16, u16),
     Call(u16),
     Create(u16, u16),
@@ -24,6 +21,36 @@ pub enum Operation {
     LoadIndexed(u16),
     StoreIndirect(u16),
     StoreIndexed(u16),
+}
+
+// The operations on registers, by their operands; each gives D a result. D, S1, S2.
+pub enum Three {
+    Eor,
+    Eqv,
+    Nand,
+    Nor,
+    Or,
+    Bitclr,
+    Bitset,
+    Add,
+    Sub,
+    Mul,
+}
+
+// D, S1.
+pub enum Two {
+    Mov,
+    Not,
+    Encode0,
+    Encode1,
+    Inc,
+    Dec,
+}
+
+// D: CLR, and ONE, which gives all ones.
+pub enum One {
+    Clr,
+    Ones,
 }
 
 // What a 16-bit code stands for.

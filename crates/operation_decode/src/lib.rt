@@ -6,10 +6,10 @@ ghost use Rattle.operation.specs.declared.Code.the-variants.{Unlisted};
 ghost use Rattle.operation.specs.Codes.{callOf, quitOf, dataCodeOf, codeOf};
 ghost use Rattle.operation_decode.specs.Code.Columns.{columnOf};
 use operation::Code;
+use operation::One;
 use operation::Operation;
-use word::Bit;
-use word::Integer;
-use word::Vector;
+use operation::Three;
+use operation::Two;
 
 // CALL 79 C 1: the last digit is fixed.
 fn call_code(low: u16) -> Code
@@ -65,8 +65,8 @@ fn codes_41(low: u16) -> Code
     ensures { λ r. ⌜ r ≡ columnOf 0x41 low ⌝ }
 {
     match low {
-        0x1C => Code::Listed(Operation::Vector(Vector::Clr)),
-        0x13 => Code::Listed(Operation::Vector(Vector::One)),
+        0x1C => Code::Listed(Operation::One(One::Clr)),
+        0x13 => Code::Listed(Operation::One(One::Ones)),
         _ => Code::Unlisted,
     }
 }
@@ -77,10 +77,10 @@ fn codes_61(low: u16) -> Code
     match low {
         0x0A => Code::Simulated,
         0x08 => Code::Simulated,
-        0x1F => Code::Listed(Operation::Vector(Vector::Mov)),
-        0x10 => Code::Listed(Operation::Vector(Vector::Not)),
-        0x30 => Code::Listed(Operation::Integer(Integer::Inc)),
-        0x2F => Code::Listed(Operation::Integer(Integer::Dec)),
+        0x1F => Code::Listed(Operation::Two(Two::Mov)),
+        0x10 => Code::Listed(Operation::Two(Two::Not)),
+        0x30 => Code::Listed(Operation::Two(Two::Inc)),
+        0x2F => Code::Listed(Operation::Two(Two::Dec)),
         _ => Code::Unlisted,
     }
 }
@@ -89,8 +89,8 @@ fn codes_67(low: u16) -> Code
     ensures { λ r. ⌜ r ≡ columnOf 0x67 low ⌝ }
 {
     match low {
-        0x18 => Code::Listed(Operation::Bit(Bit::Encode0)),
-        0x10 => Code::Listed(Operation::Bit(Bit::Encode1)),
+        0x18 => Code::Listed(Operation::Two(Two::Encode0)),
+        0x10 => Code::Listed(Operation::Two(Two::Encode1)),
         _ => Code::Unlisted,
     }
 }
@@ -99,13 +99,13 @@ fn codes_71(low: u16) -> Code
     ensures { λ r. ⌜ r ≡ columnOf 0x71 low ⌝ }
 {
     match low {
-        0x19 => Code::Listed(Operation::Vector(Vector::Eor)),
-        0x16 => Code::Listed(Operation::Vector(Vector::Eqv)),
-        0x11 => Code::Listed(Operation::Vector(Vector::Nand)),
-        0x14 => Code::Listed(Operation::Vector(Vector::Nor)),
-        0x1B => Code::Listed(Operation::Vector(Vector::Or)),
-        0x26 => Code::Listed(Operation::Integer(Integer::Add)),
-        0x39 => Code::Listed(Operation::Integer(Integer::Sub)),
+        0x19 => Code::Listed(Operation::Three(Three::Eor)),
+        0x16 => Code::Listed(Operation::Three(Three::Eqv)),
+        0x11 => Code::Listed(Operation::Three(Three::Nand)),
+        0x14 => Code::Listed(Operation::Three(Three::Nor)),
+        0x1B => Code::Listed(Operation::Three(Three::Or)),
+        0x26 => Code::Listed(Operation::Three(Three::Add)),
+        0x39 => Code::Listed(Operation::Three(Three::Sub)),
         _ => Code::Unlisted,
     }
 }
@@ -114,8 +114,8 @@ fn codes_77(low: u16) -> Code
     ensures { λ r. ⌜ r ≡ columnOf 0x77 low ⌝ }
 {
     match low {
-        0x28 => Code::Listed(Operation::Bit(Bit::Bitclr)),
-        0x20 => Code::Listed(Operation::Bit(Bit::Bitset)),
+        0x28 => Code::Listed(Operation::Three(Three::Bitclr)),
+        0x20 => Code::Listed(Operation::Three(Three::Bitset)),
         _ => Code::Unlisted,
     }
 }
@@ -169,7 +169,7 @@ pub fn decode(code: u16) -> Code
         0x6C => data_code(Operation::LoadIndirect(low), low),
         0x71 => codes_71(low),
         0x72 => only(low, 0, Code::Simulated),
-        0x73 => only(low, 0x20, Code::Listed(Operation::Integer(Integer::Mul))),
+        0x73 => only(low, 0x20, Code::Listed(Operation::Three(Three::Mul))),
         0x76 => only(low, 0, Code::Privileged),
         0x77 => codes_77(low),
         0x79 => call_code(low),

@@ -1,2 +1,2 @@
 -- The laws of the definitions: nothing here need be believed.
-pub mod Numbers
+pub mod Performed

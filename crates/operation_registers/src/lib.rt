@@ -1,9 +1,10 @@
-// Operations whose result goes to a register: bit vectors, bits, integers. Those with the same operands share a function, told apart by number. Each acts at once: the public function
-// tests the fields and looks the operands up, the function `_found` tests what stands there, then writes. The operands of the three fields are d, a, b, of S1 and S2 the tags x, y (0 of a constant) and the words s1, s2.
+// Operations on registers: those with the same operands share a function. Each acts at once: the public function tests the fields and looks
+// the operands up, the function `_found` tests what stands there, then writes. The operands of the three fields are d, a, b, of S1 and S2 the
+// tags x, y (0 of a constant) and the words s1, s2.
 ghost use mathlib.Core.Path.{_≡_};
 ghost use mathlib.Core.List.{List};
 ghost use lib.ListN.{getD};
-ghost use Prim.Native.Nat.{ℕ, _<_, _≤_};
+ghost use Prim.Native.Nat.{ℕ};
 ghost use Rattle.word.specs.declared.Instruction.{Instruction};
 ghost use Rattle.window.specs.declared.Row.{Row};
 ghost use Rattle.window.specs.Memories.{Memory, memory};
@@ -11,81 +12,23 @@ ghost use Rattle.operand.specs.declared.Role.the-variants.{Unused, Destination,
 ghost use Rattle.operand.specs.declared.Operand.{Operand};
 ghost use Rattle.operand.specs.declared.Operand.the-variants.{Absent};
 ghost use Rattle.operand.specs.Code.Spans.{Spans};
-ghost use Rattle.operation.specs.declared.Operation.{Operation};
+ghost use Rattle.operation.specs.declared.Operation.the-variants as operation;
 ghost use Rattle.operation.specs.Roles.{roles};
 ghost use Rattle.operation.specs.Environment.{Environment, environmentOf};
 ghost use Rattle.operation.specs.Code.FoundOperands.{instruction, allFoundAt};
-ghost use Rattle.operation.specs.Perform.{quality0};
+ghost use Rattle.operation.specs.Results.{quality0, resultThree, resultTwo, resultOne};
 ghost use Rattle.operation.specs.Decide.{decideFound, decideListed};
 ghost use Rattle.step.specs.Code.Performs.{Performs};
 ghost use Rattle.operation_checks.specs.Code.Operands.{Destined, Sourced};
-ghost use Rattle.operation_registers.specs.Code.Numbers.{vectorNumber, bitNumber, integerNumber, operationNumber, outcomeOf, operationAt};
 use operand::Lookup;
 use operation::Course;
-use operation::Operation;
-use word::Bit;
-use word::Integer;
+use operation::One;
+use operation::Three;
+use operation::Two;
 use word::Outcome;
-use word::Vector;
 
-fn vector_number(op: Vector) -> u8
-    ensures { λ r. ⌜ r ≡ vectorNumber op ⌝ }
-{
-    match op {
-        Vector::Eor => 0,
-        Vector::Eqv => 1,
-        Vector::Nand => 2,
-        Vector::Nor => 3,
-        Vector::Or => 4,
-        Vector::Mov => 10,
-        Vector::Not => 11,
-        Vector::Clr => 16,
-        Vector::One => 17,
-    }
-}
-
-fn bit_number(op: Bit) -> u8
-    ensures { λ r. ⌜ r ≡ bitNumber op ⌝ }
-{
-    match op {
-        Bit::Bitclr => 5,
-        Bit::Bitset => 6,
-        Bit::Encode0 => 12,
-        Bit::Encode1 => 13,
-    }
-}
-
-fn integer_number(op: Integer) -> u8
-    ensures { λ r. ⌜ r ≡ integerNumber op ⌝ }
-{
-    match op {
-        Integer::Add => 7,
-        Integer::Sub => 8,
-        Integer::Mul => 9,
-        Integer::Inc => 14,
-        Integer::Dec => 15,
-    }
-}
-
-// Register operations by number: 0 to 9 have two sources, 10 to 15 one, 16 and 17 none; any other operation is 18.
-pub fn operation_number(op: Operation) -> u8
-    ensures { λ r. ⌜ r ≡ operationNumber op ⌝ }
-{
-    match op {
-        Operation::Nop => 18,
-        Operation::Vector(o) => vector_number(o),
-        Operation::Bit(o) => bit_number(o),
-        Operation::Integer(o) => integer_number(o),
-        Operation::Branch(_, _) => 18,
-        Operation::Call(_) => 18,
-        Operation::Create(_, _) => 18,
-        Operation::Quit(_) => 18,
-        Operation::LoadIndirect(_) => 18,
-        Operation::LoadIndexed(_) => 18,
-        Operation::StoreIndirect(_) => 18,
-        Operation::StoreIndexed(_) => 18,
-    }
-}
+// Every bit one.
+const ONES: u64 = 0xffff_ffff_ffff_ffff;
 
 fn plain_result(word: u64) -> Outcome
     ensures { λ r. ⌜ r ≡ quality0 word ⌝ }
@@ -93,50 +36,47 @@ fn plain_result(word: u64) -> Outcome
     Outcome { word, quality: 0 }
 }
 
-// CLR, ONE.
-fn result_one(k: u8) -> Outcome
-    ensures { λ r. ⌜ (16 ≤ k → k < 18 → r ≡ outcomeOf (operationAt k) 0 0) ⌝ }
+fn result_one(op: One) -> Outcome
+    ensures { λ r. ⌜ r ≡ resultOne op ⌝ }
 {
-    match k {
-        16 => plain_result(word::vector_of(Vector::Clr, 0, 0)),
-        _ => plain_result(word::vector_of(Vector::One, 0, 0)),
+    match op {
+        One::Clr => plain_result(0),
+        One::Ones => plain_result(ONES),
     }
 }
 
-// MOV, NOT, ENCODE0, ENCODE1, INC, DEC.
-fn result_two(k: u8, s1: u64) -> Outcome
-    ensures { λ r. ⌜ (10 ≤ k → k < 16 → r ≡ outcomeOf (operationAt k) s1 0) ⌝ }
+fn result_two(op: Two, s1: u64) -> Outcome
+    ensures { λ r. ⌜ r ≡ resultTwo op s1 ⌝ }
 {
-    match k {
-        10 => plain_result(word::vector_of(Vector::Mov, s1, 0)),
-        11 => plain_result(word::vector_of(Vector::Not, s1, 0)),
-        12 => plain_result(word::bit_of(Bit::Encode0, s1, 0)),
-        13 => plain_result(word::bit_of(Bit::Encode1, s1, 0)),
-        14 => word::integer_of(Integer::Inc, s1, 0),
-        _ => word::integer_of(Integer::Dec, s1, 0),
+    match op {
+        Two::Mov => plain_result(s1),
+        Two::Not => plain_result(word::not(s1)),
+        Two::Encode0 => plain_result(word::encode0(s1)),
+        Two::Encode1 => plain_result(word::encode1(s1)),
+        Two::Inc => word::add(s1, 1),
+        Two::Dec => word::sub(s1, 1),
     }
 }
 
-// EOR, EQV, NAND, NOR, OR, BITCLR, BITSET, ADD, SUB, MUL.
-fn result_three(k: u8, s1: u64, s2: u64) -> Outcome
-    ensures { λ r. ⌜ (k < 10 → r ≡ outcomeOf (operationAt k) s1 s2) ⌝ }
+fn result_three(op: Three, s1: u64, s2: u64) -> Outcome
+    ensures { λ r. ⌜ r ≡ resultThree op s1 s2 ⌝ }
 {
-    match k {
-        0 => plain_result(word::vector_of(Vector::Eor, s1, s2)),
-        1 => plain_result(word::vector_of(Vector::Eqv, s1, s2)),
-        2 => plain_result(word::vector_of(Vector::Nand, s1, s2)),
-        3 => plain_result(word::vector_of(Vector::Nor, s1, s2)),
-        4 => plain_result(word::vector_of(Vector::Or, s1, s2)),
-        5 => plain_result(word::bit_of(Bit::Bitclr, s1, s2)),
-        6 => plain_result(word::bit_of(Bit::Bitset, s1, s2)),
-        7 => word::integer_of(Integer::Add, s1, s2),
-        8 => word::integer_of(Integer::Sub, s1, s2),
-        _ => word::integer_of(Integer::Mul, s1, s2),
+    match op {
+        Three::Eor => plain_result(word::eor(s1, s2)),
+        Three::Eqv => plain_result(word::eqv(s1, s2)),
+        Three::Nand => plain_result(word::nand(s1, s2)),
+        Three::Nor => plain_result(word::nor(s1, s2)),
+        Three::Or => plain_result(word::or(s1, s2)),
+        Three::Bitclr => plain_result(word::bitclr(s1, s2)),
+        Three::Bitset => plain_result(word::bitset(s1, s2)),
+        Three::Add => word::add(s1, s2),
+        Three::Sub => word::sub(s1, s2),
+        Three::Mul => word::mul(s1, s2),
     }
 }
 
 fn one_found(
-    k: u8,
+    op: One,
     psws: &mut [u64],
     pt: usize,
     psw: u64,
@@ -145,12 +85,12 @@ fn one_found(
     register_tags: &mut [u8],
     register_words: &mut [u64],
 ) -> Course
-    ensures { λ r. ⌜ ((op : Operation) (row : Row) (v : Environment) (i : Instruction) (constants n : Memory) (fresh second third : ℕ) (od : Operand) → 16 ≤ k → k < 18 → operationNumber op ≡ k → v .psw ≡ psw → psw ≡ getD (now (psws .entry)) pt 0 → Destined row od d → Performs row (decideFound op v i (allFoundAt (memory (now («register_tags» .entry)) (now («register_words» .entry))) constants (roles Destination Unused Unused) first second third od Absent Absent)) pt fresh r (now (psws .entry)) (now (psws .exit)) (memory (now («register_tags» .entry)) (now («register_words» .entry))) (memory (now («register_tags» .exit)) (now («register_words» .exit))) n n) ⌝ }
+    ensures { λ r. ⌜ ((row : Row) (v : Environment) (i : Instruction) (constants n : Memory) (fresh second third : ℕ) (od : Operand) → v .psw ≡ psw → psw ≡ getD (now (psws .entry)) pt 0 → Destined row od d → Performs row (decideFound (operation.One op) v i (allFoundAt (memory (now («register_tags» .entry)) (now («register_words» .entry))) constants (roles Destination Unused Unused) first second third od Absent Absent)) pt fresh r (now (psws .entry)) (now (psws .exit)) (memory (now («register_tags» .entry)) (now («register_words» .entry))) (memory (now («register_tags» .exit)) (now («register_words» .exit))) n n) ⌝ }
 {
     if operation_checks::waits_d(first, d, register_tags) {
         return Course::Waits;
     }
-    let out = result_one(k);
+    let out = result_one(op);
     operation_checks::write_d(
         first,
         d,
@@ -162,9 +102,9 @@ fn one_found(
     operation_checks::continues(psws, pt, word::next(psw))
 }
 
-// The operation of number k on D.
+// CLR, ONE.
 pub fn one(
-    k: u8,
+    op: One,
     base: u32,
     end: u32,
     psws: &mut [u64],
@@ -176,7 +116,7 @@ pub fn one(
     register_tags: &mut [u8],
     register_words: &mut [u64],
 ) -> Course
-    ensures { λ r. ⌜ ((op : Operation) (row : Row) (code flag fresh cb : ℕ) (program : List ℕ) (constants n : Memory) → 16 ≤ k → k < 18 → operationNumber op ≡ k → Spans row cb base end → psw ≡ getD (now (psws .entry)) pt 0 → Performs row (decideListed (roles Destination Unused Unused) op (environmentOf row psw flag program constants (memory (now («register_tags» .entry)) (now («register_words» .entry))) n) (instruction code first second third)) pt fresh r (now (psws .entry)) (now (psws .exit)) (memory (now («register_tags» .entry)) (now («register_words» .entry))) (memory (now («register_tags» .exit)) (now («register_words» .exit))) n n) ⌝ }
+    ensures { λ r. ⌜ ((row : Row) (code flag fresh cb : ℕ) (program : List ℕ) (constants n : Memory) → Spans row cb base end → psw ≡ getD (now (psws .entry)) pt 0 → Performs row (decideListed (roles Destination Unused Unused) (operation.One op) (environmentOf row psw flag program constants (memory (now («register_tags» .entry)) (now («register_words» .entry))) n) (instruction code first second third)) pt fresh r (now (psws .entry)) (now (psws .exit)) (memory (now («register_tags» .entry)) (now («register_words» .entry))) (memory (now («register_tags» .exit)) (now («register_words» .exit))) n n) ⌝ }
 {
     if operation_checks::illegal_d(first, second, third) {
         return Course::IllegalInstruction;
@@ -185,7 +125,7 @@ pub fn one(
         return Course::ProtectionViolation;
     };
     one_found(
-        k,
+        op,
         psws,
         pt,
         psw,
@@ -197,7 +137,7 @@ pub fn one(
 }
 
 fn two_found(
-    k: u8,
+    op: Two,
     psws: &mut [u64],
     pt: usize,
     psw: u64,
@@ -211,7 +151,7 @@ fn two_found(
     register_tags: &mut [u8],
     register_words: &mut [u64],
 ) -> Course
-    ensures { λ r. ⌜ ((op : Operation) (row : Row) (v : Environment) (i : Instruction) (constantWords : List ℕ) (n : Memory) (fresh third : ℕ) (od oa : Operand) → 10 ≤ k → k < 16 → operationNumber op ≡ k → v .psw ≡ psw → psw ≡ getD (now (psws .entry)) pt 0 → Destined row od d → Sourced row (now («register_tags» .entry)) (now («register_words» .entry)) (memory (now («constant_tags» .entry)) constantWords) second oa a x s1 → Performs row (decideFound op v i (allFoundAt (memory (now («register_tags» .entry)) (now («register_words» .entry))) (memory (now («constant_tags» .entry)) constantWords) (roles Destination Source Unused) first second third od oa Absent)) pt fresh r (now (psws .entry)) (now (psws .exit)) (memory (now («register_tags» .entry)) (now («register_words» .entry))) (memory (now («register_tags» .exit)) (now («register_words» .exit))) n n) ⌝ }
+    ensures { λ r. ⌜ ((row : Row) (v : Environment) (i : Instruction) (constantWords : List ℕ) (n : Memory) (fresh third : ℕ) (od oa : Operand) → v .psw ≡ psw → psw ≡ getD (now (psws .entry)) pt 0 → Destined row od d → Sourced row (now («register_tags» .entry)) (now («register_words» .entry)) (memory (now («constant_tags» .entry)) constantWords) second oa a x s1 → Performs row (decideFound (operation.Two op) v i (allFoundAt (memory (now («register_tags» .entry)) (now («register_words» .entry))) (memory (now («constant_tags» .entry)) constantWords) (roles Destination Source Unused) first second third od oa Absent)) pt fresh r (now (psws .entry)) (now (psws .exit)) (memory (now («register_tags» .entry)) (now («register_words» .entry))) (memory (now («register_tags» .exit)) (now («register_words» .exit))) n n) ⌝ }
 {
     if operation_checks::waits_d_s1(first, d, second, x, register_tags) {
         return Course::Waits;
@@ -219,7 +159,7 @@ fn two_found(
     if operand::masked(psw, second, a, x, constant_tags) {
         return Course::DataException;
     }
-    let out = result_two(k, s1);
+    let out = result_two(op, s1);
     operation_checks::write_d_s1(
         first,
         d,
@@ -234,9 +174,9 @@ fn two_found(
     operation_checks::continues(psws, pt, word::next(psw))
 }
 
-// The operation of number k on D, S1.
+// MOV, NOT, ENCODE0, ENCODE1, INC, DEC.
 pub fn two(
-    k: u8,
+    op: Two,
     cb: u32,
     base: u32,
     end: u32,
@@ -251,7 +191,7 @@ pub fn two(
     register_tags: &mut [u8],
     register_words: &mut [u64],
 ) -> Course
-    ensures { λ r. ⌜ ((op : Operation) (row : Row) (code flag fresh : ℕ) (program : List ℕ) (n : Memory) → 10 ≤ k → k < 16 → operationNumber op ≡ k → Spans row cb base end → psw ≡ getD (now (psws .entry)) pt 0 → Performs row (decideListed (roles Destination Source Unused) op (environmentOf row psw flag program (memory (now («constant_tags» .entry)) (now («constant_words» .entry))) (memory (now («register_tags» .entry)) (now («register_words» .entry))) n) (instruction code first second third)) pt fresh r (now (psws .entry)) (now (psws .exit)) (memory (now («register_tags» .entry)) (now («register_words» .entry))) (memory (now («register_tags» .exit)) (now («register_words» .exit))) n n) ⌝ }
+    ensures { λ r. ⌜ ((row : Row) (code flag fresh : ℕ) (program : List ℕ) (n : Memory) → Spans row cb base end → psw ≡ getD (now (psws .entry)) pt 0 → Performs row (decideListed (roles Destination Source Unused) (operation.Two op) (environmentOf row psw flag program (memory (now («constant_tags» .entry)) (now («constant_words» .entry))) (memory (now («register_tags» .entry)) (now («register_words» .entry))) n) (instruction code first second third)) pt fresh r (now (psws .entry)) (now (psws .exit)) (memory (now («register_tags» .entry)) (now («register_words» .entry))) (memory (now («register_tags» .exit)) (now («register_words» .exit))) n n) ⌝ }
 {
     if operation_checks::illegal_d_s1(first, second, third) {
         return Course::IllegalInstruction;
@@ -264,7 +204,7 @@ pub fn two(
     };
     let x = operand::cell(constant_words, register_tags, register_words, a);
     two_found(
-        k,
+        op,
         psws,
         pt,
         psw,
@@ -281,7 +221,7 @@ pub fn two(
 }
 
 fn three_found(
-    k: u8,
+    op: Three,
     psws: &mut [u64],
     pt: usize,
     psw: u64,
@@ -299,7 +239,7 @@ fn three_found(
     register_tags: &mut [u8],
     register_words: &mut [u64],
 ) -> Course
-    ensures { λ r. ⌜ ((op : Operation) (row : Row) (v : Environment) (i : Instruction) (constantWords : List ℕ) (n : Memory) (fresh : ℕ) (od oa ob : Operand) → k < 10 → operationNumber op ≡ k → v .psw ≡ psw → psw ≡ getD (now (psws .entry)) pt 0 → Destined row od d → Sourced row (now («register_tags» .entry)) (now («register_words» .entry)) (memory (now («constant_tags» .entry)) constantWords) second oa a x s1 → Sourced row (now («register_tags» .entry)) (now («register_words» .entry)) (memory (now («constant_tags» .entry)) constantWords) third ob b y s2 → Performs row (decideFound op v i (allFoundAt (memory (now («register_tags» .entry)) (now («register_words» .entry))) (memory (now («constant_tags» .entry)) constantWords) (roles Destination Source Source) first second third od oa ob)) pt fresh r (now (psws .entry)) (now (psws .exit)) (memory (now («register_tags» .entry)) (now («register_words» .entry))) (memory (now («register_tags» .exit)) (now («register_words» .exit))) n n) ⌝ }
+    ensures { λ r. ⌜ ((row : Row) (v : Environment) (i : Instruction) (constantWords : List ℕ) (n : Memory) (fresh : ℕ) (od oa ob : Operand) → v .psw ≡ psw → psw ≡ getD (now (psws .entry)) pt 0 → Destined row od d → Sourced row (now («register_tags» .entry)) (now («register_words» .entry)) (memory (now («constant_tags» .entry)) constantWords) second oa a x s1 → Sourced row (now («register_tags» .entry)) (now («register_words» .entry)) (memory (now («constant_tags» .entry)) constantWords) third ob b y s2 → Performs row (decideFound (operation.Three op) v i (allFoundAt (memory (now («register_tags» .entry)) (now («register_words» .entry))) (memory (now («constant_tags» .entry)) constantWords) (roles Destination Source Source) first second third od oa ob)) pt fresh r (now (psws .entry)) (now (psws .exit)) (memory (now («register_tags» .entry)) (now («register_words» .entry))) (memory (now («register_tags» .exit)) (now («register_words» .exit))) n n) ⌝ }
 {
     if operation_checks::waits_d_s1_s2(first, d, second, x, third, y, register_tags) {
         return Course::Waits;
@@ -307,7 +247,7 @@ fn three_found(
     if operation_checks::masked_s1_s2(psw, second, a, x, third, b, y, constant_tags) {
         return Course::DataException;
     }
-    let out = result_three(k, s1, s2);
+    let out = result_three(op, s1, s2);
     operation_checks::write_d_s1_s2(
         first,
         d,
@@ -325,9 +265,9 @@ fn three_found(
     operation_checks::continues(psws, pt, word::next(psw))
 }
 
-// The operation of number k on D, S1, S2. The registers of the task are those from base on and below end; cb is its constant base doubled.
+// EOR, EQV, NAND, NOR, OR, BITCLR, BITSET, ADD, SUB, MUL. The registers of the task are those from base on and below end; cb is its constant base doubled.
 pub fn three(
-    k: u8,
+    op: Three,
     cb: u32,
     base: u32,
     end: u32,
@@ -342,7 +282,7 @@ pub fn three(
     register_tags: &mut [u8],
     register_words: &mut [u64],
 ) -> Course
-    ensures { λ r. ⌜ ((op : Operation) (row : Row) (code flag fresh : ℕ) (program : List ℕ) (n : Memory) → k < 10 → operationNumber op ≡ k → Spans row cb base end → psw ≡ getD (now (psws .entry)) pt 0 → Performs row (decideListed (roles Destination Source Source) op (environmentOf row psw flag program (memory (now («constant_tags» .entry)) (now («constant_words» .entry))) (memory (now («register_tags» .entry)) (now («register_words» .entry))) n) (instruction code first second third)) pt fresh r (now (psws .entry)) (now (psws .exit)) (memory (now («register_tags» .entry)) (now («register_words» .entry))) (memory (now («register_tags» .exit)) (now («register_words» .exit))) n n) ⌝ }
+    ensures { λ r. ⌜ ((row : Row) (code flag fresh : ℕ) (program : List ℕ) (n : Memory) → Spans row cb base end → psw ≡ getD (now (psws .entry)) pt 0 → Performs row (decideListed (roles Destination Source Source) (operation.Three op) (environmentOf row psw flag program (memory (now («constant_tags» .entry)) (now («constant_words» .entry))) (memory (now («register_tags» .entry)) (now («register_words» .entry))) n) (instruction code first second third)) pt fresh r (now (psws .entry)) (now (psws .exit)) (memory (now («register_tags» .entry)) (now («register_words» .entry))) (memory (now («register_tags» .exit)) (now («register_words» .exit))) n n) ⌝ }
 {
     if operation_checks::illegal_d_s1_s2(first, second, third) {
         return Course::IllegalInstruction;
@@ -359,7 +299,7 @@ pub fn three(
     };
     let y = operand::cell(constant_words, register_tags, register_words, b);
     three_found(
-        k,
+        op,
         psws,
         pt,
         psw,

@@ -1,7 +1,7 @@
 -- What a decision writes are sound cells and sound PSWs, where the environment is sound; and it creates only with the flag down.
 use mathlib.Core.Path.{_≡_, refl}
 use mathlib.Core.Bool.{Bool, true, false, cond, not, _&&_}
-use Prim.Native.Nat.{ℕ, _+_, _*_, _/_, _%_, _^_, _≤_}
+use Prim.Native.Nat.{ℕ, _+_, _*_, _/_, _%_, _^_, _≤_, _<_}
 use native.Mathlib.Omega.{arith}
 use lib.Dec.{eqb}
 use borrow.Author.Tests.{eqb-true}
@@ -9,10 +9,10 @@ use Rattle.word.specs.declared.Instruction.{Instruction}
 use Rattle.word.specs.declared.Outcome.{Outcome}
 use Rattle.word.specs.declared.Part.{Part}
 use Rattle.word.specs.Fields.{pswSound, pcOf, nextOf, instructionOf}
-use Rattle.word.specs.Parts.{extracted, placed}
 use Rattle.word.specs.Laws.Parts.{extracted-word, placed-word}
 use Rattle.word.specs.Laws.Bools.{either}
-use Rattle.word.specs.Laws.Words.{psw-sound, next-sound, psw-word, vector-word, bit-word, integer-word, integer-quality}
+use Rattle.word.specs.Laws.Words.{psw-sound, next-sound, psw-word, not-word, eor-word, eqv-word, nand-word, nor-word, or-word, bitset-word, bitclr-word, encode1-word, encode0-word}
+use Rattle.word.specs.Laws.Words.{Fits, add-fits, sub-fits, mul-fits}
 use Rattle.window.specs.declared.Cell.{Cell}
 use Rattle.window.specs.declared.Place.{Place}
 use Rattle.window.specs.declared.Place.the-variants.{At, Violation}
@@ -37,6 +37,12 @@ use Rattle.operation.specs.declared.Specified.{Specified}
 use Rattle.operation.specs.declared.Specified.the-variants as specified
 use Rattle.operation.specs.declared.Reach.{Reach}
 use Rattle.operation.specs.declared.Reach.the-variants.{Reaches, Stops}
+use Rattle.operation.specs.declared.Three.{Three}
+use Rattle.operation.specs.declared.Three.the-variants.{Eor, Eqv, Nand, Nor, Or, Bitclr, Bitset, Add, Sub, Mul}
+use Rattle.operation.specs.declared.Two.{Two}
+use Rattle.operation.specs.declared.Two.the-variants.{Mov, Not, Encode0, Encode1, Inc, Dec}
+use Rattle.operation.specs.declared.One.{One}
+use Rattle.operation.specs.declared.One.the-variants.{Clr, Ones}
 use Rattle.operation.specs.declared.Operation.{Operation}
 use Rattle.operation.specs.declared.Operation.the-variants as operation
 use Rattle.operation.specs.declared.Code.{Code}
@@ -51,9 +57,10 @@ use Rattle.operation.specs.declared.Decision.{Decision}
 use Rattle.operation.specs.declared.Decision.the-variants.{Waits, Traps, Executes}
 use Rattle.operation.specs.Codes.{codeOf}
 use Rattle.operation.specs.Roles.{rolesOf, svcRoles, illegalFields, illegalInstruction, sacOf}
+use Rattle.operation.specs.Results.{quality0, resultThree, resultTwo, resultOne}
 use Rattle.operation.specs.Specified.{specifiedPart}
 use Rattle.operation.specs.Environment.{Environment}
-use Rattle.operation.specs.Perform.{leftOf, executed, resultIn, quality0, performResult, testOf, branched, called, created, createWaits, createFate}
+use Rattle.operation.specs.Perform.{leftOf, executed, resultIn, performResult, testOf, branched, called, created, createWaits, createFate}
 use Rattle.operation.specs.Perform.{indirectAddress, indexedAddress, loadWaits, loadLeaves, loadPart, storeWaits, storePart, partReach, dataReach, loadFrom, storeTo}
 use Rattle.operation.specs.Perform.{performBranch, performCall, performCreate, performQuit, performLoad, performStore, perform}
 use Rattle.operation.specs.Decide.{foundOperand, operandsWait, operandsMasked, decideFound, foundOperands, decideLookups}
@@ -105,6 +112,40 @@ pub record SoundOutcome (r : Outcome) : Type 0 where
 
 quality0-sound : (w : ℕ) → wordSound w ≡ true → SoundOutcome (quality0 w)
 quality0-sound w h = record { word = h; quality = omega arith }
+
+-- every result is a word with a quality, where its sources are words
+plain-sound : (w : ℕ) → w < 2 ^ 64 → SoundOutcome (quality0 w)
+plain-sound w h = quality0-sound w (word-sound w h)
+
+fits-sound : (r : Outcome) → Fits r → SoundOutcome r
+fits-sound r f = record { word = word-sound _ (f .word); quality = f .quality }
+
+three-sound : (op : Three) (a b : ℕ) → a < 2 ^ 64 → SoundOutcome (resultThree op a b)
+unfolding resultThree
+three-sound Eor a b h = plain-sound _ (eor-word a b)
+three-sound Eqv a b h = plain-sound _ (eqv-word a b)
+three-sound Nand a b h = plain-sound _ (nand-word a b)
+three-sound Nor a b h = plain-sound _ (nor-word a b)
+three-sound Or a b h = plain-sound _ (or-word a b)
+three-sound Bitclr a b h = plain-sound _ (bitclr-word a b h)
+three-sound Bitset a b h = plain-sound _ (bitset-word a b h)
+three-sound Add a b h = fits-sound _ (add-fits a b)
+three-sound Sub a b h = fits-sound _ (sub-fits a b)
+three-sound Mul a b h = fits-sound _ (mul-fits a b)
+
+two-sound : (op : Two) (a : ℕ) → a < 2 ^ 64 → SoundOutcome (resultTwo op a)
+unfolding resultTwo
+two-sound Mov a h = plain-sound _ h
+two-sound Not a h = plain-sound _ (not-word a)
+two-sound Encode0 a h = plain-sound _ (encode0-word a)
+two-sound Encode1 a h = plain-sound _ (encode1-word a)
+two-sound Inc a h = fits-sound _ (add-fits a 1)
+two-sound Dec a h = fits-sound _ (sub-fits a 1)
+
+one-sound : (op : One) → SoundOutcome (resultOne op)
+unfolding resultOne
+one-sound Clr = plain-sound _ (omega arith)
+one-sound Ones = plain-sound _ (omega arith)
 
 emptying-sound : (o : Operand) (c : Cell) → tagSound (c .tag) ≡ true → wordSound (c .word) ≡ true → SoundWrite tagSound (emptying o c)
 unfolding emptying
@@ -223,9 +264,9 @@ module _ (v : Environment) (h : SoundEnvironment v) where
     perform-sound : (op : Operation) (i : Instruction) → SoundDecision (v .flag) (perform op v i s)
     unfolding perform
     perform-sound operation.Nop i = executed-sound _ _ _ tt tt (next-sound (v .psw))
-    perform-sound (operation.Vector op) i = perform-result-sound _ (quality0-sound _ (word-sound _ (vector-word op _ _)))
-    perform-sound (operation.Bit op) i = perform-result-sound _ (quality0-sound _ (word-sound _ (bit-word op _ _ (sound-word _ (k .second .word)))))
-    perform-sound (operation.Integer op) i = perform-result-sound _ (record { word = word-sound _ (integer-word op _ _); quality = integer-quality op _ _ })
+    perform-sound (operation.Three op) i = perform-result-sound _ (three-sound op _ _ (sound-word _ (k .second .word)))
+    perform-sound (operation.Two op) i = perform-result-sound _ (two-sound op _ (sound-word _ (k .second .word)))
+    perform-sound (operation.One op) i = perform-result-sound _ (one-sound op)
     perform-sound (operation.Branch c p) i = branch-sound c (p * 2 ^ 16 + i .first)
     perform-sound (operation.Call c) i = call-sound c
     perform-sound (operation.Create c act) i = create-sound c act

@@ -24,7 +24,8 @@ use Rattle.operation.specs.Roles.{svcRoles, illegalFields}
 use Rattle.operation.specs.Environment.{Environment}
 use Rattle.operation.specs.Code.FoundOperands.{instruction}
 use Rattle.operation.specs.Decide.{decideCode}
-use Rattle.operation.specs.Perform.{executed, resultIn, quality0, testOf, branched, called, created, createWaits, createFate, performBranch, performCall, performCreate, performQuit, perform}
+use Rattle.operation.specs.Results.{quality0}
+use Rattle.operation.specs.Perform.{executed, resultIn, testOf, branched, called, created, createWaits, createFate, performBranch, performCall, performCreate, performQuit, perform}
 use Rattle.step.specs.Code.Parts.{fatePsws}
 use Rattle.step.specs.Code.Performs.{trapCourse, Performs}
 use Rattle.step.specs.Laws.Performs.{performs-along, performs-traps, performs-stores}

@@ -23,7 +23,8 @@ use Rattle.operation.specs.declared.Fate.the-variants.{Continues}
 use Rattle.operation.specs.declared.Decision.the-variants.{Waits}
 use Rattle.operation.specs.Roles.{sacOf}
 use Rattle.operation.specs.Environment.{environmentOf}
-use Rattle.operation.specs.Perform.{perform, executed, resultIn, quality0, indirectAddress, indexedAddress, dataReach, loadWaits, loadLeaves, loadPart, loadFrom, performLoad, storeWaits, storePart, storeTo, performStore}
+use Rattle.operation.specs.Results.{quality0}
+use Rattle.operation.specs.Perform.{perform, executed, resultIn, indirectAddress, indexedAddress, dataReach, loadWaits, loadLeaves, loadPart, loadFrom, performLoad, storeWaits, storePart, storeTo, performStore}
 use Rattle.operation.specs.Laws.Found.{reached-inside, reached-seen}
 use Rattle.step.specs.Code.Parts.{fatePsws}
 use Rattle.operation_data.specs.declared.Reached.{Reached}

@@ -1,6 +1,5 @@
 -- Skeleton and paths (.before ..) are generated: docs/PROOFS.md.
-use Rattle.operation_registers.specs.Laws.Numbers.{number-performs, few}
-use native.Mathlib.Omega.{arith}
+use Rattle.operation_registers.specs.Laws.Performed.{one-performed}
 use mathlib.Core.Path.{refl, _∙_}
 use Rattle.operation_checks.specs.Laws.Found.{found-waits, found-result}
 use Rattle.operation_checks.specs.Laws.Operands.{or-none, unused-operated, destination-operated}
@@ -15,7 +14,7 @@ same-length : tie.Need-same-length
 same-length c = search needs
 
 returns : tie.Need-returns
-returns c = λ op row v i constants n fresh second third od g h k e own dd. found-waits _ _ _ _ _ _ _ _ _ _ _ _ (destination-operated _ _ _ _ _ _ _ dd) _ _ _ _ _ (unused-operated _ _ _ _ _) _ _ _ _ _ (unused-operated _ _ _ _ _) _ _ _ _ _ _ _ _ (c .before .waits-d .ensures ∙ or-none _) (c .if1 .taken)
+returns c = λ row v i constants n fresh second third od e own dd. found-waits _ _ _ _ _ _ _ _ _ _ _ _ (destination-operated _ _ _ _ _ _ _ dd) _ _ _ _ _ (unused-operated _ _ _ _ _) _ _ _ _ _ (unused-operated _ _ _ _ _) _ _ _ _ _ _ _ _ (c .before .waits-d .ensures ∙ or-none _) (c .if1 .taken)
 
 result-one-requires : tie.Need-result-one-requires
 result-one-requires c κs = search needs
@@ -39,7 +38,7 @@ same-length-4 : tie.Need-same-length-4
 same-length-4 c = search needs
 
 returns-2 : tie.Need-returns-2
-returns-2 c = λ op row v i constants n fresh second third od g h k e own dd. found-result _ _ _ _ _ _ _ _ _ _ _ _ (destination-operated _ _ _ _ _ _ _ dd) _ _ _ _ _ (unused-operated _ _ _ _ _) _ _ _ _ _ (unused-operated _ _ _ _ _) _ _ _ _ _ _ _ _ (c .before .before .before .before .before .before .before .before .before .before .before .before .before .before .waits-d .ensures ∙ or-none _) (c .before .before .before .before .before .before .before .before .before .before .before .before .before .if1 .left) _ e _ refl refl _ (number-performs op _ k (few _ 18 h (omega arith)) _ _ _ _ (c .before .before .before .before .before .before .before .before .before .before .before .before .result-one .ensures g h)) _ dd _ _ _ _ _ (c .before .before .continues .ensures .0) (c .before .before .before .next .ensures) (c .before .before .continues .ensures .1) (c .before .before .before .before .before .before .before .before .before .write-d .ensures .0) (c .before .before .before .before .before .before .before .before .before .write-d .ensures .1)
+returns-2 c = λ row v i constants n fresh second third od e own dd. found-result _ _ _ _ _ _ _ _ _ _ _ _ (destination-operated _ _ _ _ _ _ _ dd) _ _ _ _ _ (unused-operated _ _ _ _ _) _ _ _ _ _ (unused-operated _ _ _ _ _) _ _ _ _ _ _ _ _ (c .before .before .before .before .before .before .before .before .before .before .before .before .before .before .waits-d .ensures ∙ or-none _) (c .before .before .before .before .before .before .before .before .before .before .before .before .before .if1 .left) _ e _ refl refl _ (one-performed _ _ _ _ _ (c .before .before .before .before .before .before .before .before .before .before .before .before .result-one .ensures)) _ dd _ _ _ _ _ (c .before .before .continues .ensures .0) (c .before .before .before .next .ensures) (c .before .before .continues .ensures .1) (c .before .before .before .before .before .before .before .before .before .write-d .ensures .0) (c .before .before .before .before .before .before .before .before .before .write-d .ensures .1)
 
 pub one-found-spec : {M : Type 1} → statement M
 one-found-spec =

@@ -1,124 +1,162 @@
 -- Skeleton and paths (.before ..) are generated: docs/PROOFS.md.
-use Rattle.operation_registers.specs.Laws.Numbers.{known-number, from-five, is-nine}
 use mathlib.Core.Path.{ap, _∙_}
-use Rattle.operation.specs.Perform.{quality0}
-use Rattle.operation_registers.specs.Code.Numbers.{outcomeOf, operationAt, operationsListed}
+use Rattle.operation.specs.Results.{quality0, resultThree}
 use borrow.Author.Needs.{needs}
 use Rattle.operation_registers.proofs.result_three.Statement.{statement}
 use Rattle.operation_registers.proofs.result_three.Tie as tie
 
-vector-of-requires : tie.Need-vector-of-requires
-vector-of-requires c κs = search needs
+enum-told : tie.Need-enum-told
+enum-told c = search needs
+
+eor-requires : tie.Need-eor-requires
+eor-requires c κs = search needs
 
 plain-result-requires : tie.Need-plain-result-requires
 plain-result-requires c κs = search needs
 
-vector-of-requires-2 : tie.Need-vector-of-requires-2
-vector-of-requires-2 c κs = search needs
+enum-told-2 : tie.Need-enum-told-2
+enum-told-2 c = search needs
+
+eqv-requires : tie.Need-eqv-requires
+eqv-requires c κs = search needs
 
 plain-result-requires-2 : tie.Need-plain-result-requires-2
 plain-result-requires-2 c κs = search needs
 
-vector-of-requires-3 : tie.Need-vector-of-requires-3
-vector-of-requires-3 c κs = search needs
+enum-told-3 : tie.Need-enum-told-3
+enum-told-3 c = search needs
+
+nand-requires : tie.Need-nand-requires
+nand-requires c κs = search needs
 
 plain-result-requires-3 : tie.Need-plain-result-requires-3
 plain-result-requires-3 c κs = search needs
 
-vector-of-requires-4 : tie.Need-vector-of-requires-4
-vector-of-requires-4 c κs = search needs
+enum-told-4 : tie.Need-enum-told-4
+enum-told-4 c = search needs
+
+nor-requires : tie.Need-nor-requires
+nor-requires c κs = search needs
 
 plain-result-requires-4 : tie.Need-plain-result-requires-4
 plain-result-requires-4 c κs = search needs
 
-vector-of-requires-5 : tie.Need-vector-of-requires-5
-vector-of-requires-5 c κs = search needs
+enum-told-5 : tie.Need-enum-told-5
+enum-told-5 c = search needs
+
+or-requires : tie.Need-or-requires
+or-requires c κs = search needs
 
 plain-result-requires-5 : tie.Need-plain-result-requires-5
 plain-result-requires-5 c κs = search needs
 
-bit-of-requires : tie.Need-bit-of-requires
-bit-of-requires c κs = search needs
+enum-told-6 : tie.Need-enum-told-6
+enum-told-6 c = search needs
+
+bitclr-requires : tie.Need-bitclr-requires
+bitclr-requires c κs = search needs
 
 plain-result-requires-6 : tie.Need-plain-result-requires-6
 plain-result-requires-6 c κs = search needs
 
-bit-of-requires-2 : tie.Need-bit-of-requires-2
-bit-of-requires-2 c κs = search needs
+enum-told-7 : tie.Need-enum-told-7
+enum-told-7 c = search needs
+
+bitset-requires : tie.Need-bitset-requires
+bitset-requires c κs = search needs
 
 plain-result-requires-7 : tie.Need-plain-result-requires-7
 plain-result-requires-7 c κs = search needs
 
-integer-of-requires : tie.Need-integer-of-requires
-integer-of-requires c κs = search needs
+enum-told-8 : tie.Need-enum-told-8
+enum-told-8 c = search needs
 
-integer-of-requires-2 : tie.Need-integer-of-requires-2
-integer-of-requires-2 c κs = search needs
+add-requires : tie.Need-add-requires
+add-requires c κs = search needs
 
-integer-of-requires-3 : tie.Need-integer-of-requires-3
-integer-of-requires-3 c κs = search needs
+enum-told-9 : tie.Need-enum-told-9
+enum-told-9 c = search needs
+
+sub-requires : tie.Need-sub-requires
+sub-requires c κs = search needs
+
+enum-told-10 : tie.Need-enum-told-10
+enum-told-10 c = search needs
+
+mul-requires : tie.Need-mul-requires
+mul-requires c κs = search needs
 
 returns : tie.Need-returns
-unfolding outcomeOf operationAt operationsListed
-returns c = λ h. (c .plain-result .ensures ∙ ap quality0 (c .before .vector-of .ensures)) ∙ known-number 0 _ _ _ (c .before .before .match .keys1)
+unfolding resultThree
+returns c = simp (c .before .before .enum-told .given .1) (c .plain-result .ensures ∙ ap quality0 (c .before .eor .ensures))
 
 returns-2 : tie.Need-returns-2
-unfolding outcomeOf operationAt operationsListed
-returns-2 c = λ h. (c .plain-result2 .ensures ∙ ap quality0 (c .before .vector-of2 .ensures)) ∙ known-number 1 _ _ _ (c .before .before .match .keys2)
+unfolding resultThree
+returns-2 c = simp (c .before .before .enum-told2 .given .1) (c .plain-result2 .ensures ∙ ap quality0 (c .before .eqv .ensures))
 
 returns-3 : tie.Need-returns-3
-unfolding outcomeOf operationAt operationsListed
-returns-3 c = λ h. (c .plain-result3 .ensures ∙ ap quality0 (c .before .vector-of3 .ensures)) ∙ known-number 2 _ _ _ (c .before .before .match .keys3)
+unfolding resultThree
+returns-3 c = simp (c .before .before .enum-told3 .given .1) (c .plain-result3 .ensures ∙ ap quality0 (c .before .nand .ensures))
 
 returns-4 : tie.Need-returns-4
-unfolding outcomeOf operationAt operationsListed
-returns-4 c = λ h. (c .plain-result4 .ensures ∙ ap quality0 (c .before .vector-of4 .ensures)) ∙ known-number 3 _ _ _ (c .before .before .match .keys4)
+unfolding resultThree
+returns-4 c = simp (c .before .before .enum-told4 .given .1) (c .plain-result4 .ensures ∙ ap quality0 (c .before .nor .ensures))
 
 returns-5 : tie.Need-returns-5
-unfolding outcomeOf operationAt operationsListed
-returns-5 c = λ h. (c .plain-result5 .ensures ∙ ap quality0 (c .before .vector-of5 .ensures)) ∙ known-number 4 _ _ _ (c .before .before .match .keys5)
+unfolding resultThree
+returns-5 c = simp (c .before .before .enum-told5 .given .1) (c .plain-result5 .ensures ∙ ap quality0 (c .before .or .ensures))
 
 returns-6 : tie.Need-returns-6
-unfolding outcomeOf operationAt operationsListed
-returns-6 c = λ h. (c .plain-result6 .ensures ∙ ap quality0 (c .before .bit-of .ensures)) ∙ known-number 5 _ _ _ (c .before .before .match .keys6)
+unfolding resultThree
+returns-6 c = simp (c .before .before .enum-told6 .given .1) (c .plain-result6 .ensures ∙ ap quality0 (c .before .bitclr .ensures))
 
 returns-7 : tie.Need-returns-7
-unfolding outcomeOf operationAt operationsListed
-returns-7 c = λ h. (c .plain-result7 .ensures ∙ ap quality0 (c .before .bit-of2 .ensures)) ∙ known-number 6 _ _ _ (c .before .before .match .keys7)
+unfolding resultThree
+returns-7 c = simp (c .before .before .enum-told7 .given .1) (c .plain-result7 .ensures ∙ ap quality0 (c .before .bitset .ensures))
 
 returns-8 : tie.Need-returns-8
-unfolding outcomeOf operationAt operationsListed
-returns-8 c = λ h. c .integer-of .ensures ∙ known-number 7 _ _ _ (c .before .match .keys8)
+unfolding resultThree
+returns-8 c = simp (c .before .enum-told8 .given .1) (c .add .ensures)
 
 returns-9 : tie.Need-returns-9
-unfolding outcomeOf operationAt operationsListed
-returns-9 c = λ h. c .integer-of2 .ensures ∙ known-number 8 _ _ _ (c .before .match .keys9)
+unfolding resultThree
+returns-9 c = simp (c .before .enum-told9 .given .1) (c .sub .ensures)
 
 returns-10 : tie.Need-returns-10
-unfolding outcomeOf operationAt operationsListed
-returns-10 c = λ h. c .integer-of3 .ensures ∙ known-number 9 _ _ _ (is-nine _ (from-five (c .before .before .args .k) (c .before .match .rest .0 .0 .0 .0 .0 .0 .0 .0 .1) (c .before .match .rest .0 .0 .0 .0 .0 .0 .0 .1) (c .before .match .rest .0 .0 .0 .0 .0 .0 .1) (c .before .match .rest .0 .0 .0 .0 .0 .1) (c .before .match .rest .0 .0 .0 .0 .1)) h (c .before .match .rest .0 .0 .0 .1) (c .before .match .rest .0 .0 .1) (c .before .match .rest .0 .1) (c .before .match .rest .1))
+unfolding resultThree
+returns-10 c = simp (c .before .enum-told10 .given .1) (c .mul .ensures)
 
 pub result-three-spec : {M : Type 1} → statement M
 result-three-spec =
     tie.close
     (tie.spec
-    vector-of-requires
+    enum-told
+    eor-requires
     plain-result-requires
-    vector-of-requires-2
+    enum-told-2
+    eqv-requires
     plain-result-requires-2
-    vector-of-requires-3
+    enum-told-3
+    nand-requires
     plain-result-requires-3
-    vector-of-requires-4
+    enum-told-4
+    nor-requires
     plain-result-requires-4
-    vector-of-requires-5
+    enum-told-5
+    or-requires
     plain-result-requires-5
-    bit-of-requires
+    enum-told-6
+    bitclr-requires
     plain-result-requires-6
-    bit-of-requires-2
+    enum-told-7
+    bitset-requires
     plain-result-requires-7
-    integer-of-requires
-    integer-of-requires-2
-    integer-of-requires-3
+    enum-told-8
+    add-requires
+    enum-told-9
+    sub-requires
+    enum-told-10
+    mul-requires
     returns
     returns-2
     returns-3

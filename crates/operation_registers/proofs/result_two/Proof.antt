@@ -1,80 +1,98 @@
 -- Skeleton and paths (.before ..) are generated: docs/PROOFS.md.
-use Rattle.operation_registers.specs.Laws.Numbers.{known-number, is-fifteen}
 use mathlib.Core.Path.{ap, _∙_}
-use Rattle.operation.specs.Perform.{quality0}
-use Rattle.operation_registers.specs.Code.Numbers.{outcomeOf, operationAt, operationsListed}
+use Rattle.operation.specs.Results.{quality0, resultTwo}
 use borrow.Author.Needs.{needs}
 use Rattle.operation_registers.proofs.result_two.Statement.{statement}
 use Rattle.operation_registers.proofs.result_two.Tie as tie
 
-vector-of-requires : tie.Need-vector-of-requires
-vector-of-requires c κs = search needs
+enum-told : tie.Need-enum-told
+enum-told c = search needs
 
 plain-result-requires : tie.Need-plain-result-requires
 plain-result-requires c κs = search needs
 
-vector-of-requires-2 : tie.Need-vector-of-requires-2
-vector-of-requires-2 c κs = search needs
+enum-told-2 : tie.Need-enum-told-2
+enum-told-2 c = search needs
+
+not-requires : tie.Need-not-requires
+not-requires c κs = search needs
 
 plain-result-requires-2 : tie.Need-plain-result-requires-2
 plain-result-requires-2 c κs = search needs
 
-bit-of-requires : tie.Need-bit-of-requires
-bit-of-requires c κs = search needs
+enum-told-3 : tie.Need-enum-told-3
+enum-told-3 c = search needs
+
+encode0-requires : tie.Need-encode0-requires
+encode0-requires c κs = search needs
 
 plain-result-requires-3 : tie.Need-plain-result-requires-3
 plain-result-requires-3 c κs = search needs
 
-bit-of-requires-2 : tie.Need-bit-of-requires-2
-bit-of-requires-2 c κs = search needs
+enum-told-4 : tie.Need-enum-told-4
+enum-told-4 c = search needs
+
+encode1-requires : tie.Need-encode1-requires
+encode1-requires c κs = search needs
 
 plain-result-requires-4 : tie.Need-plain-result-requires-4
 plain-result-requires-4 c κs = search needs
 
-integer-of-requires : tie.Need-integer-of-requires
-integer-of-requires c κs = search needs
+enum-told-5 : tie.Need-enum-told-5
+enum-told-5 c = search needs
 
-integer-of-requires-2 : tie.Need-integer-of-requires-2
-integer-of-requires-2 c κs = search needs
+add-requires : tie.Need-add-requires
+add-requires c κs = search needs
+
+enum-told-6 : tie.Need-enum-told-6
+enum-told-6 c = search needs
+
+sub-requires : tie.Need-sub-requires
+sub-requires c κs = search needs
 
 returns : tie.Need-returns
-unfolding outcomeOf operationAt operationsListed
-returns c = λ g h. (c .plain-result .ensures ∙ ap quality0 (c .before .vector-of .ensures)) ∙ known-number 10 _ _ _ (c .before .before .match .keys1)
+unfolding resultTwo
+returns c = simp (c .before .enum-told .given .1) (c .plain-result .ensures)
 
 returns-2 : tie.Need-returns-2
-unfolding outcomeOf operationAt operationsListed
-returns-2 c = λ g h. (c .plain-result2 .ensures ∙ ap quality0 (c .before .vector-of2 .ensures)) ∙ known-number 11 _ _ _ (c .before .before .match .keys2)
+unfolding resultTwo
+returns-2 c = simp (c .before .before .enum-told2 .given .1) (c .plain-result2 .ensures ∙ ap quality0 (c .before .not .ensures))
 
 returns-3 : tie.Need-returns-3
-unfolding outcomeOf operationAt operationsListed
-returns-3 c = λ g h. (c .plain-result3 .ensures ∙ ap quality0 (c .before .bit-of .ensures)) ∙ known-number 12 _ _ _ (c .before .before .match .keys3)
+unfolding resultTwo
+returns-3 c = simp (c .before .before .enum-told3 .given .1) (c .plain-result3 .ensures ∙ ap quality0 (c .before .encode0 .ensures))
 
 returns-4 : tie.Need-returns-4
-unfolding outcomeOf operationAt operationsListed
-returns-4 c = λ g h. (c .plain-result4 .ensures ∙ ap quality0 (c .before .bit-of2 .ensures)) ∙ known-number 13 _ _ _ (c .before .before .match .keys4)
+unfolding resultTwo
+returns-4 c = simp (c .before .before .enum-told4 .given .1) (c .plain-result4 .ensures ∙ ap quality0 (c .before .encode1 .ensures))
 
 returns-5 : tie.Need-returns-5
-unfolding outcomeOf operationAt operationsListed
-returns-5 c = λ g h. c .integer-of .ensures ∙ known-number 14 _ _ _ (c .before .match .keys5)
+unfolding resultTwo
+returns-5 c = simp (c .before .enum-told5 .given .1) (c .add .ensures)
 
 returns-6 : tie.Need-returns-6
-unfolding outcomeOf operationAt operationsListed
-returns-6 c = λ g h. c .integer-of2 .ensures ∙ known-number 15 _ _ _ (is-fifteen _ g h (c .before .match .rest .0 .0 .0 .0 .1) (c .before .match .rest .0 .0 .0 .1) (c .before .match .rest .0 .0 .1) (c .before .match .rest .0 .1) (c .before .match .rest .1))
+unfolding resultTwo
+returns-6 c = simp (c .before .enum-told6 .given .1) (c .sub .ensures)
 
 pub result-two-spec : {M : Type 1} → statement M
 result-two-spec =
     tie.close
     (tie.spec
-    vector-of-requires
+    enum-told
     plain-result-requires
-    vector-of-requires-2
+    enum-told-2
+    not-requires
     plain-result-requires-2
-    bit-of-requires
+    enum-told-3
+    encode0-requires
     plain-result-requires-3
-    bit-of-requires-2
+    enum-told-4
+    encode1-requires
     plain-result-requires-4
-    integer-of-requires
-    integer-of-requires-2
+    enum-told-5
+    add-requires
+    enum-told-6
+    sub-requires
     returns
     returns-2
     returns-3

@@ -1,6 +1,5 @@
 -- Skeleton and paths (.before ..) are generated: docs/PROOFS.md.
-use Rattle.operation_registers.specs.Laws.Numbers.{number-performs, few}
-use native.Mathlib.Omega.{arith}
+use Rattle.operation_registers.specs.Laws.Performed.{three-performed}
 use Rattle.operation_checks.specs.Laws.Found.{found-waits, found-masked, found-result}
 use Rattle.operation_checks.specs.Laws.Operands.{destination-operated, source-operated}
 use borrow.Author.Needs.{needs}
@@ -14,7 +13,7 @@ same-length : tie.Need-same-length
 same-length c = search needs
 
 returns : tie.Need-returns
-returns c = λ op row v i constantWords n fresh od oa ob h k e own dd pa pb. found-waits _ _ _ _ _ _ _ _ _ _ _ _ (destination-operated _ _ _ _ _ _ _ dd) _ _ _ _ _ (source-operated _ _ _ _ _ _ _ _ _ pa) _ _ _ _ _ (source-operated _ _ _ _ _ _ _ _ _ pb) _ _ _ _ _ _ _ _ (c .before .waits-d-s1-s2 .ensures) (c .if1 .taken)
+returns c = λ row v i constantWords n fresh od oa ob e own dd pa pb. found-waits _ _ _ _ _ _ _ _ _ _ _ _ (destination-operated _ _ _ _ _ _ _ dd) _ _ _ _ _ (source-operated _ _ _ _ _ _ _ _ _ pa) _ _ _ _ _ (source-operated _ _ _ _ _ _ _ _ _ pb) _ _ _ _ _ _ _ _ (c .before .waits-d-s1-s2 .ensures) (c .if1 .taken)
 
 masked-s1-s2-requires : tie.Need-masked-s1-s2-requires
 masked-s1-s2-requires c κs = search needs
@@ -23,7 +22,7 @@ same-length-2 : tie.Need-same-length-2
 same-length-2 c = search needs
 
 returns-2 : tie.Need-returns-2
-returns-2 c = λ op row v i constantWords n fresh od oa ob h k e own dd pa pb. found-masked _ _ _ _ _ _ _ _ _ _ _ _ (destination-operated _ _ _ _ _ _ _ dd) _ _ _ _ _ (source-operated _ _ _ _ _ _ _ _ _ pa) _ _ _ _ _ (source-operated _ _ _ _ _ _ _ _ _ pb) _ _ _ _ _ _ _ _ (c .before .before .before .waits-d-s1-s2 .ensures) (c .before .before .if1 .left) _ e _ (c .before .masked-s1-s2 .ensures) (c .if2 .taken) own
+returns-2 c = λ row v i constantWords n fresh od oa ob e own dd pa pb. found-masked _ _ _ _ _ _ _ _ _ _ _ _ (destination-operated _ _ _ _ _ _ _ dd) _ _ _ _ _ (source-operated _ _ _ _ _ _ _ _ _ pa) _ _ _ _ _ (source-operated _ _ _ _ _ _ _ _ _ pb) _ _ _ _ _ _ _ _ (c .before .before .before .waits-d-s1-s2 .ensures) (c .before .before .if1 .left) _ e _ (c .before .masked-s1-s2 .ensures) (c .if2 .taken) own
 
 result-three-requires : tie.Need-result-three-requires
 result-three-requires c κs = search needs
@@ -47,7 +46,7 @@ same-length-5 : tie.Need-same-length-5
 same-length-5 c = search needs
 
 returns-3 : tie.Need-returns-3
-returns-3 c = λ op row v i constantWords n fresh od oa ob h k e own dd pa pb. found-result _ _ _ _ _ _ _ _ _ _ _ _ (destination-operated _ _ _ _ _ _ _ dd) _ _ _ _ _ (source-operated _ _ _ _ _ _ _ _ _ pa) _ _ _ _ _ (source-operated _ _ _ _ _ _ _ _ _ pb) _ _ _ _ _ _ _ _ (c .before .before .before .before .before .before .before .before .before .before .before .before .before .before .before .before .waits-d-s1-s2 .ensures) (c .before .before .before .before .before .before .before .before .before .before .before .before .before .before .before .if1 .left) _ e _ (c .before .before .before .before .before .before .before .before .before .before .before .before .before .before .masked-s1-s2 .ensures) (c .before .before .before .before .before .before .before .before .before .before .before .before .before .if2 .left) _ (number-performs op _ k (few _ 10 h (omega arith)) _ _ _ _ (c .before .before .before .before .before .before .before .before .before .before .before .before .result-three .ensures h)) _ dd _ _ _ _ _ (c .before .before .continues .ensures .0) (c .before .before .before .next .ensures) (c .before .before .continues .ensures .1) (c .before .before .before .before .before .before .before .before .before .write-d-s1-s2 .ensures .0) (c .before .before .before .before .before .before .before .before .before .write-d-s1-s2 .ensures .1)
+returns-3 c = λ row v i constantWords n fresh od oa ob e own dd pa pb. found-result _ _ _ _ _ _ _ _ _ _ _ _ (destination-operated _ _ _ _ _ _ _ dd) _ _ _ _ _ (source-operated _ _ _ _ _ _ _ _ _ pa) _ _ _ _ _ (source-operated _ _ _ _ _ _ _ _ _ pb) _ _ _ _ _ _ _ _ (c .before .before .before .before .before .before .before .before .before .before .before .before .before .before .before .before .waits-d-s1-s2 .ensures) (c .before .before .before .before .before .before .before .before .before .before .before .before .before .before .before .if1 .left) _ e _ (c .before .before .before .before .before .before .before .before .before .before .before .before .before .before .masked-s1-s2 .ensures) (c .before .before .before .before .before .before .before .before .before .before .before .before .before .if2 .left) _ (three-performed _ _ _ _ _ (c .before .before .before .before .before .before .before .before .before .before .before .before .result-three .ensures)) _ dd _ _ _ _ _ (c .before .before .continues .ensures .0) (c .before .before .before .next .ensures) (c .before .before .continues .ensures .1) (c .before .before .before .before .before .before .before .before .before .write-d-s1-s2 .ensures .0) (c .before .before .before .before .before .before .before .before .before .write-d-s1-s2 .ensures .1)
 
 pub three-found-spec : {M : Type 1} → statement M
 three-found-spec =

@@ -1,6 +1,5 @@
 -- Skeleton and paths (.before ..) are generated: docs/PROOFS.md.
-use Rattle.operation_registers.specs.Laws.Numbers.{number-performs, few}
-use native.Mathlib.Omega.{arith}
+use Rattle.operation_registers.specs.Laws.Performed.{two-performed}
 use mathlib.Core.Path.{_∙_}
 use Rattle.operation_checks.specs.Laws.Found.{found-waits, found-masked, found-result}
 use Rattle.operation_checks.specs.Laws.Operands.{or-none, or-one, unused-operated, destination-operated, source-operated}
@@ -15,7 +14,7 @@ same-length : tie.Need-same-length
 same-length c = search needs
 
 returns : tie.Need-returns
-returns c = λ op row v i constantWords n fresh third od oa g h k e own dd pa. found-waits _ _ _ _ _ _ _ _ _ _ _ _ (destination-operated _ _ _ _ _ _ _ dd) _ _ _ _ _ (source-operated _ _ _ _ _ _ _ _ _ pa) _ _ _ _ _ (unused-operated _ _ _ _ _) _ _ _ _ _ _ _ _ (or-one _ _ _ _ _ (c .before .waits-d-s1 .ensures)) (c .if1 .taken)
+returns c = λ row v i constantWords n fresh third od oa e own dd pa. found-waits _ _ _ _ _ _ _ _ _ _ _ _ (destination-operated _ _ _ _ _ _ _ dd) _ _ _ _ _ (source-operated _ _ _ _ _ _ _ _ _ pa) _ _ _ _ _ (unused-operated _ _ _ _ _) _ _ _ _ _ _ _ _ (or-one _ _ _ _ _ (c .before .waits-d-s1 .ensures)) (c .if1 .taken)
 
 masked-requires : tie.Need-masked-requires
 masked-requires c κs = search needs
@@ -24,7 +23,7 @@ same-length-2 : tie.Need-same-length-2
 same-length-2 c = search needs
 
 returns-2 : tie.Need-returns-2
-returns-2 c = λ op row v i constantWords n fresh third od oa g h k e own dd pa. found-masked _ _ _ _ _ _ _ _ _ _ _ _ (destination-operated _ _ _ _ _ _ _ dd) _ _ _ _ _ (source-operated _ _ _ _ _ _ _ _ _ pa) _ _ _ _ _ (unused-operated _ _ _ _ _) _ _ _ _ _ _ _ _ (or-one _ _ _ _ _ (c .before .before .before .waits-d-s1 .ensures)) (c .before .before .if1 .left) _ e _ (c .before .masked .ensures ∙ or-none _) (c .if2 .taken) own
+returns-2 c = λ row v i constantWords n fresh third od oa e own dd pa. found-masked _ _ _ _ _ _ _ _ _ _ _ _ (destination-operated _ _ _ _ _ _ _ dd) _ _ _ _ _ (source-operated _ _ _ _ _ _ _ _ _ pa) _ _ _ _ _ (unused-operated _ _ _ _ _) _ _ _ _ _ _ _ _ (or-one _ _ _ _ _ (c .before .before .before .waits-d-s1 .ensures)) (c .before .before .if1 .left) _ e _ (c .before .masked .ensures ∙ or-none _) (c .if2 .taken) own
 
 result-two-requires : tie.Need-result-two-requires
 result-two-requires c κs = search needs
@@ -48,7 +47,7 @@ same-length-5 : tie.Need-same-length-5
 same-length-5 c = search needs
 
 returns-3 : tie.Need-returns-3
-returns-3 c = λ op row v i constantWords n fresh third od oa g h k e own dd pa. found-result _ _ _ _ _ _ _ _ _ _ _ _ (destination-operated _ _ _ _ _ _ _ dd) _ _ _ _ _ (source-operated _ _ _ _ _ _ _ _ _ pa) _ _ _ _ _ (unused-operated _ _ _ _ _) _ _ _ _ _ _ _ _ (or-one _ _ _ _ _ (c .before .before .before .before .before .before .before .before .before .before .before .before .before .before .before .before .waits-d-s1 .ensures)) (c .before .before .before .before .before .before .before .before .before .before .before .before .before .before .before .if1 .left) _ e _ (c .before .before .before .before .before .before .before .before .before .before .before .before .before .before .masked .ensures ∙ or-none _) (c .before .before .before .before .before .before .before .before .before .before .before .before .before .if2 .left) _ (number-performs op _ k (few _ 16 h (omega arith)) _ _ _ _ (c .before .before .before .before .before .before .before .before .before .before .before .before .result-two .ensures g h)) _ dd _ _ _ _ _ (c .before .before .continues .ensures .0) (c .before .before .before .next .ensures) (c .before .before .continues .ensures .1) (c .before .before .before .before .before .before .before .before .before .write-d-s1 .ensures .0) (c .before .before .before .before .before .before .before .before .before .write-d-s1 .ensures .1)
+returns-3 c = λ row v i constantWords n fresh third od oa e own dd pa. found-result _ _ _ _ _ _ _ _ _ _ _ _ (destination-operated _ _ _ _ _ _ _ dd) _ _ _ _ _ (source-operated _ _ _ _ _ _ _ _ _ pa) _ _ _ _ _ (unused-operated _ _ _ _ _) _ _ _ _ _ _ _ _ (or-one _ _ _ _ _ (c .before .before .before .before .before .before .before .before .before .before .before .before .before .before .before .before .waits-d-s1 .ensures)) (c .before .before .before .before .before .before .before .before .before .before .before .before .before .before .before .if1 .left) _ e _ (c .before .before .before .before .before .before .before .before .before .before .before .before .before .before .masked .ensures ∙ or-none _) (c .before .before .before .before .before .before .before .before .before .before .before .before .before .if2 .left) _ (two-performed _ _ _ _ _ (c .before .before .before .before .before .before .before .before .before .before .before .before .result-two .ensures)) _ dd _ _ _ _ _ (c .before .before .continues .ensures .0) (c .before .before .before .next .ensures) (c .before .before .continues .ensures .1) (c .before .before .before .before .before .before .before .before .before .write-d-s1 .ensures .0) (c .before .before .before .before .before .before .before .before .before .write-d-s1 .ensures .1)
 
 pub two-found-spec : {M : Type 1} → statement M
 two-found-spec =

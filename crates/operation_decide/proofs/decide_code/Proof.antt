@@ -6,8 +6,8 @@ use Rattle.operation.specs.Decide.{decideCode}
 use Rattle.step.specs.Code.Performs.{trapCourse}
 use Rattle.operation_decide.specs.Laws.Codes.{code-told, code-traps}
 use borrow.Author.Needs.{needs}
-use Rattle.operation_decide.proofs.perform_code.Statement.{statement}
-use Rattle.operation_decide.proofs.perform_code.Tie as tie
+use Rattle.operation_decide.proofs.decide_code.Statement.{statement}
+use Rattle.operation_decide.proofs.decide_code.Tie as tie
 
 enum-told : tie.Need-enum-told
 enum-told c = search needs
@@ -24,8 +24,8 @@ svc-requires c κs = search needs
 enum-known-code : tie.Need-enum-known-code
 enum-known-code c = search needs
 
-perform-listed-requires : tie.Need-perform-listed-requires
-perform-listed-requires c κs = search needs
+decide-listed-requires : tie.Need-decide-listed-requires
+decide-listed-requires c κs = search needs
 
 enum-told-4 : tie.Need-enum-told-4
 enum-told-4 c = search needs
@@ -61,14 +61,14 @@ same-length-6 : tie.Need-same-length-6
 same-length-6 c = search needs
 
 returns-4 : tie.Need-returns-4
-returns-4 c = λ row k program s d own. code-told row _ _ _ _ _ _ _ _ _ _ _ _ _ (c .before .before .before .before .before .before .before .before .before .before .before .before .before .before .before .before .before .code .given .1) (c .before .before .before .before .before .before .before .before .before .before .perform-listed .ensures row _ _ s d own)
+returns-4 c = λ row k program s d own. code-told row _ _ _ _ _ _ _ _ _ _ _ _ _ (c .before .before .before .before .before .before .before .before .before .before .before .before .before .before .before .before .before .code .given .1) (c .before .before .before .before .before .before .before .before .before .before .decide-listed .ensures row _ _ s d own)
 
 returns-5 : tie.Need-returns-5
 unfolding decideCode environmentOf trapCourse
 returns-5 c = λ row k program s d own. code-traps row _ _ _ _ _ _ _ _ _ trap.IllegalInstruction _ (c .enum-told4 .given .1) refl refl own
 
-pub perform-code-spec : {M : Type 1} → statement M
-perform-code-spec =
+pub decide-code-spec : {M : Type 1} → statement M
+decide-code-spec =
     tie.close
     (tie.spec
     enum-told
@@ -76,7 +76,7 @@ perform-code-spec =
     enum-told-3
     svc-requires
     enum-known-code
-    perform-listed-requires
+    decide-listed-requires
     enum-told-4
     returns
     returns-2

@@ -1,2 +1,0 @@
--- Steps of the code, none of document 01's terms: nothing here need be believed.
-pub mod Numbers
