@@ -1,5 +1,5 @@
 #!/usr/bin/env python3
-"""inline.py MODULE.ll FUNCTION..: what the compiler's inliner does with these functions (as operation_decide::perform) at each call, with cost and threshold;
+"""inline.py MODULE.ll FUNCTION..: what the compiler's inliner does with these functions (as operation_decide::decide) at each call, with cost and threshold;
 it inlines what costs less, and a function with a single call site has a bonus of 15,000. native.py writes the module of an archive."""
 import collections
 import re

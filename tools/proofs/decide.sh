@@ -1,5 +1,5 @@
 #!/usr/bin/env bash
-# The proofs of operation_decide: `perform` and what it hands the instruction to.
+# The proofs of operation_decide: `decide` and what it hands the instruction to.
 set -euo pipefail
 source tools/proofs/common.sh
 C=operation_decide
@@ -41,7 +41,7 @@ returns-4 := $B code-told $TOLD _ _ (@code .given .1) (@decide-listed .ensures r
 returns-5 [decideCode environmentOf trapCourse] := $B $(traps IllegalInstruction enum-told4)
 E
 B="λ row s p d own."
-fill $C perform <<E
+fill $C decide <<E
 $LAWS.{outside, fetches-told}
 returns := $B outside row $U5 $U4 p (@pc .ensures) $U4 (@place-below .ensures) (@enum-told .given .1) own
 returns-2 := $B fetches-told row $U5 $U4 p (@pc .ensures) $U4 $U4 (@place-below .ensures) (@a .given .1) (@word-at .ensures) (@instruction-of .ensures) (@decode .ensures) $U4 (@decide-code .ensures row _ _ s d own)

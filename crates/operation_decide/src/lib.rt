@@ -298,7 +298,7 @@ fn decide_code(
 
 // What the process with the PT pt and the PSW psw does; a created process gets the PT fresh. Each window of the task goes from its base on and ends below its end; cb is the
 // task's constant base doubled. Check 1: PC outside the program window.
-pub fn perform(
+pub fn decide(
     cb: u32,
     base: u32,
     end: u32,

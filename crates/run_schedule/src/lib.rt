@@ -332,7 +332,7 @@ fn step_task(
     let fresh = lowest(*free);
     let psw = psws[pt];
     let at = SPANS * t;
-    let c = operation_decide::perform(
+    let c = operation_decide::decide(
         spans[at],
         spans[at + 1],
         spans[at + 2],

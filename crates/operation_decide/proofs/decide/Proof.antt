@@ -1,8 +1,8 @@
 -- Skeleton and paths (.before ..) are generated: docs/PROOFS.md.
 use Rattle.operation_decide.specs.Laws.Codes.{outside, fetches-told}
 use borrow.Author.Needs.{needs}
-use Rattle.operation_decide.proofs.perform.Statement.{statement}
-use Rattle.operation_decide.proofs.perform.Tie as tie
+use Rattle.operation_decide.proofs.decide.Statement.{statement}
+use Rattle.operation_decide.proofs.decide.Tie as tie
 
 pc-requires : tie.Need-pc-requires
 pc-requires c κs = search needs
@@ -49,8 +49,8 @@ same-length-5 c = search needs
 returns-2 : tie.Need-returns-2
 returns-2 c = λ row s p d own. fetches-told row _ _ _ _ _ _ _ _ _ p (c .before .before .before .before .before .before .before .before .before .before .before .before .before .before .before .before .before .before .before .before .before .before .before .pc .ensures) _ _ _ _ _ _ _ _ (c .before .before .before .before .before .before .before .before .before .before .before .before .before .before .before .before .before .before .before .before .before .before .place-below .ensures) (c .before .before .before .before .before .before .before .before .before .before .before .before .before .before .before .before .before .before .before .before .a .given .1) (c .before .before .before .before .before .before .before .before .before .before .before .before .before .before .before .before .before .before .word-at .ensures) (c .before .before .before .before .before .before .before .before .before .before .before .before .before .before .before .before .before .instruction-of .ensures) (c .before .before .before .before .before .before .before .before .before .before .before .before .before .before .before .before .decode .ensures) _ _ _ _ (c .before .before .before .before .before .before .before .before .before .before .decide-code .ensures row _ _ s d own)
 
-pub perform-spec : {M : Type 1} → statement M
-perform-spec =
+pub decide-spec : {M : Type 1} → statement M
+decide-spec =
     tie.close
     (tie.spec
     pc-requires
