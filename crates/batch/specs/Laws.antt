@@ -3,3 +3,4 @@ pub mod Input
 pub mod Texts
 pub mod Room
 pub mod Readings
+pub mod Copies

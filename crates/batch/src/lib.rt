@@ -8,14 +8,13 @@ ghost use Rattle.library.specs.Buffers.{fieldsIn};
 ghost use Rattle.library.specs.Calls.{runRefusal};
 ghost use Rattle.library.specs.Held.{lentBuffers};
 ghost use Rattle.report.specs.Report.{outputRead, outputOf};
-ghost use Rattle.report_text.specs.Texts.{reportRoom, shown, copiedInto};
-ghost use Rattle.batch.specs.Output.{runText, bytesCopied};
+ghost use Rattle.report_text.specs.Texts.{reportRoom, TextPromise};
+ghost use Rattle.batch.specs.Output.{runText, bytesCopied, copiedInto};
 use library::ReadAnswer;
 use library::RunAnswer;
 use library::Sizes;
 use refusal::Refusal;
 use report_text::REPORT_ROOM;
-use report_text::Text;
 use step::ProcessTable;
 use window::Row;
 use window::TASKS;
@@ -38,8 +37,9 @@ fn run_text(
     data_words: &mut [u64],
     schedule: &[u8],
     n: Sizes,
-) -> Text
-    ensures { λ r. ⌜ shown r ≡ runText (runRefusal n (lentBuffers rows table (now («constant_tags» .entry)) (now («constant_words» .entry)) (now («register_tags» .entry)) (now («register_words» .entry)) (now (program .entry)) (now (data_tags .entry)) (now (data_words .entry))) (now (schedule .entry))) (run (now (schedule .entry)) (fieldsIn n (lentBuffers rows table (now («constant_tags» .entry)) (now («constant_words» .entry)) (now («register_tags» .entry)) (now («register_words» .entry)) (now (program .entry)) (now (data_tags .entry)) (now (data_words .entry))))) ⌝ }
+    out: &mut [u8],
+) -> usize
+    ensures { λ r. ⌜ TextPromise (runText (runRefusal n (lentBuffers rows table (now («constant_tags» .entry)) (now («constant_words» .entry)) (now («register_tags» .entry)) (now («register_words» .entry)) (now (program .entry)) (now (data_tags .entry)) (now (data_words .entry))) (now (schedule .entry))) (run (now (schedule .entry)) (fieldsIn n (lentBuffers rows table (now («constant_tags» .entry)) (now («constant_words» .entry)) (now («register_tags» .entry)) (now («register_words» .entry)) (now (program .entry)) (now (data_tags .entry)) (now (data_words .entry)))))) (now (out .entry)) r (now (out .exit)) ⌝ }
 {
     let x = hep::run_owned(
         rows,
@@ -58,20 +58,21 @@ fn run_text(
     let rows_left = x.rows.at;
     let table_left = x.table;
     match answer {
-        RunAnswer::Refused(e) => report_text::refusal_text(e),
+        RunAnswer::Refused(e) => report_text::refusal_text(e, out),
         RunAnswer::Counted(counts) => report_text::report_text(
             rows_left,
             n.rows,
             table_left,
             counts,
+            out,
         ),
     }
 }
 
 // Reads the image, and runs the schedule. No section of so short an image has more than 8,192 values.
-fn image_text(schedule: &[u8], image: &[u8]) -> Text
+fn image_text(schedule: &[u8], image: &[u8], out: &mut [u8]) -> usize
     requires { ⌜ length (now image) ≤ 65536 ⌝ }
-    ensures { λ r. ⌜ shown r ≡ outputRead (now (schedule .entry)) (decode (now (image .entry))) ⌝ }
+    ensures { λ r. ⌜ TextPromise (outputRead (now (schedule .entry)) (decode (now (image .entry)))) (now (out .entry)) r (now (out .exit)) ⌝ }
 {
     let mut constant_tags = [0; MEMORY_ROOM];
     let mut constant_words = [0; MEMORY_ROOM];
@@ -96,7 +97,7 @@ fn image_text(schedule: &[u8], image: &[u8]) -> Text
     let rows = x.rows.at;
     let table = x.table;
     match answer {
-        ReadAnswer::Refused(e) => report_text::refusal_text(e),
+        ReadAnswer::Refused(e) => report_text::refusal_text(e, out),
         ReadAnswer::Read(n) => run_text(
             rows,
             table,
@@ -109,26 +110,27 @@ fn image_text(schedule: &[u8], image: &[u8]) -> Text
             &mut data_words,
             schedule,
             n,
+            out,
         ),
     }
 }
 
 // The whole output: the report, or the line of a refusal.
-fn output(input: &[u8]) -> Text
-    ensures { λ r. ⌜ shown r ≡ outputOf (now (input .entry)) ⌝ }
+fn output(input: &[u8], out: &mut [u8]) -> usize
+    ensures { λ r. ⌜ TextPromise (outputOf (now (input .entry))) (now (out .entry)) r (now (out .exit)) ⌝ }
 {
     if MOST_INPUT < input.len() {
-        return report_text::refusal_text(Refusal::InputTooLong);
+        return report_text::refusal_text(Refusal::InputTooLong, out);
     }
     if input.len() < 2 {
-        return report_text::refusal_text(Refusal::InputEnds);
+        return report_text::refusal_text(Refusal::InputEnds, out);
     }
     let items = image_bytes::number_at(input, 0, 2) as usize;
     if input.len() - 2 < items {
-        return report_text::refusal_text(Refusal::InputEnds);
+        return report_text::refusal_text(Refusal::InputEnds, out);
     }
     let end = 2 + items;
-    image_text(&input[2..end], &input[end..])
+    image_text(&input[2..end], &input[end..], out)
 }
 
 // A buffer that is long enough for every output.
@@ -138,15 +140,32 @@ pub fn output_buffer() -> [u8; REPORT_ROOM]
     [0; REPORT_ROOM]
 }
 
+// A text goes to the front of a buffer that is long enough. The answer is how many bytes were copied.
+fn copy(text: &[u8], out: &mut [u8]) -> usize
+    ensures answer { λ r. ⌜ r ≡ bytesCopied (now (text .entry)) (now (out .entry)) ⌝ }
+    ensures left { λ _. ⌜ now (out .exit) ≡ copiedInto (now (text .entry)) (now (out .entry)) ⌝ }
+{
+    if out.len() < text.len() {
+        return 0;
+    }
+    let mut i = 0;
+    while i < text.len() {
+        out[i] = text[i];
+        i += 1;
+    }
+    i
+}
+
 // The output goes to the front of a buffer that is long enough. The answer is how many bytes were copied.
 pub fn batch(input: &[u8], out: &mut [u8]) -> usize
     ensures answer { λ r. ⌜ r ≡ bytesCopied (outputOf (now (input .entry))) (now (out .entry)) ⌝ }
     ensures left { λ _. ⌜ now (out .exit) ≡ copiedInto (outputOf (now (input .entry))) (now (out .entry)) ⌝ }
     ensures enough { λ _. ⌜ length (outputOf (now (input .entry))) ≤ reportRoom ⌝ }
 {
-    let n = report_text::copy_text(output(input), out);
-    if out.len() < n {
-        return 0;
+    if REPORT_ROOM <= out.len() {
+        return output(input, out);
     }
-    n
+    let mut text = output_buffer();
+    let n = output(input, &mut text);
+    copy(&text[..n], out)
 }

@@ -12,8 +12,7 @@ ghost use Rattle.library.specs.Promises.{readAnswered};
 ghost use Rattle.library.specs.Trials.{numbered};
 ghost use Rattle.library.specs.Held.{roomFrom};
 ghost use Rattle.report.specs.Report.{outputOf};
-ghost use Rattle.report_text.specs.Texts.{copiedInto};
-ghost use Rattle.batch.specs.Output.{bytesCopied};
+ghost use Rattle.batch.specs.Output.{bytesCopied, copiedInto};
 ghost use Rattle.hep_c.specs.Answers.{numberAnswered, listedAnswer, sizesAnswer, sizesLeft, slices, resultsFit, lengthsRefusal, imageRunRefusal, imageRunAnswer, countsListed, imageRunLeft, ImageRunPromise, countsAnswered};
 ghost use Rattle.window.specs.Limits.{tasks};
 use image::PROCESS_BYTES;
@@ -252,8 +251,7 @@ fn run_accepted(
         output,
         n,
     );
-    let text = report_text::report_text(at, n.rows, table, c);
-    let k = report_text::copy_text(text, report);
+    let k = report_text::report_text(at, n.rows, table, c, report);
     put_counts(c, image_write::length_written(w), k, counts);
 }
 

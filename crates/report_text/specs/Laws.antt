@@ -4,4 +4,3 @@ pub mod Digits
 pub mod Lines
 pub mod Lengths
 pub mod Rows
-pub mod Copies

@@ -1,24 +1,14 @@
--- Texts under way, and what a copy of one leaves in a buffer.
-use Prim.Native.Nat.{ℕ, _+_, _*_}
-use mathlib.Core.Bool.{cond}
-use mathlib.Core.List.{List, _++_}
-use lib.Dec.{ltb}
+-- A text in a lent buffer: how long one can be, what is answered and what is left.
+use Prim.Native.Nat.{ℕ, _+_, _*_, _≤_}
+use mathlib.Core.Path.{_≡_}
+use mathlib.Core.List.{List}
 use lib.ListN.{length, take}
 use Rattle.image.specs.Fields.{over}
-use Rattle.report_text.specs.declared.Text.{Text}
 use Rattle.window.specs.Limits.{tasks}
 
--- how many bytes a text has room for
+-- how many bytes are enough for every text
 abbrev pub reportRoom : ℕ
 reportRoom = 512
-
--- the bytes of a text
-unfoldable pub shown : Text → List ℕ
-shown t = take (t .len) (t .bytes)
-
--- a text with bytes behind it, as far as there is room
-unfoldable pub appended : (text bytes : List ℕ) → List ℕ
-appended text bytes = take reportRoom (text ++ bytes)
 
 -- the longest line of any row: a task of one digit and 20 digits of processes, 11 bytes for the rest
 abbrev pub longestRow : ℕ
@@ -32,6 +22,8 @@ longestCounts = 4 * 20 + 3 + 11
 abbrev pub longestReport : ℕ
 longestReport = tasks * longestRow + longestCounts
 
--- a buffer after a copy: the text and then what was there; unchanged where it is shorter than the text
-unfoldable pub copiedInto : (text buffer : List ℕ) → List ℕ
-copiedInto text buffer = cond (ltb (length buffer) (length text)) buffer (over text buffer)
+-- the promise of a text: as many of its bytes as a buffer has room for go to the buffer's front, and are counted
+pub record TextPromise (text buffer : List ℕ) (r : ℕ) (after : List ℕ) : Type 0 where
+  pub answer : r ≡ length (take (length buffer) text)
+  pub leaves : after ≡ over (take (length buffer) text) buffer
+  pub short : length text ≤ longestReport

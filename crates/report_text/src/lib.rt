@@ -1,4 +1,4 @@
-// The batch program's output as text: the report of a run, or the line of a refusal.
+// The batch program's output as text in a lent buffer: the report of a run, or the line of a refusal. A byte past the end is left out.
 use refusal::Refusal;
 use run::Counts;
 use step::NO_TRAP;
@@ -10,103 +10,96 @@ ghost use mathlib.Core.List.{[], _∷_, _++_};
 ghost use Prim.Native.Nat.{_+_, _*_, _%_, _≤_};
 ghost use lib.ListN.{length, take};
 ghost use Rattle.step.specs.State.{liveCount};
-ghost use Rattle.report.specs.Report.{decimalBy, decimal, hexDigit, hex, kindText, pcText, rowLine, rowLines, countsLine, refusalLine};
-ghost use Rattle.report_text.specs.Texts.{reportRoom, shown, appended, longestRow, longestReport, copiedInto};
+ghost use Rattle.report.specs.Report.{decimalBy, decimal, hexDigit, hex, kindText, pcText, rowLine, rowLines, countsLine, refusalLine, space};
+ghost use Rattle.report_text.specs.Texts.{longestRow, TextPromise};
+ghost use Rattle.report_text.specs.Code.Pushes.{written, appended};
 ghost use Rattle.window.specs.Limits.{tasks};
 
-// How many bytes a text has room for.
+// How many bytes are enough for every text.
 pub const REPORT_ROOM: usize = 512;
 
-// A text under way: its first len bytes.
-pub struct Text {
-    pub bytes: [u8; REPORT_ROOM],
-    pub len: usize,
-}
+// Each function below puts bytes from a place on and answers the place behind them.
 
-fn empty() -> Text
-    ensures { λ r. ⌜ shown r ≡ [] ⌝ }
+fn push(out: &mut [u8], at: usize, b: u8) -> usize
+    ensures { λ r. ⌜ written r (now (out .exit)) ≡ appended (written at (now (out .entry))) (b ∷ []) ⌝ }
 {
-    Text {
-        bytes: [0; REPORT_ROOM],
-        len: 0,
+    if at < out.len() {
+        out[at] = b;
+        return at + 1;
     }
-}
-
-// One byte more; a full text stays as it is. Neither a report nor a refusal fills a text.
-fn push(mut t: Text, b: u8) -> Text
-    ensures { λ r. ⌜ shown r ≡ appended (shown t) (b ∷ []) ⌝ }
-{
-    let at = t.len;
-    if at < REPORT_ROOM {
-        t.bytes[at] = b;
-        t.len = at + 1;
-    }
-    t
+    at
 }
 
 // The lowest decimal digit.
-fn push_digit(t: Text, n: u64) -> Text
-    ensures { λ r. ⌜ shown r ≡ appended (shown t) ((48 + n % 10) ∷ []) ⌝ }
+fn push_digit(out: &mut [u8], at: usize, n: u64) -> usize
+    ensures { λ r. ⌜ written r (now (out .exit)) ≡ appended (written at (now (out .entry))) ((48 + n % 10) ∷ []) ⌝ }
 {
-    push(t, 48 + (n % 10) as u8)
+    push(out, at, 48 + (n % 10) as u8)
 }
 
 // The k lowest decimal digits, without leading zeros.
-fn push_digits(t: Text, k: u8, n: u64) -> Text
-    ensures { λ r. ⌜ shown r ≡ appended (shown t) (decimalBy k n) ⌝ }
+fn push_digits(out: &mut [u8], at: usize, k: u8, n: u64) -> usize
+    ensures { λ r. ⌜ written r (now (out .exit)) ≡ appended (written at (now (out .entry))) (decimalBy k n) ⌝ }
 {
     if k == 0 {
-        return t;
+        return at;
     }
     if n < 10 {
-        return push_digit(t, n);
+        return push_digit(out, at, n);
     }
-    push_digit(push_digits(t, k - 1, n / 10), n)
+    let at = push_digits(out, at, k - 1, n / 10);
+    push_digit(out, at, n)
 }
 
-fn push_decimal(t: Text, n: u64) -> Text
-    ensures { λ r. ⌜ shown r ≡ appended (shown t) (decimal n) ⌝ }
+fn push_decimal(out: &mut [u8], at: usize, n: u64) -> usize
+    ensures { λ r. ⌜ written r (now (out .exit)) ≡ appended (written at (now (out .entry))) (decimal n) ⌝ }
 {
-    push_digits(t, 20, n)
+    push_digits(out, at, 20, n)
 }
 
 // The lowest hex digit.
-fn push_hex_digit(t: Text, n: u64) -> Text
-    ensures { λ r. ⌜ shown r ≡ appended (shown t) (hexDigit (n % 16) ∷ []) ⌝ }
+fn push_hex_digit(out: &mut [u8], at: usize, n: u64) -> usize
+    ensures { λ r. ⌜ written r (now (out .exit)) ≡ appended (written at (now (out .entry))) (hexDigit (n % 16) ∷ []) ⌝ }
 {
     let d = (n % 16) as u8;
     if d < 10 {
-        return push(t, 48 + d);
+        return push(out, at, 48 + d);
     }
-    push(t, 55 + d)
+    push(out, at, 55 + d)
 }
 
 // The k lowest hex digits.
-fn push_hex(t: Text, k: u8, n: u64) -> Text
-    ensures { λ r. ⌜ shown r ≡ appended (shown t) (hex k n) ⌝ }
+fn push_hex(out: &mut [u8], at: usize, k: u8, n: u64) -> usize
+    ensures { λ r. ⌜ written r (now (out .exit)) ≡ appended (written at (now (out .entry))) (hex k n) ⌝ }
 {
     if k == 0 {
-        return t;
+        return at;
     }
-    push_hex_digit(push_hex(t, k - 1, n / 16), n)
+    let at = push_hex(out, at, k - 1, n / 16);
+    push_hex_digit(out, at, n)
 }
 
-fn push_kind(t: Text, kind: u8) -> Text
-    ensures { λ r. ⌜ shown r ≡ appended (shown t) (kindText kind) ⌝ }
+fn push_kind(out: &mut [u8], at: usize, kind: u8) -> usize
+    ensures { λ r. ⌜ written r (now (out .exit)) ≡ appended (written at (now (out .entry))) (kindText kind) ⌝ }
 {
     if kind == NO_TRAP {
-        return push(push(t, b'-'), b'-');
+        let at = push(out, at, b'-');
+        return push(out, at, b'-');
     }
-    push_hex(t, 2, kind as u64)
+    push_hex(out, at, 2, kind as u64)
 }
 
-fn push_pc(t: Text, kind: u8, psw: u64) -> Text
-    ensures { λ r. ⌜ shown r ≡ appended (shown t) (pcText kind psw) ⌝ }
+fn push_pc(out: &mut [u8], at: usize, kind: u8, psw: u64) -> usize
+    ensures { λ r. ⌜ written r (now (out .exit)) ≡ appended (written at (now (out .entry))) (pcText kind psw) ⌝ }
 {
     if kind == NO_TRAP {
-        return push(push(push(push(push(t, b'-'), b'-'), b'-'), b'-'), b'-');
+        let at = push(out, at, b'-');
+        let at = push(out, at, b'-');
+        let at = push(out, at, b'-');
+        let at = push(out, at, b'-');
+        return push(out, at, b'-');
     }
-    push_hex(t, 5, word::pc(psw) as u64)
+    push_hex(out, at, 5, word::pc(psw) as u64)
 }
 
 // How many live processes a task has.
@@ -120,89 +113,80 @@ fn live(table: ProcessTable, task: u8) -> u64
     0
 }
 
-fn push_row(t: Text, table: ProcessTable, row: Row) -> Text
+fn push_row(out: &mut [u8], at: usize, table: ProcessTable, row: Row) -> usize
     ensures bound { λ _. ⌜ length (rowLine table row) ≤ longestRow ⌝ }
-    ensures text { λ r. ⌜ shown r ≡ appended (shown t) (rowLine table row) ⌝ }
+    ensures text { λ r. ⌜ written r (now (out .exit)) ≡ appended (written at (now (out .entry))) (rowLine table row) ⌝ }
 {
-    let task = push_decimal(t, row.task as u64);
-    let processes = push_decimal(push(task, b' '), live(table, row.task));
-    let kind = push_kind(push(processes, b' '), row.kind);
-    let pc = push_pc(push(kind, b' '), row.kind, row.psw);
-    push(pc, b'\n')
+    let at = push_decimal(out, at, row.task as u64);
+    let at = push(out, at, b' ');
+    let at = push_decimal(out, at, live(table, row.task));
+    let at = push(out, at, b' ');
+    let at = push_kind(out, at, row.kind);
+    let at = push(out, at, b' ');
+    let at = push_pc(out, at, row.kind, row.psw);
+    push(out, at, b'\n')
 }
 
-fn push_rows(t: Text, rows: [Row; TASKS], n: usize, table: ProcessTable) -> Text
+fn push_rows(out: &mut [u8], rows: [Row; TASKS], n: usize, table: ProcessTable) -> usize
     ensures bound { λ _. ⌜ length (rowLines table (take n rows)) ≤ tasks * longestRow ⌝ }
-    ensures text { λ r. ⌜ shown r ≡ appended (shown t) (rowLines table (take n rows)) ⌝ }
+    ensures text { λ r. ⌜ written r (now (out .exit)) ≡ appended (written 0 (now (out .entry))) (rowLines table (take n rows)) ⌝ }
 {
-    let mut u = t;
+    let mut at = 0;
     let mut i = 0;
     while i < TASKS && i < n {
-        u = push_row(u, table, rows[i]);
+        at = push_row(out, at, table, rows[i]);
         i += 1;
     }
-    u
+    at
 }
 
 // A letter and a count.
-fn push_count(t: Text, letter: u8, n: u64) -> Text
-    ensures { λ r. ⌜ shown r ≡ appended (shown t) (letter ∷ decimal n) ⌝ }
+fn push_count(out: &mut [u8], at: usize, letter: u8, n: u64) -> usize
+    ensures { λ r. ⌜ written r (now (out .exit)) ≡ appended (written at (now (out .entry))) (letter ∷ decimal n) ⌝ }
 {
-    push_decimal(push(t, letter), n)
+    let at = push(out, at, letter);
+    push_decimal(out, at, n)
 }
 
-fn push_counts(t: Text, counts: Counts, flag: u8) -> Text
-    ensures { λ r. ⌜ shown r ≡ appended (shown t) (countsLine counts flag) ⌝ }
+// A space before them.
+fn push_next(out: &mut [u8], at: usize, letter: u8, n: u64) -> usize
+    ensures { λ r. ⌜ written r (now (out .exit)) ≡ appended (written at (now (out .entry))) (space ++ (letter ∷ decimal n)) ⌝ }
 {
-    let executed = push_count(t, b'E', counts.executed);
-    let waved = push_count(push(executed, b' '), b'W', counts.waved);
-    let trapped = push_count(push(waved, b' '), b'T', counts.trapped);
-    let idle = push_count(push(trapped, b' '), b'I', counts.idle);
-    let fault = push(push(idle, b' '), b'C');
-    push(push_count(fault, b'F', flag as u64), b'\n')
+    let at = push(out, at, b' ');
+    push_count(out, at, letter, n)
+}
+
+fn push_counts(out: &mut [u8], at: usize, counts: Counts, flag: u8) -> usize
+    ensures { λ r. ⌜ written r (now (out .exit)) ≡ appended (written at (now (out .entry))) (countsLine counts flag) ⌝ }
+{
+    let at = push_count(out, at, b'E', counts.executed);
+    let at = push_next(out, at, b'W', counts.waved);
+    let at = push_next(out, at, b'T', counts.trapped);
+    let at = push_next(out, at, b'I', counts.idle);
+    let at = push(out, at, b' ');
+    let at = push(out, at, b'C');
+    let at = push_count(out, at, b'F', flag as u64);
+    push(out, at, b'\n')
 }
 
 // A line for each of the first n rows, and the line of the counts.
-pub fn report_text(rows: [Row; TASKS], n: usize, table: ProcessTable, counts: Counts) -> Text
-    ensures text { λ r. ⌜ shown r ≡ rowLines table (take n rows) ++ countsLine counts (table .flag) ⌝ }
-    ensures bound { λ r. ⌜ length (shown r) ≤ longestReport ⌝ }
+pub fn report_text(
+    rows: [Row; TASKS],
+    n: usize,
+    table: ProcessTable,
+    counts: Counts,
+    out: &mut [u8],
+) -> usize
+    ensures { λ r. ⌜ TextPromise (rowLines table (take n rows) ++ countsLine counts (table .flag)) (now (out .entry)) r (now (out .exit)) ⌝ }
 {
-    push_counts(push_rows(empty(), rows, n, table), counts, table.flag)
+    let at = push_rows(out, rows, n, table);
+    push_counts(out, at, counts, table.flag)
 }
 
 // The one line of a refusal.
-pub fn refusal_text(e: Refusal) -> Text
-    ensures { λ r. ⌜ shown r ≡ refusalLine e ⌝ }
+pub fn refusal_text(e: Refusal, out: &mut [u8]) -> usize
+    ensures { λ r. ⌜ TextPromise (refusalLine e) (now (out .entry)) r (now (out .exit)) ⌝ }
 {
-    push(push_count(empty(), b'R', refusal::number(e) as u64), b'\n')
-}
-
-// How many bytes a text has.
-fn text_len(t: Text) -> usize
-    ensures { λ r. ⌜ r ≡ length (shown t) ⌝ }
-{
-    if t.len < REPORT_ROOM {
-        t.len
-    } else {
-        REPORT_ROOM
-    }
-}
-
-// The text goes to the front of a buffer that is long enough. The answer is its length.
-pub fn copy_text(t: Text, out: &mut [u8]) -> usize
-    ensures answer { λ r. ⌜ r ≡ length (shown t) ⌝ }
-    ensures left { λ _. ⌜ now (out .exit) ≡ copiedInto (shown t) (now (out .entry)) ⌝ }
-    ensures bound { λ r. ⌜ r ≤ reportRoom ⌝ }
-{
-    let n = text_len(t);
-    if out.len() < n {
-        return n;
-    }
-    let bytes = t.bytes;
-    let mut i = 0;
-    while i < n {
-        out[i] = bytes[i];
-        i += 1;
-    }
-    n
+    let at = push_count(out, 0, b'R', refusal::number(e) as u64);
+    push(out, at, b'\n')
 }

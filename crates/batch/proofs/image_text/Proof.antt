@@ -1,12 +1,11 @@
--- Skeleton and paths (.before ..) are generated: docs/PROOFS.md.
--- `batch::image_text` meets its contract: by what reading and run promise.
 use Prim.Native.Nat.{ℕ}
-use mathlib.Core.Path.{ap, _∙_}
+use mathlib.Core.Path.{ap}
 use native.Mathlib.Omega.{arith}
 use lib.ListN.{length, length-replicate}
 use Rattle.image_bytes.specs.Laws.Fields.{all-bytes}
 use Rattle.library.specs.Empty.{noRows}
 use Rattle.batch.specs.Laws.Readings.{read-refused, read-text}
+use Rattle.batch.specs.Laws.Texts.{promised-as}
 use borrow.Author.Needs.{needs}
 use Rattle.batch.proofs.image_text.Statement.{statement}
 use Rattle.batch.proofs.image_text.Tie as tie
@@ -74,13 +73,19 @@ slice-aggregate-run-text-7 c = search needs
 run-text-requires : tie.Need-run-text-requires
 run-text-requires c κs = search needs
 
+same-length : tie.Need-same-length
+same-length c = search needs
+
 returns : tie.Need-returns
 unfolding noRows
-returns c = let k = length-replicate {A = ℕ} 8192 0 in c .refusal-text .ensures ∙ read-refused _ (c .before .before .before .before .before .before .before .before .before .before .before .before .before .before .before .before .before .before .before .before .before .before .before .before .before .pre) _ _ (record { rows = ap length (c .before .before .before .before .before .before .before .before .before .before .before .before .before .before .before .before .before .before .before .before .before .before .no-rows .ensures); constantTags = k; constantWords = k; registerTags = k; registerWords = k; program = k; dataTags = k; dataWords = k }) _ (c .before .before .before .before .before .before .before .before .before .before .before .before .before .read-owned .ensures .0) _ _ (c .before .before .answer .given .1)
+returns c = let k = length-replicate {A = ℕ} 8192 0 in promised-as _ _ _ _ _ (read-refused _ (c .before .before .before .before .before .before .before .before .before .before .before .before .before .before .before .before .before .before .before .before .before .before .before .before .before .before .before .before .before .pre) _ _ (record { rows = ap length (c .before .before .before .before .before .before .before .before .before .before .before .before .before .before .before .before .before .before .before .before .before .before .before .before .before .no-rows .ensures); constantTags = k; constantWords = k; registerTags = k; registerWords = k; program = k; dataTags = k; dataWords = k }) _ (c .before .before .before .before .before .before .before .before .before .before .before .before .before .before .before .before .read-owned .ensures .0) _ _ (c .before .before .before .before .before .answer .given .1)) (c .before .before .refusal-text .ensures)
+
+same-length-2 : tie.Need-same-length-2
+same-length-2 c = search needs
 
 returns-2 : tie.Need-returns-2
 unfolding noRows
-returns-2 c = let k = length-replicate {A = ℕ} 8192 0 in c .before .before .before .before .run-text .ensures ∙ read-text _ (c .before .before .before .before .before .before .before .before .before .before .before .before .before .before .before .before .before .before .before .before .before .before .before .before .before .before .before .before .before .before .before .before .before .before .before .before .pre) _ _ (record { rows = ap length (c .before .before .before .before .before .before .before .before .before .before .before .before .before .before .before .before .before .before .before .before .before .before .before .before .before .before .before .before .before .before .before .before .before .no-rows .ensures); constantTags = k; constantWords = k; registerTags = k; registerWords = k; program = k; dataTags = k; dataWords = k }) _ (c .before .before .before .before .before .before .before .before .before .before .before .before .before .before .before .before .before .before .before .before .before .before .before .before .read-owned .ensures .0) _ _ (all-bytes _ (λ i. omega (arith, c .before .before .before .before .before .before .before .before .before .before .before .before .before .before .before .before .before .before .before .before .before .before .before .before .before .before .before .before .before .before .before .before .before .before .shared-slice-known2 .given i))) (c .before .before .before .before .before .before .before .before .before .before .before .before .before .answer2 .given .1)
+returns-2 c = let k = length-replicate {A = ℕ} 8192 0 in promised-as _ _ _ _ _ (read-text _ (c .before .before .before .before .before .before .before .before .before .before .before .before .before .before .before .before .before .before .before .before .before .before .before .before .before .before .before .before .before .before .before .before .before .before .before .before .before .before .before .before .pre) _ _ (record { rows = ap length (c .before .before .before .before .before .before .before .before .before .before .before .before .before .before .before .before .before .before .before .before .before .before .before .before .before .before .before .before .before .before .before .before .before .before .before .before .no-rows .ensures); constantTags = k; constantWords = k; registerTags = k; registerWords = k; program = k; dataTags = k; dataWords = k }) _ (c .before .before .before .before .before .before .before .before .before .before .before .before .before .before .before .before .before .before .before .before .before .before .before .before .before .before .before .read-owned .ensures .0) _ _ (all-bytes _ (λ i. omega (arith, c .before .before .before .before .before .before .before .before .before .before .before .before .before .before .before .before .before .before .before .before .before .before .before .before .before .before .before .before .before .before .before .before .before .before .before .before .before .before .shared-slice-known2 .given i))) (c .before .before .before .before .before .before .before .before .before .before .before .before .before .before .before .before .answer2 .given .1)) (c .before .before .before .before .before .before .run-text .ensures)
 
 pub image-text-spec : {M : Type 1} → statement M
 image-text-spec =
@@ -107,5 +112,7 @@ image-text-spec =
     slice-aggregate-run-text-6
     slice-aggregate-run-text-7
     run-text-requires
+    same-length
     returns
+    same-length-2
     returns-2)

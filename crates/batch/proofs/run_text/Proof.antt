@@ -1,7 +1,4 @@
--- Skeleton and paths (.before ..) are generated: docs/PROOFS.md.
--- `batch::run_text` meets its contract: by what the run promises.
-use Rattle.batch.specs.Laws.Texts.{run-refused, run-counted}
-use mathlib.Core.Path.{_∙_}
+use Rattle.batch.specs.Laws.Texts.{run-refused, run-counted, promised-as}
 use borrow.Author.Needs.{needs}
 use Rattle.batch.proofs.run_text.Statement.{statement}
 use Rattle.batch.proofs.run_text.Tie as tie
@@ -33,11 +30,11 @@ same-length-3 c = search needs
 same-length-4 : tie.Need-same-length-4
 same-length-4 c = search needs
 
-returns : tie.Need-returns
-returns c = c .refusal-text .ensures ∙ run-refused _ _ _ _ _ (c .before .before .before .before .before .before .before .before .before .before .before .before .before .before .run-owned .ensures .0) _ (c .before .before .answer .given .1)
-
 same-length-5 : tie.Need-same-length-5
 same-length-5 c = search needs
+
+returns : tie.Need-returns
+returns c = promised-as _ _ _ _ _ (run-refused _ _ _ _ _ (c .before .before .before .before .before .before .before .before .before .before .before .before .before .before .before .before .before .run-owned .ensures .0) _ (c .before .before .before .before .before .answer .given .1)) (c .before .before .refusal-text .ensures)
 
 same-length-6 : tie.Need-same-length-6
 same-length-6 c = search needs
@@ -48,8 +45,14 @@ same-length-7 c = search needs
 same-length-8 : tie.Need-same-length-8
 same-length-8 c = search needs
 
+same-length-9 : tie.Need-same-length-9
+same-length-9 c = search needs
+
+same-length-10 : tie.Need-same-length-10
+same-length-10 c = search needs
+
 returns-2 : tie.Need-returns-2
-returns-2 c = c .report-text .ensures .0 ∙ run-counted _ _ _ _ _ (c .before .before .before .before .before .before .before .before .before .before .before .before .before .before .run-owned .ensures .0) _ (c .before .before .answer2 .given .1)
+returns-2 c = promised-as _ _ _ _ _ (run-counted _ _ _ _ _ (c .before .before .before .before .before .before .before .before .before .before .before .before .before .before .before .before .before .run-owned .ensures .0) _ (c .before .before .before .before .before .answer2 .given .1)) (c .before .before .report-text .ensures)
 
 pub run-text-spec : {M : Type 1} → statement M
 run-text-spec =
@@ -64,9 +67,11 @@ run-text-spec =
     same-length-2
     same-length-3
     same-length-4
-    returns
     same-length-5
+    returns
     same-length-6
     same-length-7
     same-length-8
+    same-length-9
+    same-length-10
     returns-2)

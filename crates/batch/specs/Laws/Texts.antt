@@ -1,13 +1,13 @@
--- The text of a run is what the run answers; what a copy of a text writes.
-use Prim.Native.Nat.{ℕ, _≤_, _<_}
-use mathlib.Core.Path.{_≡_, refl, sym, ap, _∙_}
+-- The text of a run is what the run answers; a copy is no longer than its buffer.
+use Prim.Native.Nat.{ℕ, _≤_}
+use mathlib.Core.Path.{_≡_, refl, sym, ap, _∙_, subst}
 use mathlib.Core.Bool.{Bool, true, false, cond}
 use mathlib.Core.Option.{Option, none, some}
 use mathlib.Core.List.{List, _++_}
 use native.Mathlib.Omega.{arith}
 use lib.Dec.{ltb}
 use lib.ListN.{length, take}
-use borrow.Author.Tests.{lt-ltb, le-ltb, ltb-false}
+use borrow.Author.Tests.{ltb-false}
 use Rattle.refusal.specs.declared.Refusal.{Refusal}
 use Rattle.step.specs.State.{State}
 use Rattle.run.specs.declared.Counts.{Counts}
@@ -20,6 +20,7 @@ use Rattle.library.specs.Calls.{unless, runRefusal, runAnswer}
 use Rattle.library.specs.InPlace.{run-in-place}
 use Rattle.library.specs.Promises.{runAnswered, RunPromise}
 use Rattle.report.specs.Report.{rowLines, countsLine, reportOf, refusalLine}
+use Rattle.report_text.specs.Texts.{TextPromise}
 use Rattle.batch.specs.Output.{runText, bytesCopied}
 
 refused-text : (x : Option Refusal) (r : Ran) (e : Refusal) → runAnswered (unless x (r .counts)) ≡ Refused e → refusalLine e ≡ runText x r
@@ -47,15 +48,9 @@ module _ (n : Sizes) (b b′ : Buffers) (l : List ℕ) (a : RunAnswer) (runs : R
       counted-text (runRefusal n b l) (run l (fieldsIn n b)) (fieldsIn n b′) c (sym (runs .answer) ∙ q)
       (λ e. ap (fieldsIn n) (runs .leaves) ∙ run-in-place n b l e)
 
--- what is copied into a buffer of m bytes
-module _ (text buffer : List ℕ) (m n : ℕ) (is : n ≡ length text) (same : m ≡ length buffer) where
-  pub none-copied : m < n → 0 ≡ bytesCopied text buffer
-  unfolding bytesCopied
-  none-copied h = rw (lt-ltb (length buffer) (length text) (omega arith))
-
-  pub all-copied : n ≤ m → n ≡ bytesCopied text buffer
-  unfolding bytesCopied
-  all-copied h = rw (le-ltb (length buffer) (length text) (omega arith)) is
+-- the promise of a text by another term for it
+pub promised-as : (s t buffer : List ℕ) (r : ℕ) (after : List ℕ) → s ≡ t → TextPromise s buffer r after → TextPromise t buffer r after
+promised-as s t buffer r after e p = subst (λ (l : List ℕ). TextPromise l buffer r after) e p
 
 -- never more than the buffer has
 pub copied-fits : (text buffer : List ℕ) (n : ℕ) → n ≡ bytesCopied text buffer → n ≤ length buffer

@@ -1,12 +1,10 @@
 -- What a run leaves in every lent slice, from what each of its calls promises.
-use Prim.Native.Nat.{ℕ, _+_, _≤_}
+use Prim.Native.Nat.{ℕ}
 use mathlib.Core.Path.{_≡_, ap, _∙_}
 use mathlib.Core.Bool.{true}
 use mathlib.Core.Option.{none}
 use mathlib.Core.List.{List, _++_}
-use native.Mathlib.Omega.{arith}
 use lib.ListN.{length, take}
-use borrow.Author.Tests.{le-ltb}
 use Rattle.window.specs.declared.Row.{Row}
 use Rattle.step.specs.declared.ProcessTable.{ProcessTable}
 use Rattle.step.specs.State.{State}
@@ -25,16 +23,12 @@ use Rattle.library.specs.declared.ReadAnswer.{ReadAnswer}
 use Rattle.library.specs.Held.{lentBuffers, roomFrom}
 use Rattle.library.specs.Promises.{ReadPromise, RunPromise, WritePromise}
 use Rattle.report.specs.Report.{rowLines, countsLine, reportOf}
-use Rattle.report_text.specs.Texts.{copiedInto, reportRoom}
+use Rattle.report_text.specs.Texts.{TextPromise}
+use Rattle.report_text.specs.Laws.Texts.{put-whole}
 use Rattle.hep_c.specs.Answers.{Slices, slices, imageRunRefusal, imageRunAnswer, countsListed, imageRunLeft, countsAnswered}
 use Rattle.hep_c.specs.Laws.Fitting.{Accepted, accepted}
 use Rattle.hep_c.specs.Laws.Runs.{counted, fields₂, held₂, wrote, image-written}
 use Rattle.window.specs.Limits.{tasks}
-
--- a copy of a text that has room
-copied-over : (text report : List ℕ) → length text ≤ length report → copiedInto text report ≡ over text report
-unfolding copiedInto
-copied-over text report h = rw (le-ltb (length report) (length text) h)
 
 module _ (image schedule : List ℕ) (i : Image) (n : Sizes) (bytes : Bytes image) (d : decode image ≡ good i) (sizes : sizesOf (stateOf i) ≡ n)
     (rows : List Row) (t₀ : ProcessTable) (seven : length rows ≡ 7)
@@ -93,10 +87,10 @@ module _ (image schedule : List ℕ) (i : Image) (n : Sizes) (bytes : Bytes imag
 
     module _ (w : WriteAnswer) (output₂ : List ℕ) (writes : WritePromise n buffers₂ w output output₂)
         (c : Counts) (c-is : c ≡ countsAnswered y) (k : ℕ) (k-is : k ≡ lengthWritten w)
-        (text : List ℕ) (text-is : text ≡ rowLines t₂ (take (n .rows) rows₂) ++ countsLine c (t₂ .flag)) (m : ℕ) (m-is : m ≡ length text) (short : m ≤ reportRoom)
-        (report₂ : List ℕ) (copied : report₂ ≡ copiedInto text report) (counts₂ : List ℕ) (put : counts₂ ≡ over (countsListed c k m) counts) where
-      shown-is : text ≡ reportOf ran
-      shown-is = text-is ∙ report-is c c-is
+        (m : ℕ) (report₂ : List ℕ) (text : TextPromise (rowLines t₂ (take (n .rows) rows₂) ++ countsLine c (t₂ .flag)) report m report₂)
+        (counts₂ : List ℕ) (put : counts₂ ≡ over (countsListed c k m) counts) where
+      reported : (m ≡ length (reportOf ran)) × (report₂ ≡ over (reportOf ran) report)
+      reported = rw (← report-is c c-is) (put-whole _ report m report₂ text (taken .report-fits))
 
       written-length : k ≡ length (encode (ran .state))
       unfolding lengthWritten
@@ -106,11 +100,8 @@ module _ (image schedule : List ℕ) (i : Image) (n : Sizes) (bytes : Bytes imag
       output-is : output₂ ≡ over (encode (ran .state)) output
       output-is = image-written image schedule i n bytes d sizes buffers₀ buffers₁ buffers₂ fit₀ (taken .schedule-taken) x reads y runs output output₂ w (taken .output-fits) writes
 
-      report-left : report₂ ≡ over (reportOf ran) report
-      report-left = copied ∙ copied-over text report (omega (arith, m-is, short, taken .report-fits)) ∙ ap (λ (l : List ℕ). over l report) shown-is
-
       counts-left : counts₂ ≡ over (countsListed (ran .counts) (length (encode (ran .state))) (length (reportOf ran))) counts
-      counts-left = put ∙ rw (c-is, counts-are, written-length, m-is, shown-is)
+      counts-left = put ∙ rw (c-is, counts-are, written-length, reported .0)
 
       -- every lent slice
       pub all-left : slices constantTags₁ constantWords₁ tags₂ words₂ program₁ dataTags₂ dataWords₂ output₂ counts₂ report₂ ≡ imageRunLeft (imageRunAnswer image schedule lent (decode image)) lent
@@ -127,5 +118,5 @@ module _ (image schedule : List ℕ) (i : Image) (n : Sizes) (bytes : Bytes imag
             ap (λ (b : Buffers). b .dataWords) held,
             output-is,
             counts-left,
-            report-left,
+            reported .1,
           )

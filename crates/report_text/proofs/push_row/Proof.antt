@@ -1,11 +1,10 @@
--- Skeleton and paths (.before ..) are generated: docs/PROOFS.md.
 use mathlib.Core.Path.{_≡_}
 use mathlib.Core.List.{append-assoc}
-use borrow.Author.Needs.{needs}
 use lib.ListN.{length, length-map}
 use Rattle.report.specs.Report.{rowLine}
 use Rattle.report_text.specs.Laws.Lengths.{length-row}
 use Rattle.report_text.specs.Laws.Texts.{appended-twice}
+use borrow.Author.Needs.{needs}
 use Rattle.report_text.proofs.push_row.Statement.{statement}
 use Rattle.report_text.proofs.push_row.Tie as tie
 
@@ -39,13 +38,12 @@ push-pc-requires c κs = search needs
 push-requires-4 : tie.Need-push-requires-4
 push-requires-4 c κs = search needs
 
+same-length : tie.Need-same-length
+same-length c = search needs
+
 returns : tie.Need-returns
 unfolding rowLine
-returns c =
-    let a = c .before .before .before .before .before .before .before .before .before .before .args in
-    let g = c .before .before .before .before .before .before .before .before .before .struct-known .given in
-    let q : length (a .table .live) ≡ 7 = simp length-map at (c .before .before .before .before .before .before .before .before .before .before .good .1 .0 .1 .1 .1 .1 .1 .0 .1 .0 .1) in
-    (length-row (a .table) (a .row) q (g .0 .fits), simp (c .push4 .ensures, c .before .push-pc .ensures, c .before .before .push3 .ensures, c .before .before .before .push-kind .ensures, c .before .before .before .before .push2 .ensures, c .before .before .before .before .before .push-decimal2 .ensures, c .before .before .before .before .before .before .live .ensures, c .before .before .before .before .before .before .before .push .ensures, c .before .before .before .before .before .before .before .before .push-decimal .ensures, appended-twice, append-assoc))
+returns c = let a = c .before .before .before .before .before .before .before .before .before .before .before .before .before .before .before .before .before .before .before .before .before .before .before .before .before .before .before .before .before .before .before .before .before .before .before .args in let q : length (a .table .live) ≡ 7 = simp length-map at (c .before .before .before .before .before .before .before .before .before .before .before .before .before .before .before .before .before .before .before .before .before .before .before .before .before .before .before .before .before .before .before .before .before .before .before .good .1 .1 .0 .1 .1 .1 .1 .1 .0 .1 .0 .1) in (length-row (a .table) (a .row) q (c .before .before .before .before .before .before .before .before .before .before .before .before .before .before .before .before .before .before .before .before .before .before .before .before .before .before .before .before .before .before .before .before .struct-known .given .0 .fits), simp (c .before .before .push4 .ensures, c .before .before .before .before .before .before .push-pc .ensures, c .before .before .before .before .before .before .before .before .before .before .push3 .ensures, c .before .before .before .before .before .before .before .before .before .before .before .before .before .before .push-kind .ensures, c .before .before .before .before .before .before .before .before .before .before .before .before .before .before .before .before .before .before .push2 .ensures, c .before .before .before .before .before .before .before .before .before .before .before .before .before .before .before .before .before .before .before .before .before .before .push-decimal2 .ensures, c .before .before .before .before .before .before .before .before .before .before .before .before .before .before .before .before .before .before .before .before .before .before .before .live .ensures, c .before .before .before .before .before .before .before .before .before .before .before .before .before .before .before .before .before .before .before .before .before .before .before .before .before .before .before .push .ensures, c .before .before .before .before .before .before .before .before .before .before .before .before .before .before .before .before .before .before .before .before .before .before .before .before .before .before .before .before .before .before .before .push-decimal .ensures, appended-twice, append-assoc))
 
 pub push-row-spec : {M : Type 1} → statement M
 push-row-spec =
@@ -61,4 +59,5 @@ push-row-spec =
     push-requires-3
     push-pc-requires
     push-requires-4
+    same-length
     returns)

@@ -13,7 +13,7 @@ use Rattle.step.specs.declared.ProcessTable.{ProcessTable}
 use Rattle.step.specs.State.{liveCount}
 use Rattle.run.specs.declared.Counts.{Counts}
 use Rattle.report.specs.Report.{decimalBy, decimal, hexDigit, hex, kindText, pcText, rowLine, rowLines, countsLine, newline}
-use Rattle.report_text.specs.Texts.{longestRow, longestCounts, longestReport, reportRoom}
+use Rattle.report_text.specs.Texts.{longestRow, longestCounts, longestReport}
 
 -- past the counts there are none
 pub no-count : (table : ProcessTable) (task : ℕ) → length (table .live) ≡ 7 → 7 ≤ task - 1 → liveCount table task ≡ 0
@@ -101,9 +101,9 @@ length-counts c flag h =
       digits-3 20 flag (omega arith),
     ))
 
-pub length-refusal : (n : ℕ) → length (82 ∷ decimal n) + length newline ≤ reportRoom
+pub length-refusal : (n : ℕ) → length ((82 ∷ decimal n) ++ newline) ≤ longestReport
 unfolding decimal
-length-refusal n = omega (arith, digits-at-most 20 n)
+length-refusal n = omega (arith, length-append (82 ∷ decimal n) newline, digits-at-most 20 n)
 
 -- ---- the bounds are reached
 
