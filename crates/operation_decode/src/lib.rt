@@ -4,7 +4,7 @@ ghost use mathlib.Core.Bool.{cond};
 ghost use lib.Dec.{eqb};
 ghost use Rattle.operation.specs.declared.Code.the-variants.{Unlisted};
 ghost use Rattle.operation.specs.Codes.{callOf, quitOf, dataCodeOf, codeOf};
-ghost use Rattle.operation_decode.specs.Code.Columns.{columnOf};
+ghost use Rattle.operation_decode.specs.Code.Columns.{columnOf, privilegedOf};
 use operation::Code;
 use operation::One;
 use operation::Operation;
@@ -49,16 +49,6 @@ fn only(low: u16, key: u16, code: Code) -> Code
     ensures { λ r. ⌜ r ≡ cond (eqb low key) code Unlisted ⌝ }
 {
     if low == key { code } else { Code::Unlisted }
-}
-
-// One of two codes under a left byte that mean the same.
-fn either(low: u16, a: u16, b: u16, code: Code) -> Code
-    ensures { λ r. ⌜ r ≡ cond (eqb low a) code (cond (eqb low b) code Unlisted) ⌝ }
-{
-    if low == a {
-        return code;
-    }
-    only(low, b, code)
 }
 
 fn codes_41(low: u16) -> Code
@@ -120,25 +110,38 @@ fn codes_77(low: u16) -> Code
     }
 }
 
-fn codes_99(low: u16) -> Code
-    ensures { λ r. ⌜ r ≡ columnOf 0x99 low ⌝ }
+// The codes on chapter 5 pages marked privileged.
+fn privileged_code(code: u16) -> Code
+    ensures { λ r. ⌜ r ≡ privilegedOf code ⌝ }
 {
-    match low {
-        0x00 => Code::Privileged,
-        0x01 => Code::Privileged,
-        0x02 => Code::Privileged,
-        0x03 => Code::Privileged,
-        _ => Code::Unlisted,
-    }
-}
-
-fn codes_e7(low: u16) -> Code
-    ensures { λ r. ⌜ r ≡ columnOf 0xE7 low ⌝ }
-{
-    match low {
-        0x05 => Code::Privileged,
-        0x06 => Code::Privileged,
-        0x07 => Code::Privileged,
+    match code {
+        0x0700 => Code::Privileged,
+        0x3601 => Code::Privileged,
+        0x3700 => Code::Privileged,
+        0x3B7F => Code::Privileged,
+        0x3C00 => Code::Privileged,
+        0x4A00 => Code::Privileged,
+        0x5700 => Code::Privileged,
+        0x5800 => Code::Privileged,
+        0x7600 => Code::Privileged,
+        0x8700 => Code::Privileged,
+        0x8701 => Code::Privileged,
+        0x9900 => Code::Privileged,
+        0x9901 => Code::Privileged,
+        0x9902 => Code::Privileged,
+        0x9903 => Code::Privileged,
+        0xB700 => Code::Privileged,
+        0xC900 => Code::Privileged,
+        0xD700 => Code::Privileged,
+        0xE10E => Code::Privileged,
+        0xE11F => Code::Privileged,
+        0xE705 => Code::Privileged,
+        0xE706 => Code::Privileged,
+        0xE707 => Code::Privileged,
+        0xE97F => Code::Privileged,
+        0xEC00 => Code::Privileged,
+        0xF101 => Code::Privileged,
+        0xF10D => Code::Privileged,
         _ => Code::Unlisted,
     }
 }
@@ -151,42 +154,42 @@ pub fn decode(code: u16) -> Code
     let low = code % 256;
     match high {
         0x00 => only(low, 0, Code::Listed(Operation::Nop)),
-        0x07 => only(low, 0, Code::Privileged),
         0x09 => only(low, 0, Code::Svc),
         0x19 => quit_code(low),
-        0x36 => only(low, 1, Code::Privileged),
-        0x37 => only(low, 0, Code::Privileged),
         0x38 => Code::Listed(Operation::Branch(low / 16, low % 16)),
         0x39 => Code::Listed(Operation::Create(low / 16, low % 16)),
-        0x3B => only(low, 0x7F, Code::Privileged),
-        0x3C => only(low, 0, Code::Privileged),
         0x41 => codes_41(low),
-        0x4A => only(low, 0, Code::Privileged),
-        0x57 => only(low, 0, Code::Privileged),
-        0x58 => only(low, 0, Code::Privileged),
         0x61 => codes_61(low),
         0x67 => codes_67(low),
         0x6C => data_code(Operation::LoadIndirect(low), low),
         0x71 => codes_71(low),
         0x72 => only(low, 0, Code::Simulated),
         0x73 => only(low, 0x20, Code::Listed(Operation::Three(Three::Mul))),
-        0x76 => only(low, 0, Code::Privileged),
         0x77 => codes_77(low),
         0x79 => call_code(low),
         0x7C => data_code(Operation::LoadIndexed(low), low),
         0x7F => only(low, 0, Code::Simulated),
-        0x87 => either(low, 0, 1, Code::Privileged),
-        0x99 => codes_99(low),
-        0xB7 => only(low, 0, Code::Privileged),
         0xBC => data_code(Operation::StoreIndirect(low), low),
-        0xC9 => only(low, 0, Code::Privileged),
-        0xD7 => only(low, 0, Code::Privileged),
-        0xE1 => either(low, 0x0E, 0x1F, Code::Privileged),
-        0xE7 => codes_e7(low),
-        0xE9 => only(low, 0x7F, Code::Privileged),
-        0xEC => only(low, 0, Code::Privileged),
-        0xF1 => either(low, 0x01, 0x0D, Code::Privileged),
         0xFC => data_code(Operation::StoreIndexed(low), low),
+        0x07
+        | 0x36
+        | 0x37
+        | 0x3B
+        | 0x3C
+        | 0x4A
+        | 0x57
+        | 0x58
+        | 0x76
+        | 0x87
+        | 0x99
+        | 0xB7
+        | 0xC9
+        | 0xD7
+        | 0xE1
+        | 0xE7
+        | 0xE9
+        | 0xEC
+        | 0xF1 => privileged_code(code),
         _ => Code::Unlisted,
     }
 }

@@ -7,9 +7,13 @@ use Rattle.operation.specs.declared.Code.{Code}
 use Rattle.operation.specs.declared.Code.the-variants.{Privileged, Simulated, Unlisted}
 use Rattle.operation.specs.Codes.{Line, line, find, privileged, simulated, singleCodes, families}
 
+-- the privileged codes by themselves
+unfoldable pub privilegedLines : List Line
+privilegedLines = map (λ k. line k Privileged) privileged
+
 -- the codes that stand for themselves
 unfoldable pub singles : List Line
-singles = map (λ k. line k Privileged) privileged ++ (map (λ k. line k Simulated) simulated ++ singleCodes)
+singles = privilegedLines ++ (map (λ k. line k Simulated) simulated ++ singleCodes)
 
 -- a line before the others, where the flag holds
 unfoldable pub kept : Bool → Line → List Line → List Line
@@ -23,3 +27,6 @@ under h (l ∷ ls) = kept (eqb (l .key / 256) h) (line (l .key % 256) (l .meanin
 
 unfoldable pub columnOf : ℕ → ℕ → Code
 columnOf h low = find (under h singles) low (find (families low) h Unlisted)
+
+unfoldable pub privilegedOf : ℕ → Code
+privilegedOf code = find privilegedLines code Unlisted
