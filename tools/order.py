@@ -3,7 +3,8 @@
 
     python3 tools/order.py [LOG]      prints them: each crate with the dependencies that it needs, by level and, within a level, by falling
                                       seconds of LOG (what `rt ci` printed), without LOG in the order of today
-    python3 tools/order.py --check    fails where crates.txt lists more or fewer dependencies than are needed
+    python3 tools/order.py --check    fails where crates.txt lists more or fewer dependencies than are needed, or where the picture of
+                                      docs/ARCHITECTURE.md has a crate beside other definitions than the highest that it uses
 
 A crate needs the crates that it names in its code, specs and proofs, and those whose types it reaches: through the fields of the types that
 it names, and through the parameters and answers of the functions of a crate that it calls.
@@ -68,10 +69,35 @@ def needed(crate):
 
 
 uses = {c: needed(c) - {c} for c in listed}
+
+
+def misplaced():
+    """What the picture of the layers says and crates.txt does not: its lines from the top, each a crate of definitions, words, crates of code."""
+    picture = open("docs/ARCHITECTURE.md").read().split("## Layers")[1].split("\n## ")[0]
+    lines = [re.split(r" {2,}", line.strip()) for line in picture.split("\n") if line.startswith("    ")]
+    layers = [(line[0], " ".join(line[2:]).split()) for line in lines]
+    names = [layer for layer, _ in layers]
+    drawn = {crate: layer for layer, codes in layers for crate in codes}
+    for crate in set(listed) - set(names) - set(drawn):
+        yield f"{crate} is not in the picture"
+    for crate, layer in drawn.items():
+        highest = next((name for name in names if name in all_uses(crate)), None)
+        if layer != highest:
+            yield f"{crate} stands beside {layer}, the highest definitions that it uses are {highest}"
+    for above, below in zip(names, names[1:]):
+        if above in all_uses(below):
+            yield f"{below} uses {above}, which stands above it"
+
+
+def all_uses(crate):
+    return uses.get(crate, set()).union(*(all_uses(d) for d in uses.get(crate, ())))
+
+
 if "--check" in sys.argv:
-    wrong = [c for c in listed if set(listed[c]) != uses[c]]
-    for c in wrong:
-        print(f"crates.txt: {c} lists too many: {sorted(set(listed[c]) - uses[c])}, too few: {sorted(uses[c] - set(listed[c]))}")
+    wrong = [
+        f"crates.txt: {c} lists too many: {sorted(set(listed[c]) - uses[c])}, too few: {sorted(uses[c] - set(listed[c]))}" for c in listed if set(listed[c]) != uses[c]
+    ] + [f"docs/ARCHITECTURE.md: {line}" for line in misplaced()]
+    print("\n".join(wrong), end="\n" if wrong else "")
     sys.exit(1 if wrong else 0)
 
 
