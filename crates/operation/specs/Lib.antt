@@ -8,6 +8,7 @@ pub mod Decide
 pub mod Exclusions
 pub mod Instances
 pub mod PartInstances
+pub mod FieldInstances
 pub mod Filling
 pub mod Code
 pub mod Laws
