@@ -7,5 +7,5 @@ pub mod RoundTrips
 pub mod LiveCounts
 pub mod SectionNumbers
 pub mod Trials
-pub mod EndTrials
+pub mod ImageInstances
 pub mod Laws
