@@ -15,7 +15,8 @@ use Rattle.image.specs.Fields.{over}
 use Rattle.library.specs.declared.Sizes.{Sizes}
 use Rattle.library.specs.Buffers.{Buffers, roomOf, fieldsIn, holding}
 use Rattle.library.specs.Calls.{unless, leaving, stepRefusal, stepAnswer, stepLeaves}
-use Rattle.library.specs.Laws.InPlace.{step-fits, step-sized}
+use Rattle.library.specs.Laws.InPlace.{step-sized}
+use Rattle.library.specs.Laws.Refused.{step-parts}
 use Rattle.library.specs.Laws.Places.{fitting, over-first}
 
 -- two lists of one length that agree at a, with the same behind them
@@ -56,7 +57,7 @@ registers-kept n b t a h =
     left-by-step n b t (λ (x : Buffers). SameAt a (memory (x .registerTags) (x .registerWords)) (memory (b .registerTags) (b .registerWords)))
     (record { tag = refl; word = refl })
     (λ q.
-    let f = step-fits n b t q in
+    let f = step-parts n b t q .0 in
     let g = fitting n (roomOf b) f in
     let z = step-sized n b t f in
     memory-kept (n .registers) a (b .registerTags) (b .registerWords) (step t (fieldsIn n b) .state .registers) (g .registerTags) (g .registerWords)
@@ -69,7 +70,7 @@ data-kept n b t a h =
     left-by-step n b t (λ (x : Buffers). SameAt a (memory (x .dataTags) (x .dataWords)) (memory (b .dataTags) (b .dataWords)))
     (record { tag = refl; word = refl })
     (λ q.
-    let f = step-fits n b t q in
+    let f = step-parts n b t q .0 in
     let g = fitting n (roomOf b) f in
     let z = step-sized n b t f in
     memory-kept (n .data_words) a (b .dataTags) (b .dataWords) (step t (fieldsIn n b) .state .dataWords) (g .dataTags) (g .dataWords)
