@@ -139,8 +139,11 @@ pub record Trials : Type 0 where
   pub two : outputOf twoItems ≡ letters "1 1 14 00000\nE0 W0 T1 I1 CF0\n"
   -- three processes, of which two leave by QT always
   pub quits : reportOf (run (1 ∷ 1 ∷ []) (machine 3 (instructionWord 0x1970 0 0 0x4000) 0 0)) ≡ letters "1 1 -- -----\nE2 W0 T0 I0 CF0\n"
+  -- the longest input, and a byte more: 11
+  pub longest : outputOf (replicate 65536 0) ≡ letters "R4\n"
+  pub longer : outputOf (replicate 65537 0) ≡ letters "R11\n"
   pub exclusions : Excluded
 
 pub trials : Trials
 unfolding opened letters unspaced hexValue pairsOf hexBytes printedInput printedOutput twoItems instructionWord trialRow upTo machine
-trials = record { starred-ones = starred; printed = refl; two = refl; quits = refl; exclusions = excluded }
+trials = record { starred-ones = starred; printed = refl; two = refl; quits = refl; longest = refl; longer = refl; exclusions = excluded }

@@ -1,7 +1,7 @@
 -- Calls that aren't refused, one after another: what the buffers hold after the first is what the second finds.
 use Prim.Native.Nat.{ℕ, _≤_}
-use mathlib.Core.Path.{_≡_, refl, sym, ap, _∙_, subst}
-use mathlib.Core.Bool.{Bool, true, false, cond, not, false≢true}
+use mathlib.Core.Path.{_≡_, sym, ap, _∙_, subst}
+use mathlib.Core.Bool.{Bool, true, cond, not}
 use mathlib.Core.Option.{Option, none, some}
 use mathlib.Core.List.{List}
 use native.Mathlib.Omega.{arith}
@@ -11,7 +11,8 @@ use Rattle.refusal.specs.declared.Refusal.{Refusal}
 use Rattle.refusal.specs.declared.Refusal.the-variants.{ShortBuffer}
 use Rattle.step.specs.State.{State}
 use Rattle.step.specs.Soundness.{sound}
-use Rattle.run.specs.Schedule.{scheduleRefusal, accepts, scheduleSound}
+use Rattle.run.specs.Schedule.{scheduleSound}
+use Rattle.run.specs.Laws.Run.{sound-unrefused}
 use Rattle.run.specs.Run.{run}
 use Rattle.run.specs.Kept.{run-keeps-sound}
 use Rattle.image.specs.Codec.{Bytes}
@@ -57,14 +58,9 @@ pub state-unrefused : (n : Sizes) (b : Buffers) → fits n (roomOf b) ≡ true �
 unfolding stateRefusal stateRefused
 state-unrefused n b f e = rw (f, e)
 
-accepts-none : (o : Option Refusal) → accepts o ≡ true → o ≡ none
-unfolding accepts
-accepts-none none e = refl
-accepts-none (some x) e = absurd (false≢true e)
-
 pub run-unrefused : (n : Sizes) (b : Buffers) (schedule : List ℕ) → stateRefusal n b ≡ none → scheduleSound schedule ≡ true → runRefusal n b schedule ≡ none
-unfolding runRefusal orElse scheduleSound
-run-unrefused n b schedule e ok = rw (e, accepts-none (scheduleRefusal schedule) ok)
+unfolding runRefusal orElse
+run-unrefused n b schedule e ok = rw (e, sound-unrefused schedule ok)
 
 pub output-unrefused : (room : ℕ) (image : List ℕ) → length image ≤ room → outputRefusal room image ≡ none
 unfolding outputRefusal

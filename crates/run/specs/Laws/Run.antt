@@ -1,9 +1,12 @@
 -- A run: its counts add up to the schedule's length, whatever was counted before, and the flag never falls. For any instruction set.
 use mathlib.Core.Path.{_≡_, refl, sym, ap, _∙_, subst}
+use mathlib.Core.Bool.{true, false≢true}
+use mathlib.Core.Option.{Option, none, some}
 use mathlib.Core.List.{List, [], _∷_}
 use Prim.Native.Nat.{ℕ, suc, _+_}
 use native.Mathlib.Omega.{arith}
 use lib.ListN.{length}
+use Rattle.refusal.specs.declared.Refusal.{Refusal}
 use Rattle.operation.specs.Environment.{Environment}
 use Rattle.operation.specs.declared.Decision.{Decision}
 use Rattle.operation.specs.Decide.{decide}
@@ -15,6 +18,7 @@ use Rattle.step.specs.LiveCounts.{Counted, step-keeps-counted}
 use Rattle.step.specs.Laws.Step.{flag-kept}
 use Rattle.step.specs.Laws.Lengths.{SameLengths, same-lengths, lengths-join, step-lengths}
 use Rattle.run.specs.declared.Counts.{Counts}
+use Rattle.run.specs.Schedule.{scheduleRefusal, accepts, scheduleSound}
 use Rattle.run.specs.Run.{counted, noCounts, runBy, run}
 
 -- executed + waved + trapped + idle
@@ -27,6 +31,15 @@ sum-counted Executed c = omega arith
 sum-counted Waved c = omega arith
 sum-counted (Trapped k p) c = omega arith
 sum-counted Idle c = omega arith
+
+-- a schedule that is accepted isn't refused
+pub sound-unrefused : (schedule : List ℕ) → scheduleSound schedule ≡ true → scheduleRefusal schedule ≡ none
+unfolding scheduleSound accepts
+sound-unrefused schedule e = go (scheduleRefusal schedule) e
+  where
+    go : (o : Option Refusal) → accepts o ≡ true → o ≡ none
+    go none k = refl
+    go (some x) k = absurd (false≢true k)
 
 -- the order in which two endings are counted doesn't matter
 counted-turned : (e f : Ending) (c : Counts) → counted e (counted f c) ≡ counted f (counted e c)
