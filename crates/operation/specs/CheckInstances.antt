@@ -3,6 +3,7 @@ use Prim.Native.Nat.{ℕ, _+_, _-_, _*_, _^_}
 use mathlib.Core.Path.{_≡_, refl}
 use mathlib.Core.List.{List, [], _∷_, map}
 use lib.ListN.{replicate}
+use Rattle.word.specs.Fields.{pswOf}
 use Rattle.window.specs.declared.Row.{Row}
 use Rattle.window.specs.declared.Place.the-variants.{At, Violation}
 use Rattle.window.specs.declared.Write.the-variants.{Nothing, Put}
@@ -75,6 +76,11 @@ pub record CheckTrials : Type 0 where
   pub outside : words (
     instructionWord 0x611F 0x4000 0x4001 0 ∷ instructionWord 0x7126 0x0002 0x4001 0x4001 ∷ instructionWord 0x7126 0 0x0002 0x4001
     ∷ instructionWord 0x7126 0 0x4001 0x0002 ∷ []) ≡ replicate 4 violation
+  -- an indexed register and constant, under CI 3 and RI 1, as source and as D; under RI 2 past register 7
+  pub indexedRegister : decideOn (pswOf 3 1 0 0) (instructionWord 0x611F 0 0x8000 0) ≡ does (Put 6 (cell 0 30)) Nothing (Continues (pswOf 3 1 0 1))
+  pub indexedConstant : decideOn (pswOf 3 1 0 0) (instructionWord 0x611F 0 0xC001 0) ≡ does (Put 6 (cell 0 8)) Nothing (Continues (pswOf 3 1 0 1))
+  pub indexedD : decideOn (pswOf 3 1 0 0) (instructionWord 0x611F 0x8000 0x4001 0) ≡ does (Put 7 (cell 0 12)) Nothing (Continues (pswOf 3 1 0 1))
+  pub indexedOutside : decideOn (pswOf 3 2 0 0) (instructionWord 0x611F 0 0x8000 0) ≡ Traps ProtectionViolation (pswOf 3 2 0 0)
   -- 5, and what is left: an empty source, a full one, an empty destination, a full one under each access code
   pub emptySource : sources 0 ≡ gets 0 20 ∷ Waits Access ∷ Waits Access ∷ gets 0 20 ∷ replicate 4 illegal
   pub fullSource : sources 1
@@ -121,6 +127,10 @@ check-trials = record {
   constant = refl;
   svc = refl;
   outside = refl;
+  indexedRegister = refl;
+  indexedConstant = refl;
+  indexedD = refl;
+  indexedOutside = refl;
   emptySource = refl;
   fullSource = refl;
   emptyDestination = refl;
