@@ -19,7 +19,7 @@ use Rattle.run.specs.Kept.{run-keeps-sound}
 use Rattle.image.specs.Codec.{Bytes}
 use Rattle.image.specs.Image.{Image, stateOf, good, decode}
 use Rattle.image.specs.RoundTrips.{reads-only-sound}
-use Rattle.report.specs.Report.{decimal, space, newline, kindText, pcText, rowLine, rowLines, countsLine, reportOf, mostInput, outputRun, outputRead, outputScheduled, outputOf}
+use Rattle.report.specs.Report.{decimal, space, newline, kindText, pcText, rowLine, rowLines, reportOf, mostInput, outputRun, outputRead, outputScheduled, outputOf}
 use Rattle.report.specs.Lines.{WholeInput, lineOf, taskLine, StandsIn, Printed}
 
 -- ---- where it stands
@@ -51,7 +51,7 @@ line-printed t x line e = go (findRow t (x .state .rows)) refl e
     go none q k = absurd (none-some line k)
     go (some r) q k =
         subst (λ (y : List ℕ). StandsIn (x .state .table) y (reportOf x)) (some-inj (rowLine (x .state .table) r) line k)
-        (behind-more (countsLine (x .counts) (x .state .table .flag)) (lines-found (x .state .table) t (x .state .rows) r q))
+        (behind-more _ (lines-found (x .state .table) t (x .state .rows) r q))
 
 -- ---- it goes by what the task owns
 
