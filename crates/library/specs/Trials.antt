@@ -9,6 +9,7 @@ use Rattle.refusal.specs.Numbers.{numberOf}
 use Rattle.window.specs.Memories.{cell}
 use Rattle.step.specs.declared.ProcessTable.{ProcessTable}
 use Rattle.step.specs.Act.{tableOf}
+use Rattle.step.specs.Step.{noTrap}
 use Rattle.step.specs.declared.Ending.the-variants.{Executed, Idle}
 use Rattle.image.specs.Image.{Image, imageCodec, queueOf, stateOf}
 use Rattle.library.specs.declared.Sizes.{Sizes}
@@ -25,7 +26,7 @@ numbered (some e) = numberOf e
 
 unfoldable pub trialImage : Image
 trialImage = record {
-  rows = record { task = 2; cb = 0; rb = 0; rl = 0; pb = 0; pl = 0; db = 1; dl = 0; kind = 255; psw = 0 } ∷ [];
+  rows = record { task = 2; cb = 0; rb = 0; rl = 0; pb = 0; pl = 0; db = 1; dl = 0; kind = noTrap; psw = 0 } ∷ [];
   flag = 0;
   processes = record { pt = 4; task = 2; psw = 0 } ∷ [];
   constants = cell 3 5 ∷ [];

@@ -16,6 +16,7 @@ use Rattle.operation.specs.declared.Trap.the-variants.{PrivilegedInstruction}
 use Rattle.step.specs.State.{processesOf}
 use Rattle.step.specs.Owned.{owner, own}
 use Rattle.step.specs.Act.{trappedRow}
+use Rattle.step.specs.Step.{noTrap}
 use Rattle.run.specs.Run.{counts, Ran, run}
 use Rattle.run.specs.Compared.{Compared, cut}
 use Rattle.run.specs.Laws.AloneTest.{alone-of}
@@ -42,7 +43,7 @@ instanceRow task place = record {
   pl = place;
   db = place;
   dl = place;
-  kind = 255;
+  kind = noTrap;
   psw = 0;
 }
 
