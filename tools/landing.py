@@ -83,20 +83,26 @@ def changed(before, after):
 def moved(before, after):
     old, new = items(before), items(after)
     print(f"From {git('rev-parse', '--short', before).strip()} to {git('rev-parse', '--short', after).strip()}, by `tools/landing.py`.\n")
-    print("| Kind | Stayed | Moved, with lines gained and lost | New, with lines | Gone |\n|---|---|---|---|---|")
+    lists = []
+    print("| Kind | Stayed | Moved | New | Gone |\n|---|---|---|---|---|")
     for kind in KINDS:
-        cells, stayed = {"moved": [], "new": [], "gone": []}, 0
+        cells, stayed = {"moved, with lines gained and lost": [], "new, with lines": [], "gone": []}, 0
+        moves, news, gone = cells.values()
         for key in sorted(k for k in set(old) | set(new) if k[0] == kind):
             name = f"{key[1]} / {key[2]}"
             if key not in new:
-                cells["gone"].append(name)
+                gone.append(name)
             elif key not in old:
-                cells["new"].append(f"{name} {len(new[key])}")
+                news.append(f"{name} {len(new[key])}")
             elif old[key] == new[key]:
                 stayed += 1
             else:
-                cells["moved"].append("{} +{} -{}".format(name, *changed(old[key], new[key])))
-        print(f"| {kind} | {stayed} | " + " | ".join(", ".join(cells[c]) for c in ("moved", "new", "gone")) + " |")
+                moves.append("{} +{} -{}".format(name, *changed(old[key], new[key])))
+        print(f"| {kind} | {stayed} | {len(moves)} | {len(news)} | {len(gone)} |")
+        lists += [(kind, how, names) for how, names in cells.items() if names]
+    for kind, how, names in lists:
+        print(f"\n{kind.capitalize()}, {how}:\n")
+        print("\n".join(f"- {name}" for name in names))
 
 
 def outside(before, after):

@@ -2,6 +2,7 @@
 pub mod Rows
 pub mod Seven
 pub mod Lent
+pub mod Called
 pub mod Read
 pub mod Run
 pub mod Step

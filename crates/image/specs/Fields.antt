@@ -9,7 +9,7 @@ use Rattle.window.specs.Memories.{Memory}
 use Rattle.step.specs.declared.Queue.{Queue}
 use Rattle.step.specs.Queues.{places, ptCount}
 use Rattle.step.specs.State.{State}
-use Rattle.step.specs.Soundness.{every, liveSound}
+use Rattle.step.specs.Soundness.{every}
 use Rattle.image.specs.Codec.{Bytes}
 use Rattle.image.specs.Image.{Image, good, stateOf, imageOf, decode}
 use Rattle.window.specs.Limits.{tasks}
@@ -30,12 +30,12 @@ pub record SomeImageReads (s : State) : Type 0 where
 unfoldable pub paired : Memory → Bool
 paired m = eqb (length (m .tags)) (length (m .words))
 
--- what no image shows: the lengths of the arrays (64 PSWs, 7 queues of 64 places, as many tags as words), and the live counts
+-- the lengths of the arrays, which no image shows: 64 PSWs, 7 queues of 64 places, as many tags as words
 unfoldable pub shaped : State → Bool
 shaped s =
     (eqb (length (s .table .psw)) ptCount
     && (eqb (length (s .table .queues)) tasks && every (λ n. eqb n places) (map (λ (q : Queue). length (q .pts)) (s .table .queues))))
-    && (liveSound (s .table) && (paired (s .constants) && (paired (s .registers) && paired (s .dataWords))))
+    && (paired (s .constants) && (paired (s .registers) && paired (s .dataWords)))
 
 -- a lent buffer with elements in its first places; beyond them it isn't touched
 abbrev pub over : {A : Type 0} → (elements buffer : List A) → List A

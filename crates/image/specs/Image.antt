@@ -116,6 +116,19 @@ cellCodec e allowed = via toCell fromCell (seq (num 1 e allowed) (λ tag. wordCo
 unfoldable pub cellsCodec : (e : Refusal) → (allowed : ℕ → Bool) → (w most : ℕ) → Codec (List Cell)
 cellsCodec e allowed w most = uniformSection (cellCodec e allowed) w most
 
+-- the four sections
+abbrev pub constantsCodec : Codec (List Cell)
+constantsCodec = cellsCodec ConstantField qualitySound 2 mostConstants
+
+abbrev pub registersCodec : Codec (List Cell)
+registersCodec = cellsCodec CellField tagSound 2 mostRegisters
+
+abbrev pub programCodec : Codec (List ℕ)
+programCodec = wordsCodec 4 mostProgram
+
+abbrev pub dataCodec : Codec (List Cell)
+dataCodec = cellsCodec CellField stateSound 4 mostData
+
 -- ---- the whole
 
 abbrev pub ImageFields : Type 0
@@ -142,10 +155,10 @@ imageCodec =
     via toImage fromImage
     (seq tasksCodec (λ rows.
     seq (processesCodec rows) (λ processes.
-    seq (cellsCodec ConstantField qualitySound 2 mostConstants) (λ constants.
-    seq (cellsCodec CellField tagSound 2 mostRegisters) (λ registers.
-    seq (wordsCodec 4 mostProgram) (λ program.
-    cellsCodec CellField stateSound 4 mostData))))))
+    seq constantsCodec (λ constants.
+    seq registersCodec (λ registers.
+    seq programCodec (λ program.
+    dataCodec))))))
 
 -- the bytes of a row and of a process
 abbrev pub rowLength : ℕ

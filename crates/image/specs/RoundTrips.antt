@@ -1,4 +1,4 @@
--- Round trips: reading and writing undo each other, and a state is sound exactly if some image reads as it.
+-- Round trips: reading and writing undo each other, and which states are sound.
 use Prim.Native.Nat.{ℕ}
 use mathlib.Core.Path.{_≡_}
 use mathlib.Core.Bool.{true}
@@ -6,6 +6,8 @@ use mathlib.Core.List.{List}
 use mathlib.Core.Logic.{_↔_}
 use Rattle.step.specs.State.{State}
 use Rattle.step.specs.Soundness.{sound}
+use Rattle.step.specs.LiveCounts.{Counted, sound-counted}
+use Rattle.step.specs.Laws.LiveCounts.{counted-passes}
 use Rattle.image.specs.Codec.{Bytes}
 use Rattle.image.specs.Image.{Image, good, stateOf, imageOf, decode, encode}
 use Rattle.image.specs.Fields.{SameFields, SomeImageReads, shaped}
@@ -32,6 +34,10 @@ read-back s e = same-again s e
 pub reads-only-sound : (bytes : List ℕ) → Bytes bytes → (i : Image) → decode bytes ≡ good i → sound (stateOf i) ≡ true
 reads-only-sound b hb i h = decode-sound b hb i h
 
--- where its arrays have these lengths, a state is sound (refusal 8 doesn't apply) exactly if some accepted image reads as it
-pub sound-iff : (s : State) → (sound s ≡ true) ↔ ((shaped s ≡ true) × SomeImageReads s)
-sound-iff s = (λ e. (shape-shaped s (shape-of s e), image-of-sound s e), λ p. sound-of-image s (p .0) (p .1))
+-- a state is sound exactly if its arrays have the machine's lengths, its live counts are those found by counting, and some accepted image
+-- reads as it
+pub sound-iff : (s : State) → (sound s ≡ true) ↔ ((shaped s ≡ true) × (Counted (s .table) × SomeImageReads s))
+sound-iff s = (
+  (λ e. (shape-shaped s (shape-of s e), (sound-counted s e, image-of-sound s e))),
+  (λ p. sound-of-image s (p .0) (counted-passes (s .table) (p .1 .0 .counts) (p .1 .0 .total)) (p .1 .1)),
+)

@@ -1,12 +1,9 @@
 -- The section at which reading stops.
 use Prim.Native.Nat.{ℕ}
 use mathlib.Core.List.{List}
-use Rattle.window.specs.Sound.{qualitySound, tagSound, stateSound}
-use Rattle.window.specs.Limits.{mostConstants, mostRegisters, mostProgram, mostData}
 use Rattle.refusal.specs.declared.Refusal.{Refusal}
-use Rattle.refusal.specs.declared.Refusal.the-variants.{ConstantField, CellField}
 use Rattle.image.specs.Codec.{Result, refused, accepted}
-use Rattle.image.specs.Image.{tasksCodec, processesCodec, wordsCodec, cellsCodec}
+use Rattle.image.specs.Image.{tasksCodec, processesCodec, constantsCodec, registersCodec, programCodec, dataCodec}
 
 -- the sections, in byte order
 pub data Section : Type 0 where
@@ -31,7 +28,7 @@ unfoldable pub stopOf : List ℕ → Stop
 stopOf b =
     reads Tasks (tasksCodec .dec b) (λ rows r₁.
     reads Processes (processesCodec rows .dec r₁) (λ processes r₂.
-    reads Constants (cellsCodec ConstantField qualitySound 2 mostConstants .dec r₂) (λ constants r₃.
-    reads Registers (cellsCodec CellField tagSound 2 mostRegisters .dec r₃) (λ registers r₄.
-    reads Program (wordsCodec 4 mostProgram .dec r₄) (λ program r₅.
-    reads DataWords (cellsCodec CellField stateSound 4 mostData .dec r₅) (λ dataWords r₆. behind))))))
+    reads Constants (constantsCodec .dec r₂) (λ constants r₃.
+    reads Registers (registersCodec .dec r₃) (λ registers r₄.
+    reads Program (programCodec .dec r₄) (λ program r₅.
+    reads DataWords (dataCodec .dec r₅) (λ dataWords r₆. behind))))))

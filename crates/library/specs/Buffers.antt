@@ -1,4 +1,4 @@
--- A state as the library's callers hold it: lent buffers, and the counts of the fields that lie in them.
+-- A state as the library's callers hold it: lent buffers, and the sizes of the fields that lie in them.
 use Prim.Native.Nat.{ℕ}
 use mathlib.Core.Bool.{Bool, _&&_}
 use mathlib.Core.List.{List}
@@ -46,7 +46,7 @@ roomOf b = record {
   dataWords = length (b .dataWords);
 }
 
--- no count is above its buffer
+-- no size is above its buffer
 unfoldable pub fits : Sizes → Room → Bool
 fits n room =
     leb (n .rows) (room .rows)
@@ -57,7 +57,7 @@ fits n room =
     && (leb (n .program) (room .program)
     && (leb (n .data_words) (room .dataTags) && leb (n .data_words) (room .dataWords)))))))
 
--- the counts of a state's fields
+-- the sizes of a state's fields
 unfoldable pub sizesOf : State → Sizes
 sizesOf s = record {
   rows = length (s .rows);
@@ -67,7 +67,7 @@ sizesOf s = record {
   data_words = length (s .dataWords .words);
 }
 
--- a state is the fields of its image: the first places of each buffer, as many as its count says
+-- a state is the fields of its image: the first places of each buffer, as many as its size says
 unfoldable pub fieldsIn : Sizes → Buffers → State
 fieldsIn n b = record {
   rows = take (n .rows) (b .rows);

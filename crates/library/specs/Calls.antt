@@ -65,7 +65,8 @@ readLeaves b bytes = decodedLeaves b (decode bytes)
 
 -- ---- a state in buffers
 
--- a state buffer is shorter than its count, or no image reads as this state
+-- a state buffer is shorter than its size, or the state isn't sound: no image reads as it, an array has another length, or a live count is not
+-- the one found by counting
 unfoldable pub stateRefused : Sizes → Buffers → Bool
 stateRefused n b = not (fits n (roomOf b) && sound (fieldsIn n b))
 

@@ -5,12 +5,12 @@ use mathlib.Core.Option.{none}
 use mathlib.Core.List.{List}
 use Rattle.step.specs.Step.{step}
 use Rattle.run.specs.Run.{run}
-use Rattle.run.specs.Laws.Run.{run-lengths}
 use Rattle.image.specs.Image.{Image, stateOf, good, decode}
 use Rattle.library.specs.declared.Sizes.{Sizes}
 use Rattle.library.specs.Buffers.{Buffers, roomOf, sizesOf, fieldsIn, spareIn}
 use Rattle.library.specs.Calls.{unless, leaving, readRefusal, readLeaves, runRefusal, runAnswer, runLeaves, stepRefusal, stepAnswer, stepLeaves}
-use Rattle.library.specs.Laws.InPlace.{held-by-read, holding-fields, holding-spare, fields-sized, lengths-sized, read-sized, run-fits, step-fits, step-sized}
+use Rattle.library.specs.Laws.InPlace.{held-by-read, holding-fields, holding-spare, read-sized, run-sized, step-sized}
+use Rattle.library.specs.Laws.Refused.{run-parts, step-parts}
 
 -- after a reading that isn't refused the first places of the buffers, by the counts that it answers, are the state that was read
 pub read-in-place : (b : Buffers) (bytes : List ℕ) (i : Image) → decode bytes ≡ good i → readRefusal (roomOf b) bytes ≡ none
@@ -28,21 +28,19 @@ pub run-in-place : (n : Sizes) (b : Buffers) (schedule : List ℕ) → runRefusa
     → fieldsIn n (runLeaves n b schedule) ≡ run schedule (fieldsIn n b) .state
 unfolding runLeaves runAnswer unless leaving
 run-in-place n b schedule e =
-    rw e (holding-fields n (run schedule (fieldsIn n b) .state) b
-    (lengths-sized n (fieldsIn n b) (run schedule (fieldsIn n b) .state) (fields-sized n b (run-fits n b schedule e)) (run-lengths schedule (fieldsIn n b))))
+    rw e (holding-fields n (run schedule (fieldsIn n b) .state) b (run-sized n b schedule (run-parts n b schedule e .0)))
 
 pub run-touches-no-more : (n : Sizes) (b : Buffers) (schedule : List ℕ) → runRefusal n b schedule ≡ none
     → spareIn n (runLeaves n b schedule) ≡ spareIn n b
 unfolding runLeaves runAnswer unless leaving
 run-touches-no-more n b schedule e =
-    rw e (holding-spare n (run schedule (fieldsIn n b) .state) b
-    (lengths-sized n (fieldsIn n b) (run schedule (fieldsIn n b) .state) (fields-sized n b (run-fits n b schedule e)) (run-lengths schedule (fieldsIn n b))))
+    rw e (holding-spare n (run schedule (fieldsIn n b) .state) b (run-sized n b schedule (run-parts n b schedule e .0)))
 
 -- after a step that isn't refused they are, by the same counts, the state after the step
 pub step-in-place : (n : Sizes) (b : Buffers) (t : ℕ) → stepRefusal n b t ≡ none → fieldsIn n (stepLeaves n b t) ≡ step t (fieldsIn n b) .state
 unfolding stepLeaves stepAnswer unless leaving
-step-in-place n b t e = rw e (holding-fields n (step t (fieldsIn n b) .state) b (step-sized n b t (step-fits n b t e)))
+step-in-place n b t e = rw e (holding-fields n (step t (fieldsIn n b) .state) b (step-sized n b t (step-parts n b t e .0)))
 
 pub step-touches-no-more : (n : Sizes) (b : Buffers) (t : ℕ) → stepRefusal n b t ≡ none → spareIn n (stepLeaves n b t) ≡ spareIn n b
 unfolding stepLeaves stepAnswer unless leaving
-step-touches-no-more n b t e = rw e (holding-spare n (step t (fieldsIn n b) .state) b (step-sized n b t (step-fits n b t e)))
+step-touches-no-more n b t e = rw e (holding-spare n (step t (fieldsIn n b) .state) b (step-sized n b t (step-parts n b t e .0)))

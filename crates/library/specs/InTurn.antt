@@ -1,23 +1,27 @@
--- The calls one after another: read, then run; read, then written; run, then written.
+-- The calls one after another: read, then run; read, then written; run, then written; one step, then the other items.
 use Prim.Native.Nat.{ℕ, _≤_}
 use mathlib.Core.Path.{_≡_, sym, ap, _∙_, subst}
 use mathlib.Core.Bool.{true}
 use mathlib.Core.Option.{none}
-use mathlib.Core.List.{List}
+use mathlib.Core.List.{List, _∷_}
 use lib.ListN.{length, take, drop}
 use lib.Seq.{take-append-seam}
+use Rattle.step.specs.declared.Ending.{Ending}
 use Rattle.step.specs.State.{State}
+use Rattle.step.specs.Step.{step}
 use Rattle.step.specs.Soundness.{sound}
+use Rattle.run.specs.declared.Counts.{Counts}
 use Rattle.run.specs.Schedule.{scheduleSound}
-use Rattle.run.specs.Run.{run}
+use Rattle.run.specs.Run.{counted, run}
 use Rattle.image.specs.Codec.{Bytes}
 use Rattle.image.specs.Image.{Image, stateOf, imageOf, good, decode, encode}
 use Rattle.image.specs.Fields.{SameFields, over}
 use Rattle.image.specs.RoundTrips.{encode-bytes, written-then-read, read-back}
 use Rattle.library.specs.declared.Sizes.{Sizes}
 use Rattle.library.specs.Buffers.{Buffers, roomOf, fits, sizesOf, fieldsIn}
-use Rattle.library.specs.Calls.{answers, readAnswer, readLeaves, runRefusal, runAnswer, runLeaves, writeAnswer, writeLeaves}
+use Rattle.library.specs.Calls.{answers, readAnswer, readLeaves, runRefusal, runAnswer, runLeaves, stepAnswer, stepLeaves, writeAnswer, writeLeaves}
 use Rattle.library.specs.Laws.InTurn.{read-answers, read-run-unrefused, read-run-answers, read-run-held, read-write-answers, read-write-leaves, run-sound-after, run-write-answers, run-write-leaves}
+use Rattle.library.specs.Laws.StepThenRun.{step-answers, others-answer, all-answers, all-left}
 
 -- the counts that reading answers
 abbrev pub sizesRead : Image → Sizes
@@ -87,3 +91,22 @@ run-then-write n b schedule output e h =
       holds =
           subst (HoldsImage after (length (encode after))) (sym (run-write-leaves n b schedule e output h)) (holds-image after output (run-sound-after n b schedule e));
     }
+
+-- one step, then the other items, is a run of all: neither call is refused, the endings are counted together, and the buffers are left the same
+pub record StepThenRun (n : Sizes) (b : Buffers) (t : ℕ) (ts : List ℕ) : Type 0 where
+  pub ending : Ending
+  pub others : Counts
+  pub stepped : stepAnswer n b t ≡ answers ending
+  pub ran : runAnswer n (stepLeaves n b t) ts ≡ answers others
+  pub answer : runAnswer n b (t ∷ ts) ≡ answers (counted ending others)
+  pub leaves : runLeaves n (stepLeaves n b t) ts ≡ runLeaves n b (t ∷ ts)
+
+pub step-then-run : (n : Sizes) (b : Buffers) (t : ℕ) (ts : List ℕ) → runRefusal n b (t ∷ ts) ≡ none → StepThenRun n b t ts
+step-then-run n b t ts e = record {
+  ending = step t (fieldsIn n b) .ending;
+  others = run ts (step t (fieldsIn n b) .state) .counts;
+  stepped = step-answers n b t ts e;
+  ran = others-answer n b t ts e;
+  answer = all-answers n b t ts e;
+  leaves = all-left n b t ts e;
+}

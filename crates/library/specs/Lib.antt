@@ -10,6 +10,7 @@ pub mod Promises
 pub mod InTurn
 pub mod Isolation
 pub mod Accepted
+pub mod OfCalls
 pub mod Trials
 pub mod Code
 pub mod Laws

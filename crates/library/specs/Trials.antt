@@ -9,10 +9,11 @@ use Rattle.refusal.specs.Numbers.{numberOf}
 use Rattle.window.specs.Memories.{cell}
 use Rattle.step.specs.declared.ProcessTable.{ProcessTable}
 use Rattle.step.specs.Act.{tableOf}
+use Rattle.step.specs.Step.{noTrap}
 use Rattle.step.specs.declared.Ending.the-variants.{Executed, Idle}
 use Rattle.image.specs.Image.{Image, imageCodec, queueOf, stateOf}
 use Rattle.library.specs.declared.Sizes.{Sizes}
-use Rattle.library.specs.Buffers.{Buffers, Room, holding}
+use Rattle.library.specs.Buffers.{Buffers, Room, spareIn, holding}
 use Rattle.library.specs.Calls.{answers, readRefusal, readAnswer, readLeaves, runRefusal, runLeaves, stepRefusal, stepAnswer, stepLeaves, writeRefusal, writeAnswer, writeLeaves}
 use Rattle.library.specs.Laws.Opened.{opened}
 
@@ -25,7 +26,7 @@ numbered (some e) = numberOf e
 
 unfoldable pub trialImage : Image
 trialImage = record {
-  rows = record { task = 2; cb = 0; rb = 0; rl = 0; pb = 0; pl = 0; db = 1; dl = 0; kind = 255; psw = 0 } ∷ [];
+  rows = record { task = 2; cb = 0; rb = 0; rl = 0; pb = 0; pl = 0; db = 1; dl = 0; kind = noTrap; psw = 0 } ∷ [];
   flag = 0;
   processes = record { pt = 4; task = 2; psw = 0 } ∷ [];
   constants = cell 3 5 ∷ [];
@@ -52,6 +53,20 @@ roomLess r q c t w p d v = record {
   program = 16 - p;
   dataTags = 1 - d;
   dataWords = 1 - v;
+}
+
+-- buffers that are a place longer, with 9 in every place
+unfoldable pub longer : Buffers
+longer = record {
+  rows = replicate 2 (record { task = 9; cb = 9; rb = 9; rl = 9; pb = 9; pl = 9; db = 9; dl = 9; kind = 9; psw = 9 });
+  table = stateOf trialImage .table;
+  constantTags = replicate 2 9;
+  constantWords = replicate 2 9;
+  registerTags = replicate 3 9;
+  registerWords = replicate 3 9;
+  program = replicate 17 9;
+  dataTags = replicate 2 9;
+  dataWords = replicate 2 9;
 }
 
 unfoldable pub noBuffers : Buffers
@@ -138,6 +153,17 @@ pub record ReadTrials : Type 0 where
   -- the answer is the counts; buffers of no room are left as they are
   pub answer : readAnswer exact trialBytes ≡ answers trialSizes
   pub left : readLeaves noBuffers trialBytes ≡ noBuffers
+  -- what lies beyond the sizes stays
+  pub spare : spareIn trialSizes (readLeaves longer trialBytes) ≡ record {
+    rows = record { task = 9; cb = 9; rb = 9; rl = 9; pb = 9; pl = 9; db = 9; dl = 9; kind = 9; psw = 9 } ∷ [];
+    constantTags = 9 ∷ [];
+    constantWords = 9 ∷ [];
+    registerTags = 9 ∷ [];
+    registerWords = 9 ∷ [];
+    program = 9 ∷ [];
+    dataTags = 9 ∷ [];
+    dataWords = 9 ∷ [];
+  }
 
 pub record RunTrials : Type 0 where
   -- a buffer as long as its count, and one place shorter: 8
@@ -201,7 +227,7 @@ pub record WriteTrials : Type 0 where
 
 -- naming this opens what the trials use
 unfoldable pub trialled : ℕ
-unfolding opened numbered trialImage trialBytes trialSizes roomLess noBuffers buffersOf withParts withTable withQuality ptTwice unlisted withLive
+unfolding opened spareIn numbered trialImage trialBytes trialSizes roomLess longer noBuffers buffersOf withParts withTable withQuality ptTwice unlisted withLive
 trialled = 0
 
 pub read-trials : ReadTrials
@@ -219,6 +245,7 @@ read-trials = record {
   first = refl;
   answer = refl;
   left = refl;
+  spare = refl;
 }
 
 pub run-trials : RunTrials

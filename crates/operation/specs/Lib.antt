@@ -6,8 +6,10 @@ pub mod Environment
 pub mod Perform
 pub mod Decide
 pub mod Exclusions
-pub mod Instances
+pub mod ConstantInstances
 pub mod PartInstances
+pub mod OperationInstances
+pub mod CheckInstances
 pub mod Filling
 pub mod Code
 pub mod Laws

@@ -27,7 +27,7 @@ numberOf WindowPastMemory = 5
 numberOf ProcessesClash = 6
 -- a buffer to be filled is too short
 numberOf ShortBuffer = 7
--- no image reads as this state
+-- a state that isn't sound: no image reads as it, or a live count is not the one found by counting
 numberOf UnsoundState = 8
 -- a list of over 65,535 items
 numberOf ListTooLong = 9

@@ -5,7 +5,8 @@ use mathlib.Core.Path.{_≡_, refl}
 use mathlib.Core.List.{List, [], _∷_, _++_}
 use mathlib.Core.Option.{some}
 use Prim.Native.Nat.{ℕ, _+_, _-_, _*_, _^_}
-use lib.ListN.{replicate}
+use lib.ListN.{length, replicate}
+use borrow.Author.Tests.{leb-true}
 use Rattle.window.specs.declared.Row.{Row}
 use Rattle.window.specs.declared.Cell.{Cell}
 use Rattle.window.specs.Memories.{cell, cellAt}
@@ -15,12 +16,17 @@ use Rattle.operation.specs.declared.Trap.the-variants.{PrivilegedInstruction}
 use Rattle.step.specs.State.{processesOf}
 use Rattle.step.specs.Owned.{owner, own}
 use Rattle.step.specs.Act.{trappedRow}
+use Rattle.step.specs.Step.{noTrap}
 use Rattle.run.specs.Run.{counts, Ran, run}
 use Rattle.run.specs.Compared.{Compared, cut}
 use Rattle.run.specs.Laws.AloneTest.{alone-of}
 use Rattle.image.specs.declared.Process.{Process}
 use Rattle.image.specs.Image.{Image, imageCodec, stateOf}
 use Rattle.image.specs.Demand3.{WholeRun, Agreed, demand-3}
+use Rattle.report.specs.Report.{scheduleCodec, mostInput, outputOf}
+use Rattle.report.specs.Letters.{letters}
+use Rattle.report.specs.Lines.{WholeInput, lineOf, taskLine}
+use Rattle.report.specs.Isolation.{SameLine, report-demand-3}
 use Rattle.report.specs.Laws.Opened.{opened}
 use Rattle.report.specs.Laws.Agreeing.{compared-at, program-at, bytes-of}
 
@@ -37,7 +43,7 @@ instanceRow task place = record {
   pl = place;
   db = place;
   dl = place;
-  kind = 255;
+  kind = noTrap;
   psw = 0;
 }
 
@@ -150,6 +156,18 @@ agreed = record {
   alone′ = alone-of 1 (stateOf imageB) refl;
 }
 
+-- the input of the batch program
+unfoldable pub inputOf : (schedule bytes : List ℕ) → List ℕ
+inputOf schedule bytes = scheduleCodec .enc schedule ++ bytes
+
+inputA : WholeInput (inputOf scheduleA bytesA) scheduleA bytesA
+unfolding images inputOf
+inputA = record { short = leb-true (length (inputOf scheduleA bytesA)) mostInput refl; read = refl }
+
+inputB : WholeInput (inputOf scheduleB bytesB) scheduleB bytesB
+unfolding images inputOf
+inputB = record { short = leb-true (length (inputOf scheduleB bytesB)) mostInput refl; read = refl }
+
 -- the two runs, and the states after them
 unfoldable pub ranA : Ran
 ranA = run scheduleA (stateOf imageA)
@@ -174,9 +192,12 @@ pub record Instance : Type 0 where
   pub datumB : cellAt (ranB .state .dataWords) 32 ≡ cell 1 100
   pub trapB : own 3 (ranB .state) ≡ some (owner (trappedRow (instanceRow 3 1) PrivilegedInstruction 8) (8 ∷ []))
   pub countsB : ranB .counts ≡ counts 13 1 1 1
+  -- by demand 3 of the report; the line of task 1
+  pub reported : SameLine 1 (ranA .state) (ranB .state) (outputOf (inputOf scheduleA bytesA)) (outputOf (inputOf scheduleB bytesB))
+  pub line : taskLine 1 (ranA .state) ≡ some (letters "1 2 -- -----\n")
 
 pub isolated : Instance
-unfolding images ranA ranB
+unfolding images ranA ranB lineOf taskLine letters
 isolated = record {
   equal = demand-3 1 bytesA bytesB scheduleA scheduleB imageA imageB runA runB agreed;
   registers = refl;
@@ -189,4 +210,6 @@ isolated = record {
   datumB = refl;
   trapB = refl;
   countsB = refl;
+  reported = report-demand-3 1 (inputOf scheduleA bytesA) (inputOf scheduleB bytesB) bytesA bytesB scheduleA scheduleB imageA imageB inputA inputB runA runB agreed;
+  line = refl;
 }

@@ -14,7 +14,7 @@ use Rattle.run.specs.declared.Counts.{Counts}
 use Rattle.refusal.specs.declared.Refusal.{Refusal}
 use Rattle.refusal.specs.declared.Refusal.the-variants.{ItemOutOfRange, InputTooLong}
 use Rattle.refusal.specs.Numbers.{numberOf}
-use Rattle.run.specs.Schedule.{scheduleRefusal}
+use Rattle.run.specs.Schedule.{mostItems, scheduleRefusal}
 use Rattle.run.specs.Run.{Ran, run}
 use Rattle.image.specs.Codec.{Codec, Result, refused, accepted, num, uniformSection}
 use Rattle.image.specs.Image.{Image, stateOf, Decoded, bad, good, decode}
@@ -93,7 +93,7 @@ unfoldable pub itemCodec : Codec ℕ
 itemCodec = num 1 ItemOutOfRange (λ _. true)
 
 unfoldable pub scheduleCodec : Codec (List ℕ)
-scheduleCodec = uniformSection itemCodec 2 65535
+scheduleCodec = uniformSection itemCodec 2 mostItems
 
 unfoldable pub outputRun : Option Refusal → (schedule : List ℕ) → Image → List ℕ
 outputRun (some e) schedule i = refusalLine e
@@ -108,6 +108,10 @@ unfoldable pub outputScheduled : Result (List ℕ) → List ℕ
 outputScheduled (refused e) = refusalLine e
 outputScheduled (accepted schedule image) = outputRead schedule (decode image)
 
--- the output of the batch program; 11 where the input is over 65,536 bytes
+-- the most bytes of an input
+abbrev pub mostInput : ℕ
+mostInput = 65536
+
+-- the output of the batch program; 11 where the input is longer
 unfoldable pub outputOf : List ℕ → List ℕ
-outputOf input = cond (ltb 65536 (length input)) (refusalLine InputTooLong) (outputScheduled (scheduleCodec .dec input))
+outputOf input = cond (ltb mostInput (length input)) (refusalLine InputTooLong) (outputScheduled (scheduleCodec .dec input))

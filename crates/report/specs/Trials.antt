@@ -15,7 +15,7 @@ use Rattle.operation.specs.Exclusions.{instructionWord, Excluded, excluded}
 use Rattle.step.specs.declared.Ending.the-variants.{Executed, Trapped}
 use Rattle.step.specs.State.{State}
 use Rattle.step.specs.Act.{tableOf, Stepped}
-use Rattle.step.specs.Step.{step}
+use Rattle.step.specs.Step.{noTrap, step}
 use Rattle.image.specs.Image.{queueOf}
 use Rattle.run.specs.Run.{run}
 use Rattle.report.specs.Report.{reportOf, outputOf}
@@ -24,7 +24,7 @@ use Rattle.report.specs.Laws.Opened.{opened}
 
 -- CB 4095, RB 3, RL 3, DB 1, DL 1: registers 6 and 7, data words 32 to 63
 unfoldable pub trialRow : Row
-trialRow = record { task = 1; cb = 4095; rb = 3; rl = 3; pb = 0; pl = 0; db = 1; dl = 1; kind = 255; psw = 0 }
+trialRow = record { task = 1; cb = 4095; rb = 3; rl = 3; pb = 0; pl = 0; db = 1; dl = 1; kind = noTrap; psw = 0 }
 
 unfoldable pub upTo : ℕ → List ℕ
 upTo zero = []
@@ -91,7 +91,7 @@ pub record Starred : Type 0 where
   pub create-63 : step 1 (machine 63 create 0 0) .ending ≡ Trapped CreateFault 1
   pub create-63-flag : step 1 (machine 63 create 0 0) .state .table .flag ≡ 1
   -- RI 2047 and displacement 1 never mean register 0
-  pub index : lookupOf Source (record { task = 1; cb = 0; rb = 0; rl = 1023; pb = 0; pl = 0; db = 0; dl = 0; kind = 255; psw = 0 }) (pswOf 0 2047 0 0) 0x8001 ≡ Violation
+  pub index : lookupOf Source (record { task = 1; cb = 0; rb = 0; rl = 1023; pb = 0; pl = 0; db = 0; dl = 0; kind = noTrap; psw = 0 }) (pswOf 0 2047 0 0) 0x8001 ≡ Violation
 
 pub starred : Starred
 unfolding opened trialRow upTo machine stepped registerD resultD branchOn instructionWord create
@@ -139,8 +139,11 @@ pub record Trials : Type 0 where
   pub two : outputOf twoItems ≡ letters "1 1 14 00000\nE0 W0 T1 I1 CF0\n"
   -- three processes, of which two leave by QT always
   pub quits : reportOf (run (1 ∷ 1 ∷ []) (machine 3 (instructionWord 0x1970 0 0 0x4000) 0 0)) ≡ letters "1 1 -- -----\nE2 W0 T0 I0 CF0\n"
+  -- the longest input, and a byte more: 11
+  pub longest : outputOf (replicate 65536 0) ≡ letters "R4\n"
+  pub longer : outputOf (replicate 65537 0) ≡ letters "R11\n"
   pub exclusions : Excluded
 
 pub trials : Trials
 unfolding opened letters unspaced hexValue pairsOf hexBytes printedInput printedOutput twoItems instructionWord trialRow upTo machine
-trials = record { starred-ones = starred; printed = refl; two = refl; quits = refl; exclusions = excluded }
+trials = record { starred-ones = starred; printed = refl; two = refl; quits = refl; longest = refl; longer = refl; exclusions = excluded }

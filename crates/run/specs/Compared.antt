@@ -1,7 +1,7 @@
 -- What demand 3 compares of a task, and when a task's windows meet no other task's.
 use mathlib.Core.Path.{_≡_}
 use mathlib.Core.Logic.{_≢_}
-use mathlib.Core.Bool.{Bool, true, false}
+use mathlib.Core.Bool.{false}
 use mathlib.Core.Option.{some}
 use mathlib.Core.List.{List}
 use Prim.Native.Nat.{ℕ, suc}
@@ -41,10 +41,6 @@ SameConstants s s′ = (a : ℕ) → constantAt (s .constants) a ≡ constantAt 
 pub record Clear (t u : ℕ) (s : State) : Type 0 where
   pub registers : (r x : Row) → findRow t (s .rows) ≡ some r → findRow u (s .rows) ≡ some x → meets (registerWindow r) (registerWindow x) ≡ false
   pub dataWords : (r x : Row) → findRow t (s .rows) ≡ some r → findRow u (s .rows) ≡ some x → meets (dataWordWindow r) (dataWordWindow x) ≡ false
-
--- the register and data windows of the tasks of A meet none of a task outside A
-abbrev pub Apart : (ℕ → Bool) → State → Type 0
-Apart A s = (t u : ℕ) → A t ≡ true → A u ≡ false → Clear t u s
 
 -- the register and data windows of task t meet no other task's
 abbrev pub Alone : ℕ → State → Type 0

@@ -1,4 +1,4 @@
-// Whether a state is sound, so that some image reads as it: the tests of refusal 8.
+// Whether a state is sound: the tests of refusal 8, the stored live counts among them.
 ghost use mathlib.Core.Path.{_≡_};
 ghost use mathlib.Core.Bool.{not, _&&_};
 ghost use mathlib.Core.List.{List};

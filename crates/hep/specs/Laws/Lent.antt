@@ -1,25 +1,14 @@
 -- What the calls with rows by value promise of the rows that were loaded, the thin calls promise of the lent slice: what all calls share.
-use mathlib.Core.Path.{_≡_, refl, sym, ap, _∙_, subst}
-use mathlib.Core.Option.{Option, none, some}
+use mathlib.Core.Path.{_≡_, sym, ap, _∙_, subst}
 use mathlib.Core.List.{List, _++_}
 use lib.ListN.{take, drop}
-use Rattle.refusal.specs.declared.Refusal.{Refusal}
 use Rattle.window.specs.declared.Row.{Row}
 use Rattle.library.specs.declared.Rows.{Rows}
 use Rattle.library.specs.Buffers.{Buffers}
-use Rattle.library.specs.Calls.{orElse}
 use Rattle.library.specs.Code.HeldRows.{heldRows, SamePlaces}
 use Rattle.hep.specs.Code.Rows.{loadedRows, storedRows}
 use Rattle.hep.specs.Laws.Rows.{loaded, stored}
 use Rattle.hep.specs.Laws.Seven.{withRows, behind, seven}
-
--- a refusal that another follows
-pub no-refusal : (a b : Option Refusal) → orElse a b ≡ none → a ≡ none
-unfolding orElse
-no-refusal none b e = refl
-no-refusal (some x) b e = e
-
--- ---- rows that were loaded, and rows that were stored
 
 pub rows-held : (rows : List Row) → heldRows (loadedRows rows) ≡ take 7 rows
 unfolding heldRows

@@ -19,6 +19,13 @@ pub record PassedAfter (i : Image) : Type 0 where
   pub once : distinct (map ptOf (i .processes)) ≡ true
   pub room : totalSound (length (i .processes)) (i .flag) ≡ true
 
+-- an image that passes them is read
+good-after : (i : Image) → PassedAfter i → afterSections (accepted i []) ≡ good i
+unfolding afterSections
+good-after i p =
+    let b : distinct (map ptOf (i .processes)) && totalSound (length (i .processes)) (i .flag) ≡ true = also (p .once) (p .room) in
+    rw (p .windows, b)
+
 -- what is read leaves nothing and passes these tests
 pub after-good : (x : Result Image) (i : Image) → afterSections x ≡ good i → (x ≡ accepted i []) × PassedAfter i
 unfolding afterSections
@@ -35,12 +42,6 @@ after-good (accepted j []) i h = go _ _ refl refl h
         let e : j ≡ i = cc in
         let u = both (λ x. x) (λ x. x) b in
         (ap (λ (y : Image). accepted y []) e, subst PassedAfter e (record { windows = a; once = u .0; room = u .1 }))
-
-good-after : (i : Image) → PassedAfter i → afterSections (accepted i []) ≡ good i
-unfolding afterSections
-good-after i p =
-    let b : distinct (map ptOf (i .processes)) && totalSound (length (i .processes)) (i .flag) ≡ true = also (p .once) (p .room) in
-    rw (p .windows, b)
 
 -- an image that passes every test
 pub record Accepted (i : Image) : Type 0 where

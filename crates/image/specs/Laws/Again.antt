@@ -19,7 +19,7 @@ use Rattle.step.specs.Laws.Every.{every-parts}
 use Rattle.step.specs.Laws.Occurrences.{psws-set}
 use Rattle.step.specs.Laws.Sound.{hasRow-range}
 use Rattle.image.specs.declared.Process.{Process}
-use Rattle.image.specs.Image.{Image, ptOf, ptsOf, queuesOf, pswTable, memoryOf, stateOf, processesIn, processesFrom, cellsOf, imageOf}
+use Rattle.image.specs.Image.{Image, ptOf, ptsOf, queueOf, queuesOf, pswTable, memoryOf, stateOf, processesIn, processesFrom, cellsOf, imageOf}
 use Rattle.image.specs.Laws.Passed.{taskOf, pswOf, ascends}
 use Rattle.image.specs.Laws.Accepted.{Accepted}
 use Rattle.image.specs.Laws.Table.{listOf-queueOf, length-ptsOf, ptsOf-same, ptsOf-other, ptsOf-none, length-pswTable}
@@ -52,7 +52,7 @@ gathered psw zero t ps = []
 gathered psw (suc n) t ps = processesIn psw t (ptsOf t ps) ++ gathered psw n (suc t) ps
 
 processesFrom-queuesOf : (psw : List ℕ) (n t : ℕ) (ps : List Process) → length ps ≤ 64 → processesFrom psw t (queuesOf n t ps) ≡ gathered psw n t ps
-unfolding processesFrom queuesOf gathered
+unfolding processesFrom queuesOf queueOf gathered
 processesFrom-queuesOf psw zero t ps h = refl
 processesFrom-queuesOf psw (suc n) t ps h =
     ap₂ _++_ (ap (processesIn psw t) (listOf-queueOf (ptsOf t ps) (omega (arith, length-ptsOf t ps)))) (processesFrom-queuesOf psw n (suc t) ps h)

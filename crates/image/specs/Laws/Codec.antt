@@ -44,6 +44,11 @@ module _ (w : ℕ) (e : Refusal) (good : ℕ → Bool) where
       let l : length (take w b) ≡ w = length-take-le w b (ltb-false _ _ s) in
       rw (← v, ← q) (also (lt-ltb _ _ (field-lt w b hb l)) g, bytes-drop w b hb, rw (field-digits w b hb l, take-append-drop))
 
+  num-accepted : (b : List ℕ) → Bytes b → (a : ℕ) (r : List ℕ) → num w e good .dec b ≡ accepted a r
+      → (num w e good .ok a ≡ true) × Bytes r × (num w e good .enc a ++ r ≡ b)
+  unfolding num
+  num-accepted b hb a r h = num-back b (ltb (length b) w) (good (field w b)) hb refl refl a r h
+
   num-there : (v : ℕ) → num w e good .ok v ≡ true → (r : List ℕ) → num w e good .dec (num w e good .enc v ++ r) ≡ accepted v r
   unfolding num field
   num-there v h r =
@@ -56,7 +61,7 @@ module _ (w : ℕ) (e : Refusal) (good : ℕ → Bool) where
   pub num-lawful : Lawful (num w e good)
   unfolding num
   num-lawful = record {
-    back = λ b hb a r h. num-back b (ltb (length b) w) (good (field w b)) hb refl refl a r h;
+    back = num-accepted;
     there = num-there;
     bytes = bytes-digits w;
   }

@@ -33,11 +33,6 @@ unfolding digits
 length-digits zero v = refl
 length-digits (suc w) v = simp (length-append, length-digits w (v / 256)) (omega arith)
 
-pub bytes-digits : (w v : ℕ) → Bytes (digits w v)
-unfolding digits Bytes
-bytes-digits zero v = tt
-bytes-digits (suc w) v = bytes-append (digits w (v / 256)) (v % 256 ∷ []) (bytes-digits w (v / 256)) (omega arith, tt)
-
 number-snoc : (acc : ℕ) (xs : List ℕ) (d : ℕ) → number acc (xs ++ (d ∷ [])) ≡ number acc xs * 256 + d
 unfolding number
 number-snoc acc [] d = refl
@@ -51,6 +46,11 @@ number-digits (suc w) v h =
     let e = pow-suc 256 w in
     let i : number 0 (digits w (v / 256)) ≡ v / 256 = number-digits w (v / 256) (omega arith) in
     rw (number-snoc 0 (digits w (v / 256)) (v % 256), i) (omega arith)
+
+pub bytes-digits : (w v : ℕ) → Bytes (digits w v)
+unfolding digits Bytes
+bytes-digits zero v = tt
+bytes-digits (suc w) v = bytes-append (digits w (v / 256)) (v % 256 ∷ []) (bytes-digits w (v / 256)) (omega arith, tt)
 
 -- ---- the first bytes
 

@@ -1,7 +1,7 @@
 -- Refusals of reading and of a state in buffers, by what doesn't hold.
 use Prim.Native.Nat.{ℕ}
 use mathlib.Core.Path.{_≡_, refl, sym, ap, subst}
-use mathlib.Core.Bool.{Bool, true, false, cond, not, _&&_}
+use mathlib.Core.Bool.{Bool, true, false, cond, not}
 use mathlib.Core.Option.{Option, none, some}
 use mathlib.Core.List.{List}
 use mathlib.Core.Logic.{_↔_, _≢_}
@@ -15,12 +15,13 @@ use Rattle.refusal.specs.declared.Refusal.the-variants.{ShortBuffer, UnsoundSta
 use Rattle.refusal.specs.Numbers.{numberOf}
 use Rattle.step.specs.Soundness.{sound, every}
 use Rattle.step.specs.Laws.Rows.{none-some}
-use Rattle.run.specs.Schedule.{itemSound, scheduleRefusal}
+use Rattle.step.specs.Step.{step}
+use Rattle.run.specs.Schedule.{mostItems, itemSound, scheduleRefusal}
 use Rattle.run.specs.Run.{run}
 use Rattle.image.specs.Image.{Image, stateOf, Decoded, bad, good, decode, encode}
 use Rattle.library.specs.declared.Sizes.{Sizes}
 use Rattle.library.specs.Buffers.{Buffers, Room, roomOf, fits, sizesOf, fieldsIn}
-use Rattle.library.specs.Calls.{unless, decodedRefusal, readRefusal, stateRefused, stateRefusal, orElse, runRefusal, runAnswer, outputRefusal, writeRefusal, writeAnswer}
+use Rattle.library.specs.Calls.{unless, decodedRefusal, readRefusal, stateRefused, stateRefusal, orElse, runRefusal, runAnswer, taskRefusal, stepRefusal, stepAnswer, outputRefusal, writeRefusal, writeAnswer}
 use Rattle.library.specs.Numbers.{numberAnswered}
 use Rattle.library.specs.Laws.InTurn.{state-unrefused}
 
@@ -58,16 +59,6 @@ read-decoded room bytes e = go (decode bytes) refl e
 
 -- ---- a state in buffers
 
--- not refused: it fits and is sound
-pub state-parts : (n : Sizes) (b : Buffers) → stateRefusal n b ≡ none → (fits n (roomOf b) ≡ true) × (sound (fieldsIn n b) ≡ true)
-unfolding stateRefusal stateRefused
-state-parts n b e = go (fits n (roomOf b)) (sound (fieldsIn n b)) e
-  where
-    go : (t u : Bool) → cond (not (t && u)) (some UnsoundState) none ≡ none → (t ≡ true) × (u ≡ true)
-    go true true q = (refl, refl)
-    go true false q = absurd (none-some UnsoundState (sym q))
-    go false u q = absurd (none-some UnsoundState (sym q))
-
 -- refused with 8, or not refused
 pub data Tested (n : Sizes) (b : Buffers) : Type 0 where
   refused8 : stateRefusal n b ≡ some UnsoundState → Tested n b
@@ -97,12 +88,20 @@ module _ {A : Type 0} (n : Sizes) (b : Buffers) (o : Option Refusal) (a : A) whe
 
 schedule-number : {A : Type 0} (schedule : List ℕ) (a : A) → numberAnswered (unless (scheduleRefusal schedule) a) ≢ 8
 unfolding scheduleRefusal numberAnswered unless numberOf
-schedule-number schedule a = go (ltb 65535 (length schedule)) (every itemSound schedule)
+schedule-number schedule a = go (ltb mostItems (length schedule)) (every itemSound schedule)
   where
     go : (t u : Bool) → numberAnswered (unless (cond t (some ListTooLong) (cond (not u) (some ItemOutOfRange) none)) a) ≢ 8
     go true u = λ e. omega arith
     go false true = λ e. omega arith
     go false false = λ e. omega arith
+
+task-number : {A : Type 0} (t : ℕ) (a : A) → numberAnswered (unless (taskRefusal t) a) ≢ 8
+unfolding taskRefusal numberAnswered unless numberOf
+task-number t a = go (itemSound t)
+  where
+    go : (u : Bool) → numberAnswered (unless (cond (not u) (some ItemOutOfRange) none) a) ≢ 8
+    go true = λ e. omega arith
+    go false = λ e. omega arith
 
 output-number : {A : Type 0} (room : ℕ) (image : List ℕ) (a : A) → numberAnswered (unless (outputRefusal room image) a) ≢ 8
 unfolding outputRefusal numberAnswered unless numberOf
@@ -117,6 +116,12 @@ unfolding runAnswer runRefusal
 run-refused-8 n b schedule P k =
     let c = run schedule (fieldsIn n b) .counts in
     refused-8 n b (scheduleRefusal schedule) c P k (schedule-number schedule c)
+
+pub step-refused-8 : (n : Sizes) (b : Buffers) (t : ℕ) (P : Type 0) → (stateRefusal n b ≡ none) ↔ P → (numberAnswered (stepAnswer n b t) ≡ 8) ↔ (¬ P)
+unfolding stepAnswer stepRefusal
+step-refused-8 n b t P k =
+    let x = step t (fieldsIn n b) .ending in
+    refused-8 n b (taskRefusal t) x P k (task-number t x)
 
 pub write-refused-8 : (n : Sizes) (b : Buffers) (room : ℕ) (P : Type 0) → (stateRefusal n b ≡ none) ↔ P → (numberAnswered (writeAnswer n b room) ≡ 8) ↔ (¬ P)
 unfolding writeAnswer writeRefusal

@@ -1,6 +1,7 @@
 -- Cells outside the windows of a task, in the buffers that a step leaves.
 use Prim.Native.Nat.{ℕ, zero, suc, _≤_}
 use mathlib.Core.Path.{_≡_, refl, sym, ap, _∙_}
+use mathlib.Core.Bool.{true}
 use mathlib.Core.Option.{Option, none, some}
 use mathlib.Core.List.{List, [], _∷_, _++_}
 use native.Mathlib.Omega.{arith}
@@ -9,13 +10,15 @@ use lib.Seq.{length-take-le}
 use Rattle.refusal.specs.declared.Refusal.{Refusal}
 use Rattle.window.specs.Windows.{registerWindow, dataWordWindow}
 use Rattle.window.specs.Memories.{Memory, memory}
+use Rattle.step.specs.State.{State}
 use Rattle.step.specs.Step.{step}
 use Rattle.step.specs.Confined.{Outside, SameAt, step-keeps-registers, step-keeps-data}
 use Rattle.image.specs.Fields.{over}
 use Rattle.library.specs.declared.Sizes.{Sizes}
-use Rattle.library.specs.Buffers.{Buffers, roomOf, fieldsIn, holding}
+use Rattle.library.specs.Buffers.{Buffers, roomOf, fits, fieldsIn, holding}
 use Rattle.library.specs.Calls.{unless, leaving, stepRefusal, stepAnswer, stepLeaves}
-use Rattle.library.specs.Laws.InPlace.{step-fits, step-sized}
+use Rattle.library.specs.Laws.InPlace.{Sized, step-sized}
+use Rattle.library.specs.Laws.Refused.{step-parts}
 use Rattle.library.specs.Laws.Places.{fitting, over-first}
 
 -- two lists of one length that agree at a, with the same behind them
@@ -33,44 +36,48 @@ over-same k a l m h e q =
     behind-same a m (take k l) (drop (length m) l) j q
     ∙ ap (λ (i : ℕ). getElem? (take k l ++ drop i l) a) j ∙ ap (λ (x : List ℕ). getElem? x a) (over-first k l h)
 
--- what a step leaves in two buffers, of tags and of words, that hold a memory of k places
-module _ (k a : ℕ) (tags words : List ℕ) (m : Memory) (first : k ≤ length tags) (second : k ≤ length words)
-    (sized : (length (m .tags) ≡ k) × (length (m .words) ≡ k)) (same : SameAt a m (memory (take k tags) (take k words))) where
-  memory-kept : SameAt a (memory (over (m .tags) tags) (over (m .words) words)) (memory tags words)
-  memory-kept = record { tag = over-same k a tags (m .tags) first (sized .0) (same .tag); word = over-same k a words (m .words) second (sized .1) (same .word) }
+-- two buffers of tags and of words, with the memory of a state that lies in their first places: a cell that the step keeps in the state it keeps there
+module _ (n : Sizes) (b : Buffers) (t a size : ℕ) (tags words : Buffers → List ℕ) (part : State → Memory)
+    (roomy : fits n (roomOf b) ≡ true → (size ≤ length (tags b)) × (size ≤ length (words b)))
+    (sized : (s : State) → Sized n s → (length (part s .tags) ≡ size) × (length (part s .words) ≡ size))
+    (held : (s : State) → (tags (holding s b) ≡ over (part s .tags) (tags b)) × (words (holding s b) ≡ over (part s .words) (words b)))
+    (same : SameAt a (part (step t (fieldsIn n b) .state)) (memory (take size (tags b)) (take size (words b)))) where
+  abbrev after : State
+  after = step t (fieldsIn n b) .state
 
--- where a step is refused nothing changes
-module _ (n : Sizes) (b : Buffers) (t : ℕ) (P : Buffers → Type 0) where
-  left-by-step : P b → (stepRefusal n b t ≡ none → P (holding (step t (fieldsIn n b) .state) b)) → P (stepLeaves n b t)
+  kept-there : stepRefusal n b t ≡ none → SameAt a (memory (tags (holding after b)) (words (holding after b))) (memory (tags b) (words b))
+  kept-there q =
+      let f = step-parts n b t q .0 in
+      let g = roomy f in
+      let z = sized after (step-sized n b t f) in
+      record {
+        tag = ap (λ (l : List ℕ). getElem? l a) (held after .0) ∙ over-same size a (tags b) (part after .tags) (g .0) (z .0) (same .tag);
+        word = ap (λ (l : List ℕ). getElem? l a) (held after .1) ∙ over-same size a (words b) (part after .words) (g .1) (z .1) (same .word);
+      }
+
+  -- where the step is refused nothing changes
+  kept : SameAt a (memory (tags (stepLeaves n b t)) (words (stepLeaves n b t))) (memory (tags b) (words b))
   unfolding stepLeaves stepAnswer unless leaving
-  left-by-step kept steps = go (stepRefusal n b t) refl
+  kept = go (stepRefusal n b t) refl
     where
-      go : (o : Option Refusal) → stepRefusal n b t ≡ o → P (leaving (unless o (step t (fieldsIn n b) .ending)) b (holding (step t (fieldsIn n b) .state) b))
-      go none q = steps q
-      go (some e) q = kept
+      left : Option Refusal → Buffers
+      left o = leaving (unless o (step t (fieldsIn n b) .ending)) b (holding after b)
+      go : (o : Option Refusal) → stepRefusal n b t ≡ o → SameAt a (memory (tags (left o)) (words (left o))) (memory (tags b) (words b))
+      go none q = kept-there q
+      go (some e) q = record { tag = refl; word = refl }
 
 pub registers-kept : (n : Sizes) (b : Buffers) (t a : ℕ) → Outside registerWindow t (fieldsIn n b) a
     → SameAt a (memory (stepLeaves n b t .registerTags) (stepLeaves n b t .registerWords)) (memory (b .registerTags) (b .registerWords))
 unfolding holding fieldsIn roomOf
 registers-kept n b t a h =
-    left-by-step n b t (λ (x : Buffers). SameAt a (memory (x .registerTags) (x .registerWords)) (memory (b .registerTags) (b .registerWords)))
-    (record { tag = refl; word = refl })
-    (λ q.
-    let f = step-fits n b t q in
-    let g = fitting n (roomOf b) f in
-    let z = step-sized n b t f in
-    memory-kept (n .registers) a (b .registerTags) (b .registerWords) (step t (fieldsIn n b) .state .registers) (g .registerTags) (g .registerWords)
-    (z .registerTags, z .registerWords) (step-keeps-registers t (fieldsIn n b) a h))
+    kept n b t a (n .registers) (λ x. x .registerTags) (λ x. x .registerWords) (λ s. s .registers)
+    (λ f. let g = fitting n (roomOf b) f in (g .registerTags, g .registerWords)) (λ s z. (z .registerTags, z .registerWords)) (λ s. (refl, refl))
+    (step-keeps-registers t (fieldsIn n b) a h)
 
 pub data-kept : (n : Sizes) (b : Buffers) (t a : ℕ) → Outside dataWordWindow t (fieldsIn n b) a
     → SameAt a (memory (stepLeaves n b t .dataTags) (stepLeaves n b t .dataWords)) (memory (b .dataTags) (b .dataWords))
 unfolding holding fieldsIn roomOf
 data-kept n b t a h =
-    left-by-step n b t (λ (x : Buffers). SameAt a (memory (x .dataTags) (x .dataWords)) (memory (b .dataTags) (b .dataWords)))
-    (record { tag = refl; word = refl })
-    (λ q.
-    let f = step-fits n b t q in
-    let g = fitting n (roomOf b) f in
-    let z = step-sized n b t f in
-    memory-kept (n .data_words) a (b .dataTags) (b .dataWords) (step t (fieldsIn n b) .state .dataWords) (g .dataTags) (g .dataWords)
-    (z .dataTags, z .dataWords) (step-keeps-data t (fieldsIn n b) a h))
+    kept n b t a (n .data_words) (λ x. x .dataTags) (λ x. x .dataWords) (λ s. s .dataWords)
+    (λ f. let g = fitting n (roomOf b) f in (g .dataTags, g .dataWords)) (λ s z. (z .dataTags, z .dataWords)) (λ s. (refl, refl))
+    (step-keeps-data t (fieldsIn n b) a h)

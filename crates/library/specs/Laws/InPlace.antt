@@ -1,26 +1,24 @@
 -- Elements in the first places of a buffer: they are found there again, and what lies beyond them stays.
-use Prim.Native.Nat.{ℕ, _≤_}
+use Prim.Native.Nat.{ℕ}
 use mathlib.Core.Path.{_≡_, refl, sym, ap, _∙_, subst}
-use mathlib.Core.Bool.{Bool, true, false, cond, not, _&&_}
-use mathlib.Core.Option.{Option, none, some}
-use mathlib.Core.List.{List}
+use mathlib.Core.Bool.{true}
+use mathlib.Core.Option.{Option, none}
+use mathlib.Core.List.{List, _++_}
 use lib.ListN.{length, take, drop, length-map}
 use lib.Seq.{take-append-seam, drop-append-seam, length-take-le}
 use Rattle.refusal.specs.declared.Refusal.{Refusal}
-use Rattle.refusal.specs.declared.Refusal.the-variants.{UnsoundState}
 use Rattle.window.specs.Memories.{tagOf, wordOf}
 use Rattle.step.specs.State.{State}
-use Rattle.step.specs.Soundness.{sound}
-use Rattle.step.specs.Laws.Rows.{none-some}
 use Rattle.operation.specs.Decide.{decide}
 use Rattle.step.specs.Step.{stepBy, step}
 use Rattle.step.specs.Laws.Lengths.{SameLengths, step-lengths}
-use Rattle.run.specs.Schedule.{scheduleRefusal}
+use Rattle.run.specs.Run.{run}
+use Rattle.run.specs.Laws.Run.{run-lengths}
 use Rattle.image.specs.Image.{Image, memoryOf, stateOf, good, decode}
 use Rattle.image.specs.Fields.{over}
 use Rattle.library.specs.declared.Sizes.{Sizes}
 use Rattle.library.specs.Buffers.{Buffers, roomOf, fits, sizesOf, fieldsIn, spareIn, holding}
-use Rattle.library.specs.Calls.{unless, leaving, decodedRefusal, readRefusal, decodedAnswer, decodedLeaves, readLeaves, stateRefused, stateRefusal, orElse, runRefusal, taskRefusal, stepRefusal}
+use Rattle.library.specs.Calls.{unless, leaving, decodedRefusal, readRefusal, decodedAnswer, decodedLeaves, readLeaves}
 use Rattle.library.specs.Laws.Places.{fitting}
 
 module _ {A : Type 0} where
@@ -29,6 +27,10 @@ module _ {A : Type 0} where
 
   over-drop : (n : ℕ) (xs l : List A) → length xs ≡ n → drop n (over xs l) ≡ drop n l
   over-drop n xs l e = subst (λ (k : ℕ). drop k (over xs l) ≡ drop k l) e (drop-append-seam xs (drop (length xs) l))
+
+  -- elements over others of the same length
+  over-twice : (n : ℕ) (xs ys l : List A) → length xs ≡ n → length ys ≡ n → over xs (over ys l) ≡ over xs l
+  over-twice n xs ys l e f = ap (λ (z : List A). xs ++ z) (over-drop (length xs) ys l (f ∙ sym e))
 
 -- a state with these counts
 pub record Sized (n : Sizes) (s : State) : Type 0 where
@@ -40,6 +42,20 @@ pub record Sized (n : Sizes) (s : State) : Type 0 where
   pub program : length (s .program) ≡ n .program
   pub dataTags : length (s .dataWords .tags) ≡ n .data_words
   pub dataWords : length (s .dataWords .words) ≡ n .data_words
+
+pub holding-spare : (n : Sizes) (s : State) (b : Buffers) → Sized n s → spareIn n (holding s b) ≡ spareIn n b
+unfolding spareIn holding
+holding-spare n s b z =
+    rw (
+      over-drop (n .rows) (s .rows) (b .rows) (z .rows),
+      over-drop (n .constants) (s .constants .tags) (b .constantTags) (z .constantTags),
+      over-drop (n .constants) (s .constants .words) (b .constantWords) (z .constantWords),
+      over-drop (n .registers) (s .registers .tags) (b .registerTags) (z .registerTags),
+      over-drop (n .registers) (s .registers .words) (b .registerWords) (z .registerWords),
+      over-drop (n .program) (s .program) (b .program) (z .program),
+      over-drop (n .data_words) (s .dataWords .tags) (b .dataTags) (z .dataTags),
+      over-drop (n .data_words) (s .dataWords .words) (b .dataWords) (z .dataWords),
+    )
 
 pub holding-fields : (n : Sizes) (s : State) (b : Buffers) → Sized n s → fieldsIn n (holding s b) ≡ s
 unfolding fieldsIn holding
@@ -55,18 +71,19 @@ holding-fields n s b z =
       over-take (n .data_words) (s .dataWords .words) (b .dataWords) (z .dataWords),
     )
 
-pub holding-spare : (n : Sizes) (s : State) (b : Buffers) → Sized n s → spareIn n (holding s b) ≡ spareIn n b
-unfolding spareIn holding
-holding-spare n s b z =
+-- a state put over another of the same sizes
+pub holding-twice : (n : Sizes) (s s′ : State) (b : Buffers) → Sized n s → Sized n s′ → holding s (holding s′ b) ≡ holding s b
+unfolding holding
+holding-twice n s s′ b z z′ =
     rw (
-      over-drop (n .rows) (s .rows) (b .rows) (z .rows),
-      over-drop (n .constants) (s .constants .tags) (b .constantTags) (z .constantTags),
-      over-drop (n .constants) (s .constants .words) (b .constantWords) (z .constantWords),
-      over-drop (n .registers) (s .registers .tags) (b .registerTags) (z .registerTags),
-      over-drop (n .registers) (s .registers .words) (b .registerWords) (z .registerWords),
-      over-drop (n .program) (s .program) (b .program) (z .program),
-      over-drop (n .data_words) (s .dataWords .tags) (b .dataTags) (z .dataTags),
-      over-drop (n .data_words) (s .dataWords .words) (b .dataWords) (z .dataWords),
+      over-twice (n .rows) (s .rows) (s′ .rows) (b .rows) (z .rows) (z′ .rows),
+      over-twice (n .constants) (s .constants .tags) (s′ .constants .tags) (b .constantTags) (z .constantTags) (z′ .constantTags),
+      over-twice (n .constants) (s .constants .words) (s′ .constants .words) (b .constantWords) (z .constantWords) (z′ .constantWords),
+      over-twice (n .registers) (s .registers .tags) (s′ .registers .tags) (b .registerTags) (z .registerTags) (z′ .registerTags),
+      over-twice (n .registers) (s .registers .words) (s′ .registers .words) (b .registerWords) (z .registerWords) (z′ .registerWords),
+      over-twice (n .program) (s .program) (s′ .program) (b .program) (z .program) (z′ .program),
+      over-twice (n .data_words) (s .dataWords .tags) (s′ .dataWords .tags) (b .dataTags) (z .dataTags) (z′ .dataTags),
+      over-twice (n .data_words) (s .dataWords .words) (s′ .dataWords .words) (b .dataWords) (z .dataWords) (z′ .dataWords),
     )
 
 -- ---- counts that fit
@@ -112,25 +129,10 @@ read-sized i = record {
   dataWords = refl;
 }
 
--- ---- a run that isn't refused has counts that fit
+-- ---- a run and a step keep them
 
-pub run-fits : (n : Sizes) (b : Buffers) (schedule : List ℕ) → runRefusal n b schedule ≡ none → fits n (roomOf b) ≡ true
-unfolding runRefusal stateRefused stateRefusal orElse
-run-fits n b schedule e = go (fits n (roomOf b)) e
-  where
-    go : (t : Bool) → orElse (cond (not (t && sound (fieldsIn n b))) (some UnsoundState) none) (scheduleRefusal schedule) ≡ none → t ≡ true
-    go true q = refl
-    go false q = absurd (none-some UnsoundState (sym q))
-
--- ---- a step that isn't refused has counts that fit, and keeps them
-
-pub step-fits : (n : Sizes) (b : Buffers) (t : ℕ) → stepRefusal n b t ≡ none → fits n (roomOf b) ≡ true
-unfolding stepRefusal stateRefused stateRefusal orElse
-step-fits n b t e = go (fits n (roomOf b)) e
-  where
-    go : (f : Bool) → orElse (cond (not (f && sound (fieldsIn n b))) (some UnsoundState) none) (taskRefusal t) ≡ none → f ≡ true
-    go true q = refl
-    go false q = absurd (none-some UnsoundState (sym q))
+pub run-sized : (n : Sizes) (b : Buffers) (schedule : List ℕ) → fits n (roomOf b) ≡ true → Sized n (run schedule (fieldsIn n b) .state)
+run-sized n b schedule e = lengths-sized n (fieldsIn n b) (run schedule (fieldsIn n b) .state) (fields-sized n b e) (run-lengths schedule (fieldsIn n b))
 
 pub step-sized : (n : Sizes) (b : Buffers) (t : ℕ) → fits n (roomOf b) ≡ true → Sized n (step t (fieldsIn n b) .state)
 unfolding step

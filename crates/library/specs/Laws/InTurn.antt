@@ -1,21 +1,20 @@
 -- Calls that aren't refused, one after another: what the buffers hold after the first is what the second finds.
 use Prim.Native.Nat.{ℕ, _≤_}
-use mathlib.Core.Path.{_≡_, refl, sym, ap, _∙_, subst}
-use mathlib.Core.Bool.{Bool, true, false, cond, not, false≢true}
+use mathlib.Core.Path.{_≡_, sym, ap, _∙_, subst}
+use mathlib.Core.Bool.{Bool, true, cond, not}
 use mathlib.Core.Option.{Option, none, some}
 use mathlib.Core.List.{List}
 use native.Mathlib.Omega.{arith}
 use lib.ListN.{length, drop, length-append, length-drop}
 use borrow.Author.Tests.{le-ltb}
 use Rattle.refusal.specs.declared.Refusal.{Refusal}
-use Rattle.refusal.specs.declared.Refusal.the-variants.{ShortBuffer, UnsoundState}
+use Rattle.refusal.specs.declared.Refusal.the-variants.{ShortBuffer}
 use Rattle.step.specs.State.{State}
 use Rattle.step.specs.Soundness.{sound}
-use Rattle.step.specs.Laws.Rows.{none-some}
-use Rattle.run.specs.Schedule.{scheduleRefusal, accepts, scheduleSound}
+use Rattle.run.specs.Schedule.{scheduleSound}
+use Rattle.run.specs.Laws.Run.{sound-unrefused}
 use Rattle.run.specs.Run.{run}
 use Rattle.run.specs.Kept.{run-keeps-sound}
-use Rattle.run.specs.Laws.Run.{run-lengths}
 use Rattle.image.specs.Codec.{Bytes}
 use Rattle.image.specs.Image.{Image, stateOf, good, decode, encode}
 use Rattle.image.specs.Fields.{over}
@@ -24,7 +23,8 @@ use Rattle.library.specs.declared.Sizes.{Sizes}
 use Rattle.library.specs.Buffers.{Buffers, Room, roomOf, fits, sizesOf, fieldsIn, holding}
 use Rattle.library.specs.Calls.{answers, unless, leaving, decodedRefusal, readRefusal, decodedAnswer, readAnswer, readLeaves, stateRefused, stateRefusal, orElse, runRefusal, runAnswer, runLeaves, outputRefusal, writeRefusal, writeAnswer, writeLeaves}
 use Rattle.library.specs.InPlace.{read-in-place, run-in-place}
-use Rattle.library.specs.Laws.InPlace.{Sized, fields-sized, lengths-sized, read-sized, run-fits, held-by-read}
+use Rattle.library.specs.Laws.InPlace.{Sized, holding-fields, read-sized, run-sized, held-by-read}
+use Rattle.library.specs.Laws.Refused.{run-parts}
 use Rattle.library.specs.Laws.Places.{fitting}
 
 -- ---- elements put over the first places of a buffer leave its length
@@ -58,14 +58,9 @@ pub state-unrefused : (n : Sizes) (b : Buffers) → fits n (roomOf b) ≡ true �
 unfolding stateRefusal stateRefused
 state-unrefused n b f e = rw (f, e)
 
-accepts-none : (o : Option Refusal) → accepts o ≡ true → o ≡ none
-unfolding accepts
-accepts-none none e = refl
-accepts-none (some x) e = absurd (false≢true e)
-
 pub run-unrefused : (n : Sizes) (b : Buffers) (schedule : List ℕ) → stateRefusal n b ≡ none → scheduleSound schedule ≡ true → runRefusal n b schedule ≡ none
-unfolding runRefusal orElse scheduleSound
-run-unrefused n b schedule e ok = rw (e, accepts-none (scheduleRefusal schedule) ok)
+unfolding runRefusal orElse
+run-unrefused n b schedule e ok = rw (e, sound-unrefused schedule ok)
 
 pub output-unrefused : (room : ℕ) (image : List ℕ) → length image ≤ room → outputRefusal room image ≡ none
 unfolding outputRefusal
@@ -76,14 +71,9 @@ unfolding writeRefusal orElse
 write-unrefused n b room e h =
     ap (λ (o : Option Refusal). orElse o (outputRefusal room (encode (fieldsIn n b)))) e ∙ output-unrefused room (encode (fieldsIn n b)) h
 
--- a run that isn't refused finds a sound state
-run-finds-sound : (n : Sizes) (b : Buffers) (schedule : List ℕ) → runRefusal n b schedule ≡ none → sound (fieldsIn n b) ≡ true
-unfolding runRefusal stateRefusal orElse stateRefused
-run-finds-sound n b schedule e = go (sound (fieldsIn n b)) (rw (run-fits n b schedule e) at e)
-  where
-    go : (t : Bool) → orElse (cond (not t) (some UnsoundState) none) (scheduleRefusal schedule) ≡ none → t ≡ true
-    go true q = refl
-    go false q = absurd (none-some UnsoundState (sym q))
+-- buffers that hold a sound state whose sizes fit aren't refused
+pub held-unrefused : (n : Sizes) (s : State) (b : Buffers) → Sized n s → fits n (roomOf b) ≡ true → sound s ≡ true → stateRefusal n (holding s b) ≡ none
+held-unrefused n s b z f e = state-unrefused n (holding s b) (ap (fits n) (holding-room n s b z f) ∙ f) (ap sound (holding-fields n s b z) ∙ e)
 
 -- ---- what calls that aren't refused answer and leave
 
@@ -92,11 +82,11 @@ pub read-answers : (room : Room) (bytes : List ℕ) (i : Image) → decode bytes
 unfolding readAnswer decodedAnswer decodedRefusal unless
 read-answers room bytes i d f = ap (decodedAnswer room) d ∙ rw f
 
-run-answers : (n : Sizes) (b : Buffers) (schedule : List ℕ) → runRefusal n b schedule ≡ none → runAnswer n b schedule ≡ answers (run schedule (fieldsIn n b) .counts)
+pub run-answers : (n : Sizes) (b : Buffers) (schedule : List ℕ) → runRefusal n b schedule ≡ none → runAnswer n b schedule ≡ answers (run schedule (fieldsIn n b) .counts)
 unfolding runAnswer unless
 run-answers n b schedule e = rw e
 
-run-leaves : (n : Sizes) (b : Buffers) (schedule : List ℕ) → runRefusal n b schedule ≡ none → runLeaves n b schedule ≡ holding (run schedule (fieldsIn n b) .state) b
+pub run-leaves : (n : Sizes) (b : Buffers) (schedule : List ℕ) → runRefusal n b schedule ≡ none → runLeaves n b schedule ≡ holding (run schedule (fieldsIn n b) .state) b
 unfolding runLeaves runAnswer unless leaving
 run-leaves n b schedule e = rw e
 
@@ -104,7 +94,7 @@ write-answers : (n : Sizes) (b : Buffers) (room : ℕ) → writeRefusal n b room
 unfolding writeAnswer unless
 write-answers n b room e = rw e
 
-write-leaves : (n : Sizes) (b : Buffers) (output : List ℕ) → writeRefusal n b (length output) ≡ none → writeLeaves n b output ≡ over (encode (fieldsIn n b)) output
+pub write-leaves : (n : Sizes) (b : Buffers) (output : List ℕ) → writeRefusal n b (length output) ≡ none → writeLeaves n b output ≡ over (encode (fieldsIn n b)) output
 unfolding writeLeaves writeAnswer unless leaving
 write-leaves n b output e = rw e
 
@@ -125,9 +115,7 @@ module _ (b : Buffers) (bytes : List ℕ) (i : Image) (hb : Bytes bytes) (d : de
 
   read-sound : stateRefusal n held ≡ none
   read-sound =
-      state-unrefused n held
-      (ap (fits n) (ap roomOf (held-by-read b bytes i d unrefused) ∙ holding-room n (stateOf i) b (read-sized i) f) ∙ f)
-      (ap sound is-read ∙ reads-only-sound bytes hb i d)
+      ap (stateRefusal n) (held-by-read b bytes i d unrefused) ∙ held-unrefused n (stateOf i) b (read-sized i) f (reads-only-sound bytes hb i d)
 
   module _ (schedule : List ℕ) (ok : scheduleSound schedule ≡ true) where
     pub read-run-unrefused : runRefusal n held schedule ≡ none
@@ -162,15 +150,12 @@ module _ (n : Sizes) (b : Buffers) (schedule : List ℕ) (e : runRefusal n b sch
   is-run = run-in-place n b schedule e
 
   pub run-sound-after : sound after ≡ true
-  run-sound-after = run-keeps-sound schedule (fieldsIn n b) (run-finds-sound n b schedule e)
+  run-sound-after = run-keeps-sound schedule (fieldsIn n b) (run-parts n b schedule e .1)
 
   run-sound : stateRefusal n (runLeaves n b schedule) ≡ none
   run-sound =
-      state-unrefused n (runLeaves n b schedule)
-      (ap (fits n) (ap roomOf (run-leaves n b schedule e)
-      ∙ holding-room n after b (lengths-sized n (fieldsIn n b) after (fields-sized n b (run-fits n b schedule e)) (run-lengths schedule (fieldsIn n b))) (run-fits n b schedule e))
-      ∙ run-fits n b schedule e)
-      (ap sound is-run ∙ run-sound-after)
+      let f = run-parts n b schedule e .0 in
+      ap (stateRefusal n) (run-leaves n b schedule e) ∙ held-unrefused n after b (run-sized n b schedule f) f run-sound-after
 
   module _ (output : List ℕ) (h : length (encode after) ≤ length output) where
     run-write-unrefused : writeRefusal n (runLeaves n b schedule) (length output) ≡ none

@@ -31,7 +31,7 @@ use Rattle.run.specs.declared.Counts.{Counts}
 use Rattle.run.specs.Run.{noCounts, runBy, run}
 use Rattle.run.specs.Laws.Run.{after, run-after}
 use Rattle.run.specs.Laws.RunAgreement.{only, only-nil, only-in, only-out, runs-agree}
-use Rattle.run.specs.Compared.{cut, memoryIn, Compared, SameProgram, SameConstants, Clear, Apart, Alone}
+use Rattle.run.specs.Compared.{cut, memoryIn, Compared, SameProgram, SameConstants, Clear, Alone}
 
 -- ---- a part cut out of a list, and its places
 
@@ -154,6 +154,10 @@ clear v w e a i = go (inside w a) refl
     go : (b : Bool) → inside w a ≡ b → inside w a ≡ false
     go true k = clash (meets v w) (meeting v w a i k) e
     go false k = k
+
+-- the register and data windows of the tasks of A meet none of a task outside A
+abbrev Apart : (ℕ → Bool) → State → Type 0
+Apart A s = (t u : ℕ) → A t ≡ true → A u ≡ false → Clear t u s
 
 apart-of : (A : ℕ → Bool) (s : State) → Apart A s → agreement.Apart A s
 apart-of A s k = record {

@@ -1,20 +1,24 @@
--- A run: its counts add up to the schedule's length, and the flag never falls. For any instruction set.
+-- A run: its counts add up to the schedule's length, whatever was counted before, and the flag never falls. For any instruction set.
 use mathlib.Core.Path.{_≡_, refl, sym, ap, _∙_, subst}
+use mathlib.Core.Bool.{true, false≢true}
+use mathlib.Core.Option.{Option, none, some}
 use mathlib.Core.List.{List, [], _∷_}
 use Prim.Native.Nat.{ℕ, suc, _+_}
 use native.Mathlib.Omega.{arith}
 use lib.ListN.{length}
+use Rattle.refusal.specs.declared.Refusal.{Refusal}
 use Rattle.operation.specs.Environment.{Environment}
 use Rattle.operation.specs.declared.Decision.{Decision}
 use Rattle.operation.specs.Decide.{decide}
 use Rattle.step.specs.declared.Ending.{Ending}
 use Rattle.step.specs.declared.Ending.the-variants.{Executed, Waved, Trapped, Idle}
 use Rattle.step.specs.State.{State}
-use Rattle.step.specs.Step.{stepBy}
+use Rattle.step.specs.Step.{stepBy, step}
 use Rattle.step.specs.LiveCounts.{Counted, step-keeps-counted}
 use Rattle.step.specs.Laws.Step.{flag-kept}
 use Rattle.step.specs.Laws.Lengths.{SameLengths, same-lengths, lengths-join, step-lengths}
 use Rattle.run.specs.declared.Counts.{Counts}
+use Rattle.run.specs.Schedule.{scheduleRefusal, accepts, scheduleSound}
 use Rattle.run.specs.Run.{counted, noCounts, runBy, run}
 
 -- executed + waved + trapped + idle
@@ -28,6 +32,35 @@ sum-counted Waved c = omega arith
 sum-counted (Trapped k p) c = omega arith
 sum-counted Idle c = omega arith
 
+-- a schedule that is accepted isn't refused
+pub sound-unrefused : (schedule : List ℕ) → scheduleSound schedule ≡ true → scheduleRefusal schedule ≡ none
+unfolding scheduleSound accepts
+sound-unrefused schedule e = go (scheduleRefusal schedule) e
+  where
+    go : (o : Option Refusal) → accepts o ≡ true → o ≡ none
+    go none k = refl
+    go (some x) k = absurd (false≢true k)
+
+-- the order in which two endings are counted doesn't matter
+counted-turned : (e f : Ending) (c : Counts) → counted e (counted f c) ≡ counted f (counted e c)
+unfolding counted
+counted-turned Executed Executed c = refl
+counted-turned Executed Waved c = refl
+counted-turned Executed (Trapped k p) c = refl
+counted-turned Executed Idle c = refl
+counted-turned Waved Executed c = refl
+counted-turned Waved Waved c = refl
+counted-turned Waved (Trapped k p) c = refl
+counted-turned Waved Idle c = refl
+counted-turned (Trapped k p) Executed c = refl
+counted-turned (Trapped k p) Waved c = refl
+counted-turned (Trapped k p) (Trapped k′ p′) c = refl
+counted-turned (Trapped k p) Idle c = refl
+counted-turned Idle Executed c = refl
+counted-turned Idle Waved c = refl
+counted-turned Idle (Trapped k p) c = refl
+counted-turned Idle Idle c = refl
+
 module _ (instructions : Environment → Decision) where
   -- the state after a schedule
   unfoldable pub after : List ℕ → State → State
@@ -38,6 +71,14 @@ module _ (instructions : Environment → Decision) where
   unfolding runBy after
   run-after [] s c = refl
   run-after (t ∷ ts) s c = run-after ts (stepBy instructions t s .state) (counted (stepBy instructions t s .ending) c)
+
+  -- an ending counted before a run is counted behind it
+  run-counted : (e : Ending) (ts : List ℕ) (s : State) (c : Counts) → runBy instructions ts s (counted e c) .counts ≡ counted e (runBy instructions ts s c .counts)
+  unfolding runBy
+  run-counted e [] s c = refl
+  run-counted e (t ∷ ts) s c =
+      let x = stepBy instructions t s in
+      ap (λ (d : Counts). runBy instructions ts (x .state) d .counts) (counted-turned (x .ending) e c) ∙ run-counted e ts (x .state) (counted (x .ending) c)
 
   sum-run : (ts : List ℕ) (s : State) (c : Counts) → sum (runBy instructions ts s c .counts) ≡ length ts + sum c
   unfolding runBy
@@ -65,6 +106,17 @@ module _ (instructions : Environment → Decision) where
   unfolding after
   after-lengths [] s = same-lengths s
   after-lengths (t ∷ ts) s = lengths-join (after-lengths ts (stepBy instructions t s .state)) (step-lengths instructions t s)
+
+-- a run of a list is a step of its first item and a run of the others
+pub run-first-state : (t : ℕ) (ts : List ℕ) (s : State) → run (t ∷ ts) s .state ≡ run ts (step t s .state) .state
+unfolding run step runBy
+run-first-state t ts s =
+    let x = stepBy decide t s in
+    run-after decide ts (x .state) (counted (x .ending) noCounts) ∙ sym (run-after decide ts (x .state) noCounts)
+
+pub run-first-counts : (t : ℕ) (ts : List ℕ) (s : State) → run (t ∷ ts) s .counts ≡ counted (step t s .ending) (run ts (step t s .state) .counts)
+unfolding run step runBy
+run-first-counts t ts s = let x = stepBy decide t s in run-counted decide (x .ending) ts (x .state) noCounts
 
 -- a run changes the length of no memory, and not how many rows there are
 pub run-lengths : (schedule : List ℕ) (s : State) → SameLengths (run schedule s .state) s

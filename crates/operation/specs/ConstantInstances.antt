@@ -1,35 +1,18 @@
--- Checks 3, 6 and 8, as instances that compute.
+-- Check 6 and the tests of a constant of quality 5 and word 7, the only one, as instances that compute.
 use Prim.Native.Nat.{ℕ, _+_, _*_}
 use mathlib.Core.Path.{_≡_, refl}
 use mathlib.Core.List.{[], _∷_}
 use Rattle.word.specs.Fields.{pswOf}
 use Rattle.window.specs.declared.Write.the-variants.{Nothing, Put}
 use Rattle.window.specs.Memories.{memory, cell}
-use Rattle.operation.specs.declared.Wait.the-variants.{Create}
-use Rattle.operation.specs.declared.Trap.the-variants.{SupervisorCall, DataException}
+use Rattle.operation.specs.declared.Trap.the-variants.{DataException}
 use Rattle.operation.specs.declared.Fate.the-variants.{Continues}
 use Rattle.operation.specs.declared.Decision.{Decision}
-use Rattle.operation.specs.declared.Decision.the-variants.{Waits, Traps, Executes}
-use Rattle.operation.specs.Environment.{Environment, environmentOf}
+use Rattle.operation.specs.declared.Decision.the-variants.{Traps, Executes}
+use Rattle.operation.specs.Environment.{environmentOf}
 use Rattle.operation.specs.Decide.{decide}
-use Rattle.operation.specs.Exclusions.{exclusionRow, instructionWord, environmentWith}
+use Rattle.operation.specs.Exclusions.{exclusionRow, instructionWord}
 use Rattle.operation.specs.Laws.Opened.{opened}
-
--- the create fault flag up, all else the same
-unfoldable pub flagUp : Environment → Environment
-flagUp v = record { row = v .row; psw = v .psw; flag = 1; programWord = v .programWord; cell = v .cell; datum = v .datum }
-
-pub record CheckTrials : Type 0 where
-  -- SVC stores the PC past the instruction
-  pub svc : decide (environmentWith (instructionWord 0x0900 0 0 0)) ≡ Traps SupervisorCall 1
-  -- a true CREATE waits while the flag is up
-  pub create : decide (flagUp (environmentWith (instructionWord 0x3970 0 0x4000 0x4000))) ≡ Waits Create
-
-pub check-trials : CheckTrials
-unfolding opened exclusionRow instructionWord environmentWith flagUp
-check-trials = record { svc = refl; create = refl }
-
--- ---- a constant of quality 5 and word 7, the only one
 
 -- the instruction at PC 0 under this UTM; every register is full with word 0
 unfoldable pub underUtm : (utm w : ℕ) → Decision
