@@ -1,4 +1,5 @@
-//! Links libhep_c.a, which `rt staticlib hep_c` writes. HEP_LIB_DIR names its folder where it is not the repository's.
+//! Links libhep_c.a, which `rt staticlib hep_c` writes. HEP_LIB_DIR names its folder where it is not the repository's. A package that uses
+//! this one gets the archive's path as DEP_HEP_C_ARCHIVE in its build script.
 
 use std::{env, path::Path};
 
@@ -9,4 +10,5 @@ fn main() {
     println!("cargo:rerun-if-changed={}", folder.join("libhep_c.a").display());
     println!("cargo:rustc-link-search=native={}", folder.display());
     println!("cargo:rustc-link-lib=static=hep_c");
+    println!("cargo:archive={}", folder.join("libhep_c.a").display());
 }
