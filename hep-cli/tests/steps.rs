@@ -330,6 +330,6 @@ fn timelines() {
     }
     let zoomed =
         hep(&["timeline", "--from", "100", "--to", "199", &example("frame-b.hep")], b"").out;
-    assert!(zoomed.contains("items 100 to 199 of 2225 of 2 tasks, a column for each item"));
+    assert!(zoomed.contains("items 100 to 199 (of 2225) of 2 tasks, a column for each item"));
     assert!(hep(&["timeline"], TEXT).out.contains("12 items of 1 task, "));
 }

@@ -12,6 +12,7 @@ use hep_tools::tool::load::open;
 use hep_tools::tool::text::{assemble, dump, show};
 use hep_tools::tool::timeline::{svg, View};
 use hep_tools::trials::edges;
+use std::fs;
 
 /// That the bytes come back from their text, and the text from the bytes.
 fn both_ways(bytes: &[u8]) {
@@ -255,6 +256,20 @@ fn bad_crowds() {
     assert_eq!(long(28_655).over(), None);
     assert_eq!(long(28_656).over().unwrap(), "it has 65537 bytes, over 65536");
     assert_eq!(long(65_536).over().unwrap(), "its schedule has 65536 items, over 65535");
+}
+
+/// The kept dump of each level assembles, is accepted, and is dumped again word by word: what a later request added has its default.
+#[test]
+fn kept_dumps_of_earlier_levels() {
+    let folder = concat!(env!("CARGO_MANIFEST_DIR"), "/tests/dumps");
+    let files = fs::read_dir(folder).unwrap().map(|file| file.unwrap().path());
+    let levels = files.map(|path| {
+        let text = fs::read_to_string(&path).unwrap();
+        let source = assemble(&text).unwrap_or_else(|errors| panic!("{path:?}: {}", errors[0]));
+        assert_eq!(dump(&source), text, "{path:?}");
+        assert!(batch::accepted(&source.bytes()).is_ok(), "{path:?}");
+    });
+    assert!(levels.count() > 0);
 }
 
 #[test]
