@@ -5,11 +5,14 @@
     figures.py --path [--write]     the buyer's path: the spec files in reading order with their lines, and the definitions that the
                                     contracts of the delivered calls name; --write puts it into README.md, below its heading
     figures.py --above CRATE [LOG]  the crates that are proved anew after a change of CRATE, with the seconds of LOG
+    figures.py --seconds LOG        the table tools/seconds.txt, which tools/progress.py reads; LOG is what .ci/run printed
 """
 import glob
 import os
 import re
 import sys
+
+import gate_log
 
 PASSED_OVER = ("//", "--", "use ", "ghost use ", "pub use ", "unfoldable pub use ", "pub mod ", "mod ")
 DELIVERED = ("hep", "batch", "hep_c")
@@ -27,7 +30,7 @@ def crates():
 
 
 def seconds(log):
-    return dict(re.findall(r"^rt: (\w+) proved \((\d+) s\)", open(log).read(), flags=re.M))
+    return gate_log.proofs(open(log).read())
 
 
 def table(log):
@@ -45,7 +48,7 @@ def table(log):
         row = [functions, lines(source), lines(specs - code - laws), lines(code), lines(laws), lines(proofs), len(edits)]
         total = [a + b for a, b in zip(total, row)]
         print(line_of(crate, row, took.get(crate, "")))
-    print(line_of("all", total, sum(map(int, took.values()))))
+    print(line_of("all", total, sum(took.values())))
 
 
 def line_of(crate, row, took):
@@ -127,7 +130,14 @@ def above(crate, log):
     for name in anew:
         print(name, took.get(name, ""))
     if log:
-        print("all", sum(int(took.get(n, 0)) for n in anew))
+        print("all", sum(took.get(n, 0) for n in anew))
+
+
+def seconds_table(log):
+    text = open(log).read()
+    print("# Seconds of each crate, of each must-fail edit and of the tests, by python3 tools/figures.py --seconds LOG.")
+    for name, took in [*gate_log.proofs(text).items(), *gate_log.edits(text).items(), ("tests", gate_log.tests(text))]:
+        print(name, took)
 
 
 if len(sys.argv) < 2:
@@ -136,5 +146,7 @@ if sys.argv[1] == "--path":
     write_path() if "--write" in sys.argv else print(path(), end="")
 elif sys.argv[1] == "--above":
     above(sys.argv[2], sys.argv[3] if len(sys.argv) > 3 else None)
+elif sys.argv[1] == "--seconds":
+    seconds_table(sys.argv[2])
 else:
     table(sys.argv[1])
