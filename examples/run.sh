@@ -16,7 +16,7 @@ build_unproved() {
 }
 build_proved() {
     bash tools/proved.sh
-    cargo build --quiet --release --offline --manifest-path hep-cli/Cargo.toml
+    env -u HEP_LIB_DIR cargo build --quiet --release --offline --manifest-path hep-cli/Cargo.toml
     batch=target/bin/hep_batch hep=hep-cli/target/release/hep
 }
 # A report, and each of its lines in words.
