@@ -14,6 +14,7 @@ import re
 import sys
 import time
 
+import closure
 import gate_log
 
 TABLE = "tools/seconds.txt"
@@ -23,13 +24,9 @@ MEMORY = "5 GB"
 QUIET = re.compile(r"^rt: (\S+ proved \(|must-fail \S+: refused, as it must be|ok, |target/|\S+ ran\b)")
 
 
-def uses():
-    return {m.group(1): m.group(2).split() for m in re.finditer(r"^(\w+):(.*)$", open("crates.txt").read(), flags=re.M)}
-
-
 def levels(wanted):
     """The crates that the wanted ones rest on, themselves among them, each with its level, in rt's order."""
-    listed, level = uses(), {}
+    listed, level = closure.uses(), {}
 
     def visit(crate):
         if crate not in level:
