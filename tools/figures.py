@@ -113,7 +113,8 @@ def path():
 
 def write_path():
     before, rest = open("README.md").read().split(BELIEVED)
-    open("README.md", "w").write(before + path() + rest[rest.index("\n## "):])
+    text = before + path() + "".join(rest.partition("\n## ")[1:])
+    open("README.md", "w").write(text)
 
 
 def above(crate, log):

@@ -19,8 +19,8 @@ import gate_log
 
 TABLE = "tools/seconds.txt"
 KEPT = "target/log/gate.txt"
-# The two greatest resident sets of provers that run side by side, by getrusage for each crate: hep_c and batch.
-MEMORY = "5 GB"
+# Two provers side by side at most: 3.9 GB for hep_c and 3.7 GB for hep, the greatest resident set of each crate's proof by getrusage.
+MEMORY = "8 GB"
 QUIET = re.compile(r"^rt: (\S+ proved \(|must-fail \S+: refused, as it must be|ok, |target/|\S+ ran\b)")
 
 
