@@ -1,5 +1,6 @@
 //! Links libhep_c.a, the proved archive: from the folder HEP_LIB_DIR if that is set, else from the repository's target/staticlib
-//! (`bash tools/archive.sh` makes it), else from where install.sh put it, as pkg-config says.
+//! (`bash tools/archive.sh` makes it), else from where install.sh put it, as pkg-config says. A package that uses this one gets the archive's path
+//! as DEP_HEP_C_ARCHIVE in its build script.
 
 use std::env;
 use std::path::{Path, PathBuf};
@@ -24,7 +25,9 @@ fn main() {
         eprintln!("{ARCHIVE} is neither in HEP_LIB_DIR nor built nor installed: `bash tools/archive.sh` of the repository proves and builds it");
         process::exit(1);
     };
-    println!("cargo:rerun-if-changed={}", folder.join(ARCHIVE).display());
+    let archive = folder.join(ARCHIVE);
+    println!("cargo:rerun-if-changed={}", archive.display());
     println!("cargo:rustc-link-search=native={}", folder.display());
     println!("cargo:rustc-link-lib=static=hep_c");
+    println!("cargo:archive={}", archive.display());
 }

@@ -6,7 +6,8 @@ use crate::emulator::batch::Answer;
 use crate::emulator::draft::{Draft, Task};
 use crate::emulator::image::{self, MOST_CONSTANTS};
 use crate::generate::{self, Pair};
-use crate::tool::share::{data, instructions, registers, share, Share};
+use crate::tool::agree::meetings;
+use crate::tool::share::{instructions, share, Share};
 use crate::tool::text::Source;
 
 /// A premise that a pair breaks.
@@ -81,7 +82,7 @@ pub fn broken(pair: &Pair, after: &[Draft; 2]) -> Option<Broken> {
     if first != second || !constants_agree(drafts) {
         return Some(Broken::Disagree);
     }
-    if drafts.iter().any(|draft| meets_another(draft, pair.task)) {
+    if drafts.iter().any(|draft| !meetings(draft, pair.task).is_empty()) {
         return Some(Broken::WindowsMeet);
     }
     let items = |source: &Source| {
@@ -104,16 +105,4 @@ fn constants_agree(drafts: [&Draft; 2]) -> bool {
 fn compared(draft: &Draft, number: u8) -> Option<(Task, Vec<u64>, Share)> {
     let task = draft.tasks.iter().find(|task| task.number == number)?;
     Some((*task, instructions(draft, task), share(draft, number)?))
-}
-
-/// Whether the task's register or data window meets another task's.
-fn meets_another(draft: &Draft, number: u8) -> bool {
-    let meet = |a: std::ops::Range<usize>, b: std::ops::Range<usize>| {
-        a.start.max(b.start) < a.end.min(b.end)
-    };
-    let own = draft.tasks.iter().filter(|task| task.number == number);
-    own.flat_map(|task| draft.tasks.iter().map(move |other| (task, other))).any(|(task, other)| {
-        other.number != number
-            && (meet(registers(task), registers(other)) || meet(data(task), data(other)))
-    })
 }

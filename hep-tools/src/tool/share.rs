@@ -79,3 +79,19 @@ impl Share {
         out
     }
 }
+
+/// Some of a window's cells in decimal: place, value, state.
+pub fn cells_shown(
+    cells: &[(u8, u64)],
+    places: &std::ops::RangeInclusive<usize>,
+    name: &str,
+    is_empty: impl Fn(u8) -> bool,
+) -> Result<String, String> {
+    let Some(shown) = cells.get(places.clone()) else {
+        return Err(format!("the window has {} {name}, counted from 0", cells.len()));
+    };
+    let line = |(place, &(tag, word)): (usize, &(u8, u64))| {
+        format!("{place} {} {}\n", word as i64, if is_empty(tag) { "empty" } else { "full" })
+    };
+    Ok(places.clone().zip(shown).map(line).collect())
+}
