@@ -8,11 +8,11 @@ set -euo pipefail
 cd "$(dirname "$0")/.."
 build_unproved() {
     bash tools/needs.sh
-    echo "Building the batch program, the library and the program hep without proof: about 30 s of processor, 1 GB of memory."
+    echo "Building the batch program, the library and the program hep without proof: about 15 s of processor, 0.4 GB of memory."
     python3 tools/native.py hep_batch --stdin crates/hep_batch/stdin
     python3 tools/native.py hep_c
-    HEP_LIB_DIR=$PWD/target/native cargo build --quiet --release --offline --manifest-path hep-cli/Cargo.toml --target-dir target/native/cargo
-    batch=target/native/hep_batch hep=target/native/cargo/release/hep
+    HEP_LIB_DIR=$PWD/target/native CARGO_PROFILE_DEV_OPT_LEVEL=0 cargo build --quiet --offline --manifest-path hep-cli/Cargo.toml --target-dir target/native/cargo
+    batch=target/native/hep_batch hep=target/native/cargo/debug/hep
 }
 build_proved() {
     bash tools/proved.sh

@@ -119,7 +119,7 @@ def refused(name, answers):
 
 def assembled(file):
     """The bytes of a text, by the program hep as examples/run.sh builds it."""
-    for built in ("hep-cli/target/release/hep", "target/native/cargo/release/hep"):
+    for built in ("hep-cli/target/release/hep", "target/native/cargo/debug/hep"):
         if (ROOT / built).exists():
             done = subprocess.run([ROOT / built, "asm", file], capture_output=True)
             sys.stderr.buffer.write(done.stderr)
