@@ -44,7 +44,7 @@ for page in "$prefix"/share/man/man*/*; do
     [ -z "$warnings" ] || fail "$page: $warnings"
 done
 for command in $(hep --help | sed -n 's/^  \([a-z]\+\)  .*/\1/p'); do
-    grep -q "^\.B $command$" install/hep.1 || fail "hep.1 has no $command"
+    grep -q "^\.SS hep $command " install/hep.1 || fail "hep.1 has no $command"
 done
 sed -n '/^    hep input/,/^\.fi/{/^\.fi/d;p}' install/hep.5 | hep asm | hep_batch | diff - <(echo "1 1 -- -----"; echo "E2 W0 T0 I0 CF0")
 [ "$(pkg-config --modversion hep)" = "$version" ] || fail "hep.pc has another version than $version"
