@@ -5,8 +5,9 @@ use crate::closed;
 use crate::status::Failure;
 use hep_tools::tool::load::{self, Loaded, Reading, Trouble};
 use hep_tools::tool::text::assemble;
-use std::fs;
+use std::fs::{self, File};
 use std::io::{self, IsTerminal, Read};
+use std::os::fd::AsFd;
 
 pub const INPUT: Opt = flag("input", "bytes and hex digits are a batch input");
 pub const IMAGE: Opt = flag("image", "bytes and hex digits are an image");
@@ -43,13 +44,19 @@ pub fn read(file: &str) -> Result<Vec<u8>, Failure> {
     if file == "-" && closed::input() {
         return Err(Failure::broken("standard input", "it is closed"));
     }
-    let mut bytes = Vec::new();
     let read = match file {
-        "-" => io::stdin().read_to_end(&mut bytes).map(|_| bytes),
+        "-" => read_standard(),
         _ => fs::read(file),
     };
     let name = if file == "-" { "standard input" } else { file };
     read.map_err(|error| Failure::broken(name, error))
+}
+
+/// Standard input through a descriptor of its own: the library's handle takes one that can't be read for an empty file.
+fn read_standard() -> io::Result<Vec<u8>> {
+    let mut bytes = Vec::new();
+    File::from(io::stdin().as_fd().try_clone_to_owned()?).read_to_end(&mut bytes)?;
+    Ok(bytes)
 }
 
 /// What bytes are to be read as.

@@ -20,17 +20,31 @@ mod status;
 
 use std::env;
 use std::process::ExitCode;
+use std::thread;
+
+/// What the work takes at most, `hep_batch` of the library among it, whatever the main thread is given.
+const STACK: usize = 4 << 20;
 
 fn main() -> ExitCode {
-    let words: Result<Vec<String>, _> =
-        env::args_os().skip(1).map(|word| word.into_string()).collect();
-    let done = match words {
+    let worker = thread::Builder::new().stack_size(STACK).spawn(work);
+    let status = match worker.map(|worker| worker.join()) {
+        Ok(Ok(status)) => status,
+        Ok(Err(_)) => status::Status::Broken,
+        Err(error) => told(status::Failure::broken("a thread", error)),
+    };
+    ExitCode::from(status as u8)
+}
+
+fn work() -> status::Status {
+    let words = env::args_os().skip(1).map(|word| word.into_string());
+    let done = match words.collect() {
         Ok(words) => commands::dispatch(words),
         Err(word) => Err(status::Failure::usage(format!("{word:?} is not UTF-8"))),
     };
-    let status = done.unwrap_or_else(|failure| {
-        output::tell(&failure.words);
-        failure.status
-    });
-    ExitCode::from(status as u8)
+    done.unwrap_or_else(told)
+}
+
+fn told(failure: status::Failure) -> status::Status {
+    output::tell(&failure.words);
+    failure.status
 }

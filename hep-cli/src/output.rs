@@ -5,11 +5,12 @@ use crate::closed;
 use crate::status::Failure;
 use std::fs::File;
 use std::io::{self, BufWriter, ErrorKind, Write};
+use std::os::fd::AsFd;
 
 /// Where a command's answer goes.
 pub struct Sink {
     name: String,
-    to: BufWriter<Box<dyn Write>>,
+    to: BufWriter<File>,
 }
 
 impl Sink {
@@ -26,12 +27,15 @@ impl Sink {
         if closed::output() {
             return Err(Failure::broken(&name, "it is closed"));
         }
-        Ok(Sink { name, to: BufWriter::new(Box::new(io::stdout())) })
+        // The library's handle takes a descriptor that can't be written for a written one.
+        let descriptor = io::stdout().as_fd().try_clone_to_owned();
+        let file = File::from(descriptor.map_err(|error| Failure::broken(&name, error))?);
+        Ok(Sink { name, to: BufWriter::new(file) })
     }
 
     pub fn file(name: &str) -> Result<Sink, Failure> {
         let file = File::create(name).map_err(|error| Failure::broken(name, error))?;
-        Ok(Sink { name: name.to_string(), to: BufWriter::new(Box::new(file)) })
+        Ok(Sink { name: name.to_string(), to: BufWriter::new(file) })
     }
 
     pub fn put(&mut self, answer: impl AsRef<[u8]>) -> Result<(), Failure> {

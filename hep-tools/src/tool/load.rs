@@ -136,7 +136,7 @@ pub fn not_of_this_machine(bytes: &[u8]) -> Option<String> {
 /// The first three bytes of an accepted image or input are never all above 8: an image
 /// starts with at most 7, and an input with its items or an image within three bytes.
 pub fn open(bytes: &[u8], reading: Option<Reading>) -> Result<Loaded, Trouble> {
-    if bytes.is_empty() || bytes.iter().take(3).any(|byte| *byte < 9) {
+    if not_of_this_machine(bytes).is_some() || bytes.iter().take(3).any(|byte| *byte < 9) {
         return from_bytes(bytes, reading);
     }
     let Ok(text) = std::str::from_utf8(bytes) else { return from_bytes(bytes, reading) };
