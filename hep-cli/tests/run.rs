@@ -198,46 +198,29 @@ fn refused_inputs_have_words() {
     assert_eq!(hep(&["run", "--input", "--image"], TEXT).code, 2);
 }
 
+const FULL: &str = "No space left on device (os error 28)";
+
+/// Command lines, where FRAME is a file, and the words of each failure.
+const BROKEN: [(&str, &str, &str); 12] = [
+    ("$HEP run FRAME > /dev/full", "standard output", FULL),
+    ("$HEP run FRAME >&-", "standard output", "it is closed"),
+    ("$HEP run FRAME 1< /dev/null", "standard output", "Bad file descriptor (os error 9)"),
+    ("$HEP trace FRAME > /dev/full", "standard output", FULL),
+    ("$HEP --help > /dev/full", "standard output", FULL),
+    ("$HEP run -o /dev/full FRAME", "/dev/full", FULL),
+    ("$HEP run --log /dev/full FRAME", "/dev/full", FULL),
+    ("$HEP run < /", "standard input", "Is a directory (os error 21)"),
+    ("$HEP run 0> /dev/null", "standard input", "Bad file descriptor (os error 9)"),
+    ("$HEP run <&-", "standard input", "it is closed"),
+    ("$HEP run /", "/", "Is a directory (os error 21)"),
+    ("$HEP run /no/file", "/no/file", "No such file or directory (os error 2)"),
+];
+
 #[test]
 fn what_cannot_be_read_or_written() {
-    let frame = example("frame-a.hep");
-    let cases = [
-        (
-            format!("$HEP run {frame} > /dev/full"),
-            "hep: standard output: No space left on device (os error 28)\n",
-        ),
-        (format!("$HEP run {frame} >&-"), "hep: standard output: it is closed\n"),
-        (
-            format!("$HEP trace {frame} > /dev/full"),
-            "hep: standard output: No space left on device (os error 28)\n",
-        ),
-        (
-            format!("$HEP run -o /dev/full {frame}"),
-            "hep: /dev/full: No space left on device (os error 28)\n",
-        ),
-        (
-            format!("$HEP run --log /dev/full {frame}"),
-            "hep: /dev/full: No space left on device (os error 28)\n",
-        ),
-        (
-            "$HEP --help > /dev/full".to_string(),
-            "hep: standard output: No space left on device (os error 28)\n",
-        ),
-        ("$HEP run < /".to_string(), "hep: standard input: Is a directory (os error 21)\n"),
-        (
-            "$HEP run 0> /dev/null".to_string(),
-            "hep: standard input: Bad file descriptor (os error 9)\n",
-        ),
-        ("$HEP run <&-".to_string(), "hep: standard input: it is closed\n"),
-        ("$HEP run /".to_string(), "hep: /: Is a directory (os error 21)\n"),
-        (
-            "$HEP run /no/file".to_string(),
-            "hep: /no/file: No such file or directory (os error 2)\n",
-        ),
-    ];
-    for (line, words) in cases {
-        let ended = shell(&line);
-        assert_eq!((ended.code, ended.err.as_str()), (2, words), "{line}");
+    for (line, what, words) in BROKEN {
+        let ended = shell(&line.replace("FRAME", &example("frame-a.hep")));
+        assert_eq!((ended.code, ended.err), (2, format!("hep: {what}: {words}\n")), "{line}");
     }
 }
 

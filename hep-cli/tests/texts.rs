@@ -236,3 +236,20 @@ fn the_man_page_names_every_option() {
     let text = &page[start..start + page[start..].find(".fi").unwrap()];
     assert_eq!(hep(&["run"], text).out, "1 1 -- -----\nE2 W0 T0 I0 CF0\n");
 }
+
+/// The text that FORMAT.md begins with does what is said below it.
+#[test]
+fn the_first_text_of_the_format() {
+    let page =
+        fs::read_to_string(concat!(env!("CARGO_MANIFEST_DIR"), "/../hep-tools/FORMAT.md")).unwrap();
+    let start = page.find("    hep input\n").expect("an example");
+    let text = &page[start..start + page[start..].find("\n`hep run`").unwrap()];
+    let report = hep(&["run", "--check"], text).out;
+    let said = format!("`{}`", report.trim_end().replace('\n', "` and `"));
+    assert!(page.contains(&format!("`hep run` reports {said}")), "{said}");
+    let share = hep(&["share", "--data", "3", "1"], text).out;
+    assert!(
+        page.contains(&format!("`hep share --data 3 1` shows `{}`", share.trim_end())),
+        "{share}"
+    );
+}

@@ -1,4 +1,4 @@
-//! The image tool's text, both ways, and what it says of bad text.
+//! The text of images and inputs, both ways, and what is said of bad text.
 
 use hep_tools::emulator::assemble::*;
 use hep_tools::emulator::batch;
@@ -12,6 +12,7 @@ use hep_tools::tool::load::open;
 use hep_tools::tool::text::{assemble, dump, show};
 use hep_tools::tool::timeline::{svg, View};
 use hep_tools::trials::edges;
+use std::fs;
 
 /// That the bytes come back from their text, and the text from the bytes.
 fn both_ways(bytes: &[u8]) {
@@ -146,19 +147,19 @@ const BAD: [(&str, usize, usize, &str); 61] = [
         "task 1 cb=0 rb=0 rl=1 pb=1 pl=0 db=1 dl=0\nregisters\nfull 0",
         2,
         1,
-        "the register window ends past its memory: it needs 4 registers and 1 are there, 3 are missing (`full 0 * 3`)",
+        "the register window ends past its memory: it needs 4 registers, 1 are there, 3 are missing (`full 0 * 3`)",
     ),
     (
         "task 1 cb=0 rb=1 rl=0 pb=0 pl=2 db=1 dl=0\nprogram\nNOP * 45",
         2,
         1,
-        "the program window ends past its memory: it needs 48 words and 45 are there, 3 are missing (`NOP * 3`)",
+        "the program window ends past its memory: it needs 48 words, 45 are there, 3 are missing (`NOP * 3`)",
     ),
     (
         "task 1 cb=0 rb=1 rl=0 pb=1 pl=0 db=0 dl=0",
         2,
         1,
-        "the data window ends past its memory: it needs 32 words and 0 are there, 32 are missing (`empty 0 * 32`)",
+        "the data window ends past its memory: it needs 32 words, 0 are there, 32 are missing (`empty 0 * 32`)",
     ),
     ("task 1 cb=0 rb=1 rx=0", 2, 18, "`rx` is no field here (did you mean `rb` or `rl`?)"),
     ("task 1 cb=0 rb=1", 2, 17, "rl, pb, pl, db, dl are missing"),
@@ -255,6 +256,20 @@ fn bad_crowds() {
     assert_eq!(long(28_655).over(), None);
     assert_eq!(long(28_656).over().unwrap(), "it has 65537 bytes, over 65536");
     assert_eq!(long(65_536).over().unwrap(), "its schedule has 65536 items, over 65535");
+}
+
+/// The kept dump of each level assembles, is accepted, and is dumped again word by word: what a later request added has its default.
+#[test]
+fn kept_dumps_of_earlier_levels() {
+    let folder = concat!(env!("CARGO_MANIFEST_DIR"), "/tests/dumps");
+    let files = fs::read_dir(folder).unwrap().map(|file| file.unwrap().path());
+    let levels = files.map(|path| {
+        let text = fs::read_to_string(&path).unwrap();
+        let source = assemble(&text).unwrap_or_else(|errors| panic!("{path:?}: {}", errors[0]));
+        assert_eq!(dump(&source), text, "{path:?}");
+        assert!(batch::accepted(&source.bytes()).is_ok(), "{path:?}");
+    });
+    assert!(levels.count() > 0);
 }
 
 #[test]

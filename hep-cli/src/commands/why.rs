@@ -13,15 +13,15 @@ pub const COMMAND: Command = Command {
     operands: "[FILE]",
     summary: "where each process stands after the run, what it waits for, why it trapped",
     about: "Runs the schedule and says of each live process where it stands, what it waits for and who last changed that\n\
-            cell, or why it trapped. The steps are those of hep-tools' emulator, not proved; the image that they end in\n\
-            is held to the proved library's.",
+            cell, or why it trapped. An image alone is told as it stands. The steps are those of hep-tools' emulator, not\n\
+            proved; the image that they end in is held to the proved library's.",
     options: &[SCHEDULE, OUTPUT, INPUT, IMAGE],
     run,
 };
 
 fn run(arguments: &Arguments) -> Result<Status, Failure> {
     let file = files::one(arguments, 0)?;
-    let loaded = files::load_to_run(file, arguments)?;
+    let loaded = files::load(file, arguments)?;
     let schedule = loaded.source.schedule.as_deref().unwrap_or(&[]);
     let (told, machine) = why::why(tool::machine(&loaded.source), schedule, &loaded.symbols);
     output::answer(arguments, told)?;

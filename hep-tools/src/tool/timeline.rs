@@ -196,7 +196,7 @@ fn heading(out: &mut String, picture: &Picture) {
     };
     let drawn = match items.len() == *all {
         true => format!("{all} items"),
-        false => format!("items {} to {} of {all}", items.start, items.end.saturating_sub(1)),
+        false => format!("items {} to {} (of {all})", items.start, items.end.saturating_sub(1)),
     };
     let tasks = match picture.lanes.len() {
         1 => "1 task".to_string(),

@@ -428,8 +428,11 @@ fn lacking(draft: &Draft, task: &Task, line: usize) -> Vec<Error> {
         .filter(|(.., window, size, _)| !window.is_empty() && window.end > *size);
     let told = past.map(|(name, unit, window, size, cell)| {
         let (end, lacks) = (window.end, window.end - size);
-        let needs = format!("needs {end} {unit} and {size} are there");
-        Error::at(line, format!("the {name} window ends past its memory: it {needs}, {lacks} are missing (`{cell} * {lacks}`)"))
+        let missing =
+            if lacks == 1 { "1 is missing".into() } else { format!("{lacks} are missing") };
+        let needs =
+            format!("it needs {end} {unit}, {size} are there, {missing} (`{cell} * {lacks}`)");
+        Error::at(line, format!("the {name} window ends past its memory: {needs}"))
     });
     told.collect()
 }

@@ -1,4 +1,4 @@
-//! The image tool's text, as FORMAT.md describes it: to an image's fields and back.
+//! The text of images and inputs, as FORMAT.md describes it: to an image's fields and back.
 
 mod assemble;
 mod dump;
