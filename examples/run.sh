@@ -22,8 +22,8 @@ build_proved() {
 # A report, and each of its lines in words.
 in_words() {
     awk '
-        /^[1-7] / { printf "%-24s task %d: %d live, %s\n", $0, $1, $2, ($3 == "--" ? "not trapped" : "trapped, kind " $3 " at PC " $4); next }
-        { line = $0; gsub(/[A-Z]/, ""); printf "%-24s %d executed, %d waved (had to wait), %d trapped, %d idle; flag %d\n", line, $1, $2, $3, $4, $5 }'
+        /^[1-7] / { printf "%-24s task %d: %d live, %s\n", $0, $1, $2, ($3 == "--" ? "not trapped" : "trapped at PC " $4 ", kind " $3 ($3 == "14" ? ", a protection violation" : "")); next }
+        { line = $0; gsub(/[A-Z]/, ""); printf "%-24s %d steps executed, %d waved (had to wait), %d trapped, %d idle; flag %d\n", line, $1, $2, $3, $4, $5 }'
 }
 # House one's table: utilisations in units of 10^-16 at 32 to 37, the worst at 40, how many are too much at 41.
 spans() {
@@ -40,12 +40,16 @@ case "${1:-}" in
 esac
 after=$(mktemp)
 trap 'rm -f "$after"' EXIT
-echo "The printed case:"
+declare -A beside=(
+    [a]="house two, task 2, which checks four spans for shear"
+    [b]="house three, task 5, which leaves ten processes waiting for ever and then stores past its window"
+)
+echo "The printed case of document 01, one step of one task:"
 "$batch" < crates/hep_batch/stdin | tee "$after" | in_words
 diff "$after" crates/hep_batch/stdout
 for neighbour in a b; do
     text=examples/frame-$neighbour.hep report=examples/frame-$neighbour.out
-    echo "The frame check, neighbour $neighbour:"
+    echo "House one's frame check, task 1, beside ${beside[$neighbour]}:"
     "$hep" asm "$text" | "$batch" | diff - "$report"
     in_words < "$report"
     "$hep" run -o "$after" "$text" | diff - "$report"

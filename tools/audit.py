@@ -83,11 +83,11 @@ class Page:
     def item(self, item, mark=""):
         """A definition, statement or contract with its comment; its names lead to where they are defined."""
         said = f"[`{item.name}`]({source(item)}) {item.path}:{item.line}{mark}. {' '.join(item.comment)}"
-        named = list(dict.fromkeys(self.specs.named(item)))
+        named = self.specs.named(item)
         self.markdown += [f'<a id="{anchor(item)}"></a>{said}', "", "```", *item.parameters, *item.says(), "```", ""]
         if named:
             self.markdown += ["names: " + ", ".join(f"[{n.name}]({self.link(n)})" for n in named), ""]
-        links = {n.name: self.link(n) for n in named}
+        links = {word: self.link(found) for word, found in self.specs.words(item)}
         code = "\n".join([*item.parameters, *item.says()])
         linked = re.sub(r"[\w′·-]+", lambda m: f'<a href="{links[m.group()]}">{m.group()}</a>' if m.group() in links else m.group(), html.escape(code, quote=False))
         self.html.append(f'<p class="item" id="{anchor(item)}">{self.inline(said)}</p><pre>{linked}</pre>')

@@ -160,8 +160,8 @@ class Specs:
         lower = file.imports.get(name)
         return self.home(*lower[:3]) if lower and lower[3] else None
 
-    def named(self, item):
-        """The items that an item's text names, in the order of its text."""
+    def words(self, item):
+        """The words of an item's text that name an item, each with it, in the order of the text."""
         known = self.source_imports[item.crate] if item.module == "src" else self.files[item.crate, item.module].imports
         text = " ".join(re.sub(r"(--|//).*", "", line) for line in item.parameters + item.says())
         for word in WORD.findall(text):
@@ -169,7 +169,10 @@ class Specs:
             if not found and word in known:
                 found = self.home(*known[word][:3])
             if found and found is not item:
-                yield found
+                yield word, found
+
+    def named(self, item):
+        return list(dict.fromkeys(found for _, found in self.words(item)))
 
     def below(self, roots):
         """All that these items rest on, themselves left out, in reading order."""
