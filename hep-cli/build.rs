@@ -4,6 +4,9 @@ use std::{env, fs};
 
 const MARK: &[u8] = b"rattle logic=";
 
+/// As many digits as `rt version` prints.
+const DIGITS: usize = 16;
+
 fn main() {
     let archive = env::var("DEP_HEP_C_ARCHIVE").expect("hep-rust's build script names the archive");
     println!("cargo:rerun-if-changed={archive}");
@@ -14,6 +17,6 @@ fn main() {
 /// The hex digits behind the mark.
 fn logic(bytes: &[u8]) -> Option<String> {
     let place = bytes.windows(MARK.len()).position(|part| part == MARK)?;
-    let digits = bytes[place + MARK.len()..].iter().take_while(|byte| byte.is_ascii_hexdigit());
+    let digits = bytes[place + MARK.len()..].iter().take(DIGITS);
     Some(digits.map(|&byte| byte as char).collect())
 }

@@ -17,6 +17,18 @@ pub enum Status {
     Differs = 3,
 }
 
+impl Status {
+    /// What a file came to, in a line of several.
+    pub fn word(self) -> &'static str {
+        match self {
+            Status::Done => "accepted",
+            Status::Refused => "refused",
+            Status::Broken => "failed",
+            Status::Differs => "differs",
+        }
+    }
+}
+
 /// A failure: the status, whole lines of words, and the refusal's number if it has one.
 #[derive(Clone, Debug)]
 pub struct Failure {

@@ -1,6 +1,7 @@
 //! Safe calls of the proved emulator of a HEP process execution module: whole images in, whole images out.
 //!
-//! What `crates/hep_c` promises is proved; this crate is not. It makes the buffers, lends them, and cuts the results to their lengths.
+//! What `crates/hep_c` promises is proved; this crate is not. It makes the buffers, lends them, and cuts the results to their lengths;
+//! `State` takes an image's bytes apart.
 //!
 //! ```
 //! let image = hep::example_image();
@@ -11,8 +12,10 @@
 //! assert_eq!(hep::run(&image, &[8]).unwrap_err().number(), 10);
 //! ```
 
+mod state;
 pub mod sys;
 
+pub use state::{Cell, Process, State, Task, Trap};
 use std::{error, fmt};
 
 /// Why a call is refused. Each has a number of document 01.

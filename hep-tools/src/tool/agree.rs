@@ -1,12 +1,47 @@
 //! Whether the isolation promise (docs/PROMISES.md, demand 3) covers tasks in two runs, premise by premise.
 
-use super::share::{data, instructions, program, registers, share};
+use super::share::{instructions, meetings, share};
 use super::text::{self, Source};
 use crate::emulator::draft::{Draft, Task};
-use std::ops::Range;
+use crate::emulator::machine::NO_TRAP;
 
-/// What a premise comes to: whether it holds, in words either way.
-type Premise = Result<String, String>;
+/// What a premise is about.
+#[derive(Clone, Copy, PartialEq, Eq, Debug)]
+pub enum Broken {
+    Disagree,
+    WindowsMeet,
+    ItemsDiffer,
+    FlagUp,
+}
+
+/// What a premise comes to: in words, whether it holds or not.
+type Held = Result<String, String>;
+
+/// A premise.
+pub struct Premise {
+    pub about: Broken,
+    pub name: &'static str,
+    pub held: Held,
+}
+
+/// The premises for a list of tasks: two inputs with their schedules, and the states after both runs.
+pub fn premises(tasks: &[u8], inputs: [&Source; 2], after: [&Draft; 2]) -> Vec<Premise> {
+    let drafts = inputs.map(|source| &source.draft);
+    let mut agreed = Vec::new();
+    for &task in tasks {
+        agreed.extend(of_task(task, drafts));
+    }
+    agreed.push(("constant memory", constants(drafts)));
+    let premise = |about, (name, held)| Premise { about, name, held };
+    let agreed = agreed.into_iter().map(|named| premise(Broken::Disagree, named));
+    let scheduled = premise(Broken::ItemsDiffer, ("schedules accepted", schedules(inputs)));
+    let mut premises = vec![scheduled];
+    premises.extend(agreed);
+    premises.push(premise(Broken::ItemsDiffer, ("items", items(tasks, inputs))));
+    premises.push(premise(Broken::WindowsMeet, ("windows of others", apart(tasks, drafts))));
+    premises.push(premise(Broken::FlagUp, ("create fault flag", flags(after))));
+    premises
+}
 
 /// The lines, whether all premises hold, and whether what the promise compares is equal after both runs.
 pub struct Agreement {
@@ -15,31 +50,25 @@ pub struct Agreement {
     pub equal: bool,
 }
 
-/// Holds the premises to a list of tasks: two inputs with their schedules, and the states after both runs.
+/// The premises in words, `!` before each that does not hold.
 pub fn agree(tasks: &[u8], inputs: [&Source; 2], after: [&Draft; 2]) -> Agreement {
-    let drafts = inputs.map(|source| &source.draft);
-    let mut premises = vec![("schedules accepted", schedules(inputs))];
-    for &task in tasks {
-        premises.extend(of_task(task, drafts));
-    }
-    premises.push(("constant memory", constants(drafts)));
-    premises.push(("items", items(tasks, inputs)));
-    premises.push(("windows of others", apart(tasks, drafts)));
-    let up = after.map(|draft| draft.flag != 0);
-    premises.push((
-        "create fault flag",
-        both(up.map(|up| if up { "up" } else { "down" }.into()), up == [false; 2]),
-    ));
-    let covered = premises.iter().all(|(_, premise)| premise.is_ok());
-    let line = |(name, premise): &(&str, Premise)| match premise {
+    let premises = premises(tasks, inputs, after);
+    let line = |Premise { name, held, .. }: &Premise| match held {
         Ok(said) => format!("  {name:<20}{said}\n"),
         Err(said) => format!("! {name:<20}{said}\n"),
     };
+    let lines = premises.iter().map(line).collect();
+    let covered = premises.iter().all(|premise| premise.held.is_ok());
     let equal = tasks.iter().all(|&task| share(after[0], task) == share(after[1], task));
-    Agreement { lines: premises.iter().map(line).collect(), covered, equal }
+    Agreement { lines, covered, equal }
 }
 
-fn both([first, second]: [String; 2], holds: bool) -> Premise {
+fn flags(after: [&Draft; 2]) -> Held {
+    let up = after.map(|draft| draft.flag != 0);
+    both(up.map(|up| if up { "up" } else { "down" }.to_string()), up == [false; 2])
+}
+
+fn both([first, second]: [String; 2], holds: bool) -> Held {
     let said = format!("{first}, {second}");
     if holds {
         Ok(said)
@@ -48,7 +77,7 @@ fn both([first, second]: [String; 2], holds: bool) -> Premise {
     }
 }
 
-fn schedules(inputs: [&Source; 2]) -> Premise {
+fn schedules(inputs: [&Source; 2]) -> Held {
     let items = inputs.map(|source| source.schedule.as_ref().map_or(0, Vec::len));
     let most = usize::from(u16::MAX);
     if items.iter().all(|items| *items <= most) {
@@ -58,7 +87,7 @@ fn schedules(inputs: [&Source; 2]) -> Premise {
 }
 
 /// What two images agree on for one task.
-fn of_task(task: u8, drafts: [&Draft; 2]) -> Vec<(&'static str, Premise)> {
+fn of_task(task: u8, drafts: [&Draft; 2]) -> Vec<(&'static str, Held)> {
     let rows = drafts.map(|draft| draft.tasks.iter().find(|row| row.number == task));
     let yes = |listed: bool| if listed { "yes" } else { "no" }.to_string();
     let listed = rows.map(|row| row.is_some());
@@ -70,7 +99,7 @@ fn of_task(task: u8, drafts: [&Draft; 2]) -> Vec<(&'static str, Premise)> {
     };
     let words = [(0, first), (1, second)].map(|(i, row)| instructions(drafts[i], row));
     premises.push(("CB and windows", windows(first, second)));
-    premises.push(("program words", same("word", &words[0], &words[1], |word| text::show(*word))));
+    premises.push(("program words", same("word ", &words[0], &words[1], |word| text::show(*word))));
     premises.push(("registers", same("r", &a.registers, &b.registers, text::register)));
     premises.push(("data words", same("data ", &a.data, &b.data, text::data)));
     premises.push((
@@ -78,18 +107,15 @@ fn of_task(task: u8, drafts: [&Draft; 2]) -> Vec<(&'static str, Premise)> {
         same("process ", &a.processes, &b.processes, |psw| text::psw_fields(*psw)),
     ));
     let records = [(a.kind, a.trapped), (b.kind, b.trapped)];
-    let shown = records.map(|(kind, psw)| {
-        if kind == 0xFF {
-            "none".into()
-        } else {
-            format!("{kind:02X} {}", text::psw_fields(psw))
-        }
+    let shown = records.map(|(kind, psw)| match kind {
+        NO_TRAP => "none".to_string(),
+        kind => format!("{kind:02X} {}", text::psw_fields(psw)),
     });
     premises.push(("trap record", both(shown, records[0] == records[1])));
     premises
 }
 
-fn windows(first: &Task, second: &Task) -> Premise {
+fn windows(first: &Task, second: &Task) -> Held {
     let fields = |row: &Task| {
         let Task { cb, rb, rl, pb, pl, db, dl, .. } = *row;
         [
@@ -112,12 +138,7 @@ fn windows(first: &Task, second: &Task) -> Premise {
 }
 
 /// Two lists entry by entry: the first that differs, and how many do.
-fn same<T: PartialEq>(
-    name: &str,
-    first: &[T],
-    second: &[T],
-    show: impl Fn(&T) -> String,
-) -> Premise {
+fn same<T: PartialEq>(name: &str, first: &[T], second: &[T], show: impl Fn(&T) -> String) -> Held {
     if first.len() != second.len() {
         return Err(format!("{} and {} of them", first.len(), second.len()));
     }
@@ -125,19 +146,14 @@ fn same<T: PartialEq>(
     match differ[..] {
         [] => Ok(format!("the same, {} of them", first.len())),
         [i, ..] => {
-            let count = differ.len();
-            let space = if name == "word" { " " } else { "" };
-            Err(format!(
-                "{name}{space}{i} is {} and {} ({count} differ)",
-                show(&first[i]),
-                show(&second[i])
-            ))
+            let (a, b) = (show(&first[i]), show(&second[i]));
+            Err(format!("{name}{i} is {a} and {b} ({} differ)", differ.len()))
         }
     }
 }
 
 /// Every real address of constant memory, word and quality; past the count both are zero.
-fn constants(drafts: [&Draft; 2]) -> Premise {
+fn constants(drafts: [&Draft; 2]) -> Held {
     let count = drafts.iter().map(|draft| draft.constants.len()).max().unwrap_or(0);
     let [first, second] = drafts.map(|draft| {
         let mut cells = draft.constants.clone();
@@ -149,7 +165,7 @@ fn constants(drafts: [&Draft; 2]) -> Premise {
 }
 
 /// Both schedules with the other tasks struck out are the same list.
-fn items(tasks: &[u8], inputs: [&Source; 2]) -> Premise {
+fn items(tasks: &[u8], inputs: [&Source; 2]) -> Held {
     let own = |source: &Source| -> Vec<u8> {
         let items = source.schedule.iter().flatten();
         items.copied().filter(|item| tasks.contains(item)).collect()
@@ -159,66 +175,14 @@ fn items(tasks: &[u8], inputs: [&Source; 2]) -> Premise {
 }
 
 /// That no register or data window of the tasks meets one of a task outside, in either image.
-fn apart(tasks: &[u8], drafts: [&Draft; 2]) -> Premise {
+fn apart(tasks: &[u8], drafts: [&Draft; 2]) -> Held {
     let met = drafts.map(|draft| {
-        tasks
-            .iter()
-            .flat_map(|&task| meetings(draft, task))
-            .filter(|m| !tasks.contains(&m.other))
-            .collect::<Vec<_>>()
+        let met = tasks.iter().flat_map(|&task| meetings(draft, task));
+        met.filter(|meeting| !tasks.contains(&meeting.other)).collect::<Vec<_>>()
     });
     let shown = met.each_ref().map(|met| match met.first() {
         None => "meet none".to_string(),
         Some(meeting) => meeting.to_string(),
     });
     both(shown, met.iter().all(Vec::is_empty))
-}
-
-/// A window of a task that meets another task's.
-pub struct Meeting {
-    pub memory: &'static str,
-    pub other: u8,
-    /// The real addresses of both.
-    pub shared: Range<usize>,
-}
-
-impl std::fmt::Display for Meeting {
-    fn fmt(&self, f: &mut std::fmt::Formatter) -> std::fmt::Result {
-        let Meeting { memory, other, shared } = self;
-        write!(f, "meet task {other}'s in {memory} {} to {}", shared.start, shared.end - 1)
-    }
-}
-
-/// The register and data windows of a task that meet another's.
-pub fn meetings(draft: &Draft, number: u8) -> Vec<Meeting> {
-    let own = draft.tasks.iter().filter(|task| task.number == number);
-    let pairs = own.flat_map(|task| draft.tasks.iter().map(move |other| (task, other)));
-    let met = pairs.filter(|(_, other)| other.number != number).flat_map(|(task, other)| {
-        let windows = [
-            ("registers", registers(task), registers(other)),
-            ("data words", data(task), data(other)),
-        ];
-        windows.map(|(memory, a, b)| {
-            let shared = a.start.max(b.start)..a.end.min(b.end);
-            (!shared.is_empty() && !a.is_empty() && !b.is_empty()).then_some(Meeting {
-                memory,
-                other: other.number,
-                shared,
-            })
-        })
-    });
-    met.flatten().collect()
-}
-
-/// A window as the real addresses that it has.
-pub fn window_shown(window: Range<usize>) -> String {
-    if window.is_empty() {
-        return "empty".to_string();
-    }
-    format!("{}..{}", window.start, window.end - 1)
-}
-
-/// The three windows of a row.
-pub fn windows_of(task: &Task) -> [Range<usize>; 3] {
-    [registers(task), program(task), data(task)]
 }

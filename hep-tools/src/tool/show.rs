@@ -1,7 +1,7 @@
 //! What a file has: sections with their places in its bytes, tasks with their windows, processes; of refused bytes up to the fault.
 
-use super::agree::{meetings, window_shown, windows_of};
 use super::load::{not_of_this_machine, Loaded, Reading, Trouble};
+use super::share::{meetings, window_shown, windows_of};
 use super::text::{psw_fields, Source};
 use crate::emulator::batch;
 use crate::emulator::draft::{Draft, Process, Task};

@@ -11,14 +11,13 @@ type Done = Result<hep::Outcome, Failure>;
 /// Name, `accepted` or the refusal, and the counts.
 pub fn line(file: &str, done: &Done) -> String {
     let result = match done {
-        Ok(outcome) => format!("accepted\t{}", outcome.report.lines().last().unwrap_or_default()),
+        Ok(outcome) => format!(
+            "{}\t{}",
+            Status::Done.word(),
+            outcome.report.lines().last().unwrap_or_default()
+        ),
         Err(Failure { number: Some(number), .. }) => format!("R{number}"),
-        Err(failure) => match failure.status {
-            Status::Refused => "refused",
-            Status::Differs => "differs",
-            Status::Done | Status::Broken => "failed",
-        }
-        .to_string(),
+        Err(failure) => failure.status.word().to_string(),
     };
     format!("{file}\t{result}\n")
 }
