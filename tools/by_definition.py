@@ -99,6 +99,9 @@ def make_repository(copy, vectors):
 
 def prepare():
     """The crate report proved, and hep-tools built."""
+    if not (ROOT / "target/stamp/report").exists():
+        forecast = subprocess.run([sys.executable, "tools/progress.py", "--forecast", "report"], cwd=ROOT, capture_output=True, text=True, check=True)
+        print("Proving the crate report and what it rests on first.", forecast.stdout.strip(), file=sys.stderr)
     below = rt_check("report", ROOT)
     if below.returncode:
         sys.exit(below.stdout + below.stderr)
