@@ -216,6 +216,7 @@ def main():
     if sys.argv[1:] not in ([], ["--as-is"]):
         sys.exit(__doc__)
     if not sys.argv[1:]:
+        print(f"Proving what isn't. {run(sys.executable, 'tools/progress.py', '--forecast')}", flush=True)
         checked_now = subprocess.run("set -o pipefail; rt check 2>&1 | python3 tools/progress.py", shell=True, executable="/bin/bash")
         if checked_now.returncode:
             sys.exit("audit: not everything is proved")

@@ -99,6 +99,9 @@ def make_repository(copy, vectors):
 
 def prepare():
     """The crate report proved, and hep-tools built."""
+    if not (ROOT / "target/stamp/report").exists():
+        forecast = subprocess.run([sys.executable, "tools/progress.py", "--forecast", "report"], cwd=ROOT, capture_output=True, text=True, check=True)
+        print("Proving the crate report and what it rests on first.", forecast.stdout.strip(), file=sys.stderr)
     below = rt_check("report", ROOT)
     if below.returncode:
         sys.exit(below.stdout + below.stderr)
@@ -128,9 +131,13 @@ def assembled(file):
 
 
 def bytes_of(file):
-    data = pathlib.Path(file).read_bytes()
-    if re.search(rb"^\s*hep +(image|input)\b", data, flags=re.M):
-        return assembled(file)
+    try:
+        data = pathlib.Path(file).read_bytes()
+    except OSError as error:
+        print(f"by_definition: {file}: {error.strerror}", file=sys.stderr)
+        sys.exit(2)
+    if text := re.search(rb"^\s*hep +(image|input)\b", data, flags=re.M):
+        return assembled(file) if text.group(1) == b"input" else sys.exit(f"by_definition: {file} is an image, and has no schedule: `hep input` has one")
     return bytes.fromhex(data.decode()) if re.fullmatch(rb"[0-9a-fA-F\s]+", data) else data
 
 

@@ -9,6 +9,7 @@ Of a crate that is not proved, or an edit that is not refused, all is shown that
 --seconds makes it); what they say of the rest is scaled by what the part that is done took here.
 """
 import glob
+import math
 import os
 import re
 import sys
@@ -19,8 +20,9 @@ import gate_log
 
 TABLE = "tools/seconds.txt"
 KEPT = "target/log/gate.txt"
-# Two provers side by side at most: 3.9 GB for hep_c and 3.7 GB for hep, the greatest resident set of each crate's proof by getrusage.
-MEMORY = "8 GB"
+# The greatest resident set of a crate's proof in GB, by getrusage for each crate alone; of every other it is less than that of OTHERS.
+RESIDENT = {"hep_c": 3.9, "hep": 3.7, "trials": 3.0, "batch": 2.4, "hep_batch": 2.3, "run_schedule": 2.2}
+OTHERS = 1.4
 QUIET = re.compile(r"^rt: (\S+ proved \(|must-fail \S+: refused, as it must be|ok, |target/|\S+ ran\b)")
 
 
@@ -145,8 +147,8 @@ class Filter:
 
 def forecast(plan, gate):
     what = f"{len(plan.crates)} crates" + (f", {len(plan.edits)} must-fail edits and the tests" if gate else "")
-    about = duration(plan.left(set()))
-    return f"{what}: about {about} on {jobs()} idle processors where nothing is proved yet, {MEMORY} of memory"
+    most = sum(sorted((RESIDENT.get(crate, OTHERS) for crate in plan.crates), reverse=True)[:jobs()])
+    return f"{what}: about {duration(plan.left(set()))} on {jobs()} idle processors where nothing is proved yet, {math.ceil(most)} GB of memory"
 
 
 def main():
