@@ -28,7 +28,7 @@ pub fn general() -> String {
         "Images and batch inputs of the HEP emulator: run by the proved library, checked, shown, explained.\n\n\
          usage: hep COMMAND [OPTION..] FILE..\n\n{}\n\
          FILE is text (hep-tools/FORMAT.md), hex digits or bytes of an image or batch input; `-` is standard input.\n\
-         `hep COMMAND --help` says more of a command, `hep --version` what was proved.\n\n\
+         `hep COMMAND --help` says more of a command, `hep --version` what was proved, `hep --completion` is for bash.\n\n\
          Exit status: 0 all ran; 1 a file is refused, or a task is not covered; 2 wrong usage, or something\n\
          can't be read or written; 3 the proved library and the emulator of hep-tools differ.\n",
         commands.collect::<String>()

@@ -2,6 +2,7 @@
 //!
 //! - `arguments`: the command line, options in GNU's forms
 //! - `commands`: one file for each command, and their table
+//! - `completion`: a script for bash, from that table too
 //! - `help`: the texts of `--help` and `--version`, from that table
 //! - `files`: files to images and schedules
 //! - `runs`: runs by the proved library, with the other emulator beside them where that is asked for
@@ -12,6 +13,7 @@
 mod arguments;
 mod closed;
 mod commands;
+mod completion;
 mod files;
 mod help;
 mod output;

@@ -3,7 +3,7 @@
 use crate::files::name;
 use crate::status::Failure;
 use hep_tools::emulator::draft::Draft;
-use hep_tools::emulator::machine::Machine;
+use hep_tools::emulator::machine::{Counts, Machine};
 use hep_tools::emulator::{batch, image};
 use hep_tools::tool;
 use hep_tools::tool::text::Source;
@@ -41,12 +41,14 @@ pub fn same(file: &str, source: &Source, machine: &Machine) -> Result<(), Failur
     Err(Failure::differs(name(file), reason))
 }
 
-/// That the other emulator gives the same image and the same report.
+/// That the other emulator gives the same image, the same counts and the same report.
 pub fn checked(file: &str, source: &Source, outcome: &hep::Outcome) -> Result<(), Failure> {
     let mut machine = tool::machine(source);
     let counts = machine.run(source.schedule.as_deref().unwrap_or(&[]));
     let report = batch::report(&machine, &counts);
-    if image::write(&machine) == outcome.image && report == outcome.report {
+    let Counts { executed, waved, trapped, idle } = counts;
+    let same = outcome.counts == hep::Counts { executed, waved, trapped, idle };
+    if same && image::write(&machine) == outcome.image && report == outcome.report {
         return Ok(());
     }
     let reason = format!("the other emulator differs; it reports:\n{report}");

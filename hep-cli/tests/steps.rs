@@ -296,8 +296,9 @@ fn shares() {
     assert_eq!(hep(&["share", "3"], TEXT).err, "<stdin>: task 3 isn't listed\n");
     let after = tool::load(TEXT.as_bytes()).unwrap();
     let image = hep::run(&after.draft.bytes(), &after.schedule.unwrap()).unwrap().image;
-    assert_eq!(hep(&["share", "2"], &image), hep(&["share", "2"], TEXT));
-    assert!(hep(&["share", "2"], TEXT).out.contains(&format!("process {}\n", text::psw_fields(2))));
+    let (of_bytes, of_text) = (hep(&["share", "2"], &image).out, hep(&["share", "2"], TEXT).out);
+    assert_eq!(of_bytes, of_text.replace(" (start+2)", "").replace(" (wait+1)", ""));
+    assert!(of_text.contains(&format!("process {} (start+2)\n", text::psw_fields(2))), "{of_text}");
 }
 
 #[test]

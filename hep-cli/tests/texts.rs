@@ -2,7 +2,7 @@
 
 mod common;
 
-use common::{example, hep, Folder};
+use common::{example, hep, shell, Folder};
 use hep_tools::emulator::draft::batch_input;
 use hep_tools::generate;
 use hep_tools::tool;
@@ -34,6 +34,28 @@ fn help_and_version() {
     assert!(version.out.starts_with(&start), "{}", version.out);
     assert_eq!(hep(&["-V"], b""), version);
     assert_eq!(env!("CARGO_PKG_VERSION"), number.trim());
+}
+
+#[test]
+fn completion() {
+    let complete = |words: &str| {
+        let place = words.split(' ').count() - 1;
+        let words: Vec<String> = words.split(' ').map(|word| format!("'{word}'")).collect();
+        let line = format!(
+            "COMP_WORDS=({}) COMP_CWORD={place}; _hep; echo \"${{COMPREPLY[*]}}\"",
+            words.join(" ")
+        );
+        shell(&format!("eval \"$($HEP --completion)\"; {line}"))
+    };
+    for (words, expected) in [
+        ("hep t", "trace timeline"),
+        ("hep trace --p", "--profile"),
+        ("hep dump --", "--after --schedule --output --input --image --help"),
+        (&format!("hep run {}", example("frame-a.o")), &example("frame-a.out")),
+    ] {
+        let ended = complete(words);
+        assert_eq!((ended.out.trim_end(), ended.err.as_str()), (expected, ""), "{words}");
+    }
 }
 
 #[test]

@@ -12,6 +12,7 @@ mod trace;
 mod why;
 
 use crate::arguments::{self, lettered, valued, Arguments, Opt, HELP};
+use crate::completion;
 use crate::help;
 use crate::output;
 use crate::status::{Failure, Status};
@@ -62,6 +63,7 @@ pub fn dispatch(mut words: Vec<String>) -> Result<Status, Failure> {
         ("-V" | "--version" | "version", _) => help::version(),
         ("help", Some(name)) => help::of(find(name).ok_or_else(|| unknown(name))?),
         ("-h" | "--help" | "help", _) => help::general(),
+        ("--completion", _) => completion::bash(),
         (name, _) => return dispatched(find(name).ok_or_else(|| unknown(name))?, rest),
     };
     output::answer(&Arguments::default(), text)?;

@@ -6,7 +6,7 @@ use crate::files::{self, IMAGE, INPUT, SCHEDULE};
 use crate::output;
 use crate::runs;
 use crate::status::{Failure, Status};
-use hep_tools::tool::share::{cells_shown, share};
+use hep_tools::tool::share::{cells_shown, program, share};
 use std::ops::RangeInclusive;
 
 pub const COMMAND: Command = Command {
@@ -32,7 +32,8 @@ fn run(arguments: &Arguments) -> Result<Status, Failure> {
     let registers = range(arguments, "registers")?;
     let data = range(arguments, "data")?;
     let file = files::one(arguments, 1)?;
-    let draft = runs::after(file, &files::load(file, arguments)?.source)?;
+    let loaded = files::load(file, arguments)?;
+    let draft = runs::after(file, &loaded.source)?;
     let refused = |reason: String| Failure::refused(files::name(file), reason);
     let share = share(&draft, task).ok_or_else(|| refused(format!("task {task} isn't listed")))?;
     let mut out = String::new();
@@ -45,7 +46,9 @@ fn run(arguments: &Arguments) -> Result<Status, Failure> {
             &cells_shown(&share.data, places, "data words", |state| state == 0).map_err(refused)?;
     }
     if registers.is_none() && data.is_none() {
-        out = share.show();
+        let base =
+            draft.tasks.iter().find(|row| row.number == task).map_or(0, |row| program(row).start);
+        out = share.show(|pc| loaded.symbols.place(base, base + pc as usize));
     }
     output::answer(arguments, out)?;
     Ok(Status::Done)

@@ -1,6 +1,8 @@
 //! A task's share of a machine: what isolation compares.
 
 use crate::emulator::draft::{Draft, Task};
+use crate::emulator::machine::NO_TRAP;
+use crate::emulator::psw;
 use crate::tool::text;
 use std::fmt;
 use std::ops::{Range, RangeInclusive};
@@ -63,14 +65,18 @@ pub fn instructions(draft: &Draft, task: &Task) -> Vec<u64> {
 }
 
 impl Share {
-    /// The share as text, each cell at its place in the window.
-    pub fn show(&self) -> String {
+    /// The share as text, each cell at its place in the window; `place` gives a PC's place in the text that it comes from.
+    pub fn show(&self, place: impl Fn(u64) -> Option<String>) -> String {
+        let psw_shown = |word: u64| {
+            let place = place(psw::pc(word)).map_or(String::new(), |place| format!(" ({place})"));
+            format!("{}{place}", text::psw_fields(word))
+        };
         let mut out = match self.kind {
-            crate::emulator::machine::NO_TRAP => "trap none\n".to_string(),
-            kind => format!("trap {kind:02X} {}\n", text::psw_fields(self.trapped)),
+            NO_TRAP => "trap none\n".to_string(),
+            kind => format!("trap {kind:02X} {}\n", psw_shown(self.trapped)),
         };
         for &psw in &self.processes {
-            out += &format!("process {}\n", text::psw_fields(psw));
+            out += &format!("process {}\n", psw_shown(psw));
         }
         for (place, register) in self.registers.iter().enumerate() {
             out += &format!("r{place} {}\n", text::register(register));

@@ -54,16 +54,18 @@ pub fn lines<'a>(
     filter: &'a Filter,
 ) -> impl Iterator<Item = String> + 'a {
     let place = if symbols.has_labels() { format!("{:<16} ", "place") } else { String::new() };
+    let width = schedule.len().to_string().len().max(4);
     let heading = format!(
-        "item task PT PC    {place}{:<32} {:<10} what it wrote, or why it waits or traps",
-        "instruction", "ending"
+        "{:>width$} task PT PC    {place}{:<32} {:<10} what it wrote, or why it waits or traps",
+        "item", "instruction", "ending"
     );
-    let steps = schedule.iter().enumerate().filter_map(|(item, &task)| {
+    let steps = schedule.iter().enumerate().filter_map(move |(item, &task)| {
         let before = Before::new(machine, task);
         let ending = machine.step(task);
         let shown = filter.shows(item, task, ending);
         shown.then(|| {
-            let line = format!("{item:4} {task:4} {}", before.line(machine, symbols, ending));
+            let step = before.line(machine, symbols, ending);
+            let line = format!("{item:width$} {task:4} {step}");
             line.trim_end().to_string()
         })
     });
