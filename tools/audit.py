@@ -171,7 +171,7 @@ def contracts(page, specs):
     page.heading(2, "Contracts of the delivered calls, and demand 3")
     page.paragraph("The program hep_batch has no contract of its own: its `main` reads standard input, calls batch `batch` and writes what that answers. A contract's names lead to their definitions below.")
     rows = [(f"[{item.crate} `{item.name}`](#{anchor(item)})", *map(str, lines_below(specs, item))) for _, items in roots(specs) for item in items]
-    page.table(("Call or statement", "Definitions", "Lines", "Types of the sources", "Lines of these"), rows)
+    page.table(("Call or statement", "Definitions", "Lines", "Types and constants of the sources", "Lines of these"), rows)
     for _, items in roots(specs):
         for item in items:
             page.item(item)
@@ -193,7 +193,7 @@ def definitions(page, specs, below):
     for item in below:
         if at != (item.crate, item.path):
             at = item.crate, item.path
-            page.heading(3, f"{item.crate} / {item.module if item.module != 'src' else 'types of the source'}")
+            page.heading(3, f"{item.crate} / {item.module if item.module != 'src' else 'types and constants of the source'}")
         page.item(item, f" ({', '.join(name for name, keys in marks.items() if item.key in keys)})")
     kit = specs.known_names(below)
     page.heading(3, "Names of the kit's libraries")
