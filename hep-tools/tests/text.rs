@@ -11,6 +11,7 @@ use hep_tools::tool;
 use hep_tools::tool::load::open;
 use hep_tools::tool::text::{assemble, dump, show};
 use hep_tools::tool::timeline::{svg, View};
+use hep_tools::tool::trace::{lines, Filter};
 use hep_tools::trials::edges;
 use std::fs;
 
@@ -448,7 +449,10 @@ fn a_trace_shows_what_is_written() {
 /// The trace of a text.
 fn traced(text: &str) -> String {
     let loaded = open(text.as_bytes(), None).unwrap();
-    tool::traced(&loaded.source, &loaded.symbols)
+    let schedule = loaded.source.schedule.clone().unwrap();
+    let (filter, mut machine) = (Filter::default(), tool::machine(&loaded.source));
+    let lines = lines(&mut machine, &schedule, &loaded.symbols, &filter);
+    lines.map(|line| line + "\n").collect()
 }
 
 /// Five steps with parts of data word 1, whose address is 8.

@@ -57,7 +57,7 @@ fn every(name: &str, trouble: &Trouble) -> String {
         out += &format!("{name}: {MOST_FIELDS} bad fields; the rest is not told\n");
     }
     for (reading, refusal) in &readings[1..] {
-        out += &format!("{name}: or as an {}: {}\n", reading.name(), reading.said(refusal));
+        out += &format!("{name}: or as {}: {}\n", reading.one(), reading.said(refusal));
     }
-    out.replace("as an batch", "as a batch")
+    out
 }

@@ -28,7 +28,10 @@ fn run(arguments: &Arguments) -> Result<Status, Failure> {
             Ok(Status::Done)
         }
         Err(trouble) => {
-            output::answer(arguments, show::refused(&trouble))?;
+            let before = show::refused(&trouble);
+            if !before.is_empty() {
+                output::answer(arguments, before)?;
+            }
             Err(Failure::trouble(files::name(file), &trouble))
         }
     }

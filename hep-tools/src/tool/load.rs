@@ -22,6 +22,14 @@ impl Reading {
         }
     }
 
+    /// The name behind its article.
+    pub fn one(self) -> &'static str {
+        match self {
+            Reading::Input => "a batch input",
+            Reading::Image => "an image",
+        }
+    }
+
     /// The image and its schedule, or why bytes are refused.
     pub fn read(self, bytes: &[u8]) -> Result<Source, Refusal> {
         let (schedule, machine) = match self {
@@ -110,13 +118,9 @@ impl fmt::Display for Trouble {
 }
 
 fn readings_said(readings: &[(Reading, Refusal)]) -> Vec<String> {
-    let whole = |reading: &Reading| match reading {
-        Reading::Input => "a batch input",
-        Reading::Image => "an image",
-    };
     let said = readings.iter().enumerate().map(|(i, (reading, refusal))| {
         let start = if i == 0 { "refused" } else { "or" };
-        format!("{start} as {}: {}", whole(reading), reading.said(refusal))
+        format!("{start} as {}: {}", reading.one(), reading.said(refusal))
     });
     said.collect()
 }

@@ -17,7 +17,7 @@ pub mod why;
 use crate::emulator::image;
 use crate::emulator::machine::Machine;
 pub use hex::{from_hex, hex_line, to_hex};
-use text::{dump, Source, Symbols};
+use text::{dump, Source};
 
 /// A failure's message.
 pub type Failure = String;
@@ -35,12 +35,4 @@ pub fn dumped(bytes: &[u8]) -> Result<String, Failure> {
 /// The machine of an accepted image's fields.
 pub fn machine(source: &Source) -> Machine {
     image::read(&source.draft.bytes()).expect("a source is accepted")
-}
-
-/// A line for each step.
-pub fn traced(source: &Source, symbols: &Symbols) -> String {
-    let schedule = source.schedule.clone().unwrap_or_default();
-    let (filter, mut machine) = (trace::Filter::default(), machine(source));
-    let lines = trace::lines(&mut machine, &schedule, symbols, &filter);
-    lines.map(|line| line + "\n").collect()
 }

@@ -69,7 +69,7 @@ pub fn psw_fields(word: u64) -> String {
 }
 
 /// A word in decimal if it is small, else in hex.
-pub fn word(word: u64) -> String {
+fn word(word: u64) -> String {
     let value = word as i64;
     if value.unsigned_abs() < DECIMAL {
         value.to_string()

@@ -9,7 +9,7 @@ mod nearest;
 mod symbols;
 
 pub use assemble::{assemble, assemble_named, MOST_ERRORS};
-pub use dump::{constant, data, dump, dump_named, psw_fields, register, word};
+pub use dump::{constant, data, dump, dump_named, psw_fields, register};
 pub use instruction::show;
 pub use line::Error;
 pub(crate) use line::Line;
