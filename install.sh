@@ -10,6 +10,7 @@ Proves and builds what isn't yet, then installs below P (/usr/local if it is lef
     include, lib        hep.h, libhep_c.a and pkgconfig/hep.pc: cc main.c $(pkg-config --cflags --libs hep)
     share/man           hep(1), hep_batch(1), hep(3) for the library's calls, hep(5) for the text of images
     share/doc/hep       FORMAT.md, MACHINE.md, CHANGELOG.md and the examples
+    share/bash-completion   completion of hep
 
   --prefix P    where the files are to be used
   --destdir D   put them below D first, as a package is made: D/P/bin ..
@@ -37,6 +38,7 @@ files() {
 644 install/calls.3 share/man/man3/hep_run.3
 644 install/calls.3 share/man/man3/hep_batch.3
 644 install/hep.5 share/man/man5/hep.5
+644 target/hep.bash share/bash-completion/completions/hep
 644 hep-tools/FORMAT.md share/doc/hep/FORMAT.md
 644 docs/MACHINE.md share/doc/hep/MACHINE.md
 644 CHANGELOG.md share/doc/hep/CHANGELOG.md
@@ -77,5 +79,6 @@ fi
 mkdir -p "$root" && [ -w "$root" ] || { echo "install.sh: $root can't be written" >&2; exit 2; }
 bash tools/proved.sh
 env -u HEP_LIB_DIR cargo build --quiet --release --offline --manifest-path hep-cli/Cargo.toml
+hep-cli/target/release/hep --completion > target/hep.bash
 while read -r mode from to; do place "$mode" "$from" "$to"; done < <(files)
 echo "installed hep $(<VERSION) in $root"

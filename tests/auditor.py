@@ -43,7 +43,8 @@ def facts(markdown):
 
 def links(markdown, shown):
     """Every link leads to a place of the page or to a line of a file that has the name."""
-    places = set(re.findall(r' id="([^"]+)"', shown))
+    places = re.findall(r' id="([^"]+)"', shown)
+    assert len(places) == len(set(places))
     targets = re.findall(r'href="([^"]+)"', shown)
     assert len(targets) > 2000, len(targets)
     for target in map(html.unescape, set(targets)):

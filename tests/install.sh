@@ -50,6 +50,8 @@ sed -n '/^    hep input/,/^\.fi/{/^\.fi/d;p}' install/hep.5 | hep asm | hep_batc
 [ "$(pkg-config --modversion hep)" = "$version" ] || fail "hep.pc has another version than $version"
 hep --version | grep -qF "$version" || fail "hep --version has another version than $version"
 
+bash -c ". $prefix/share/bash-completion/completions/hep && complete -p hep" > /dev/null || fail "no completion of hep"
+
 # Elsewhere, and away again.
 quietly bash install.sh --prefix="$prefix" --destdir "$work/package"
 diff -r "$prefix" "$work/package$prefix"

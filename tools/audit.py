@@ -23,7 +23,7 @@ OUT = "target/audit"
 BUILT = ("target/bin/hep_batch", "target/staticlib/libhep_c.a")
 STYLE = """
 body { font: 16px/1.5 system-ui, sans-serif; max-width: 70rem; margin: 2rem auto; padding: 0 1rem; color: #222; background: #fff }
-pre { background: #f5f5f2; padding: .6rem .8rem; overflow-x: auto; font: 13px/1.45 ui-monospace, monospace; border-left: 3px solid #ccc; margin: .3rem 0 1rem }
+pre { background: #f5f5f2; padding: .6rem .8rem; white-space: pre-wrap; font: 13px/1.45 ui-monospace, monospace; border-left: 3px solid #ccc; margin: .3rem 0 1rem }
 table { border-collapse: collapse; margin: 1rem 0 } td, th { border: 1px solid #ccc; padding: .25rem .6rem; text-align: left; vertical-align: top }
 code { font: 14px ui-monospace, monospace } a { color: #0b5394; text-decoration: none } a:hover { text-decoration: underline }
 p.item { margin: 1rem 0 0 } h2 { border-bottom: 1px solid #ccc; margin-top: 2.5rem }
@@ -171,7 +171,7 @@ def contracts(page, specs):
     page.heading(2, "Contracts of the delivered calls, and demand 3")
     page.paragraph("The program hep_batch has no contract of its own: its `main` reads standard input, calls batch `batch` and writes what that answers. A contract's names lead to their definitions below.")
     rows = [(f"[{item.crate} `{item.name}`](#{anchor(item)})", *map(str, lines_below(specs, item))) for _, items in roots(specs) for item in items]
-    page.table(("Call or statement", "Definitions", "Lines", "Types of the sources", "Lines of these"), rows)
+    page.table(("Call or statement", "Definitions", "Lines", "Types and constants of the sources", "Lines of these"), rows)
     for _, items in roots(specs):
         for item in items:
             page.item(item)
@@ -193,23 +193,34 @@ def definitions(page, specs, below):
     for item in below:
         if at != (item.crate, item.path):
             at = item.crate, item.path
-            page.heading(3, f"{item.crate} / {item.module if item.module != 'src' else 'types of the source'}")
+            page.heading(3, f"{item.crate} / {item.module if item.module != 'src' else 'types and constants of the source'}")
         page.item(item, f" ({', '.join(name for name, keys in marks.items() if item.key in keys)})")
     kit = specs.known_names(below)
     page.heading(3, "Names of the kit's libraries")
     page.paragraph("The definitions also use these, of the kit (`rt doc` leads to its guides): " + "; ".join(f"{module}: {', '.join(f'`{n}`' for n in sorted(names))}" for module, names in sorted(kit.items()) if names) + ".")
 
 
-def checked(page, specs):
-    statements = sorted((i for f in specs.files.values() if "/" not in f.module for i in f.items.values() if i.kind == "statement"), key=specs.place)
+def statements(specs):
+    """All statements outside Laws and Code."""
+    return [item for file in specs.files.values() if "/" not in file.module for item in file.items.values() if item.kind == "statement"]
+
+
+def stated(specs, believed):
+    """The statements about any values and the definitions that only they name, in reading order."""
+    general = [item for item in statements(specs) if item.general()]
+    known = {item.key for item in [*believed, *specs.delivered()]}
+    return sorted({item.key: item for item in [*general, *specs.below(general)] if item.key not in known}.values(), key=specs.place)
+
+
+def checked(page, specs, believed):
     page.heading(2, "Checked: statements about any values")
-    page.paragraph("Each is proved of the definitions above; docs/PROMISES.md says which sentence of the order each stands for. Read what you want to rely on; nothing here need be believed.")
-    for item in statements:
-        if item.general():
-            page.item(item)
+    page.paragraph("Each is proved of the definitions above; docs/PROMISES.md says which sentence of the order each stands for. Read what you want to rely on, with the definitions that only statements name; no statement need be believed.")
+    for item in stated(specs, believed):
+        page.item(item)
     page.heading(2, "Checked: trials and examples")
     page.paragraph("Each computes by the definitions, and the checker has computed it.")
-    page.table(("Trial", "Where"), [(f"[`{i.name}`]({source(i)})", f"{i.path}:{i.line}") for i in statements if not i.general()])
+    examples = sorted((item for item in statements(specs) if not item.general()), key=specs.place)
+    page.table(("Trial", "Where"), [(f"[`{item.name}`]({source(item)})", f"{item.path}:{item.line}") for item in examples])
 
 
 def main():
@@ -222,15 +233,14 @@ def main():
             sys.exit("audit: not everything is proved")
     specs = closure.Specs()
     below = specs.below(specs.delivered())
-    statements = [i for f in specs.files.values() if "/" not in f.module for i in f.items.values() if i.general()]
-    page = Page(specs, below + specs.delivered() + statements)
+    page = Page(specs, below + specs.delivered() + stated(specs, below))
     page.heading(1, "What was proved, and what must be believed")
     page.paragraph("Made by tools/audit.py from the sources and the logs of the proofs. docs/TRUST.md says what the toolchain has to be trusted for. What a definition rests on is told by the names in its text, not by the checker.")
     summary(page, specs)
     top = len(page.markdown), len(page.html)
     contracts(page, specs)
     definitions(page, specs, below)
-    checked(page, specs)
+    checked(page, specs, below)
     page.contents(top)
     page.write("What was proved")
     print(f"{OUT}/audit.html and {OUT}/audit.md: {closure.summary(below)} to be believed")

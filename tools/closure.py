@@ -19,13 +19,13 @@ DEMAND_3 = (("image", "Demand3", "demand-3"), ("library", "Isolation", "calls-de
 PASSED_OVER = ("//", "--", "use ", "ghost use ", "pub use ", "unfoldable pub use ", "pub mod ", "mod ")
 IMPORT = re.compile(r"^(?:ghost )?(?:unfoldable )?(pub )?use Rattle·(\w+)(?:·specs\.specs|\.specs)\.([\w.-]+?)(?:\.\{(.*?)\}| as (\w+))?;?$", re.M)
 HEAD = re.compile(r"^((?:(?:unfoldable|abbrev|pub|private|opaque|data|record) )*)([^\s:({]+)")
-TYPE = re.compile(r"^pub (?:struct|enum) (\w+)")
+TYPE = re.compile(r"^(?:pub )?(?:struct|enum|const) (\w+)")
 FUNCTION = re.compile(r'^pub (?:extern "C" )?fn (\w+)')
 WORD = re.compile(r"[^\s(){}\[\],.;:=→λ∷⌜⌝\"&<>]+")
 
 
 class Item:
-    """A definition, type or statement of a spec file, a type of a source file, or a function with its contract."""
+    """A definition, type or statement of a spec file, a type or constant of a source file, or a function with its contract."""
 
     def __init__(self, crate, module, path, line, name, kind, comment):
         self.crate, self.module, self.path, self.line, self.name, self.kind = crate, module, path, line, name, kind
@@ -107,7 +107,7 @@ def imports(text):
 
 
 def source_items(crate):
-    """The types of a crate's source, and its public functions with their contracts."""
+    """The types and constants of a crate's source, and its public functions with their contracts."""
     for path in sorted(glob.glob(f"crates/{crate}/src/*.rt")):
         comment, current = [], None
         for number, line in enumerate(open(path).read().split("\n"), 1):
@@ -120,11 +120,10 @@ def source_items(crate):
                 yield current
             elif not line.strip():
                 comment = []
-            if current and line.startswith(("{", "}")):
-                current.lines += ["}"] if line.startswith("}") and current.kind == "type" else []
+            if current and not line.startswith("{"):
+                current.lines += [line] if not line.startswith("}") or current.kind == "type" else []
+            if line.startswith(("{", "}")) or line.startswith(("const ", "pub const ")):
                 current = None
-            elif current:
-                current.lines.append(line)
 
 
 class Specs:

@@ -2,7 +2,8 @@
 """A line for each crate and edit that `rt` is through with, and how long the rest will take. From the repository's root.
 
     rt check CRATE.. 2>&1 | progress.py CRATE..     what rt prints, made short
-    rt ci | progress.py --gate                      the same for every crate, then every edit; what rt printed is kept in target/log/gate.txt
+    rt ci | progress.py --gate                      the same for every crate, then every edit, without the last line, which .ci/run prints in the end;
+                                                    what rt printed is kept in target/log/gate.txt
     progress.py --forecast [--gate | CRATE..]       how long it takes where nothing is proved yet, and how much memory
 
 Of a crate that is not proved, or an edit that is not refused, all is shown that rt says. Seconds come from tools/seconds.txt (figures.py
@@ -117,13 +118,15 @@ class Filter:
         place = f"[{sum(n in self.done for n in names):{len(str(len(names)))}}/{len(names)}]"
         self.print(f"{place} {mark}{name:<{40 if mark else 20}} {seconds:4} s   (about {duration(self.time_left())} left)")
 
-    def print(self, text):
+    def under_way(self):
         """On a terminal what is under way stands in a line of its own below, until the next line."""
-        terminal = sys.stdout.isatty()
-        print(("\r\x1b[2K" if terminal else "") + text)
-        if terminal and (names := self.plan.under_way(self.done)):
+        if sys.stdout.isatty() and (names := self.plan.under_way(self.done)):
             print(f"  {', '.join(names)} ..", end="\r")
         sys.stdout.flush()
+
+    def print(self, text):
+        print(("\r\x1b[2K" if sys.stdout.isatty() else "") + text)
+        self.under_way()
 
     def line(self, line):
         self.keep(line)
@@ -158,10 +161,11 @@ def main():
         print(forecast(plan, gate))
         return
     shown = Filter(plan, KEPT if gate else None)
+    shown.under_way()
     for line in sys.stdin:
         shown.line(line)
-    if shown.said:
-        shown.print("".join(shown.said).rstrip("\n"))
+    if rest := shown.said[:-1] if gate else shown.said:
+        shown.print("".join(rest).rstrip("\n"))
 
 
 if __name__ == "__main__":
