@@ -1,29 +1,67 @@
 #!/usr/bin/env bash
-# Builds the proved batch program and archive, then runs document 01's printed case and the frame check beside each of two neighbours.
-# House one's table is taken from the image after the proved run; it must be the same beside both. The first run proves every crate that
-# the two rest on, a line for each as it is proved.
+# Shows the machine: document 01's printed case, then the frame check beside each of two neighbours, with its meaning in words, and a picture.
+# The reports must be those of examples/, and house one's table, taken from the image after the run, the same beside both neighbours.
+#
+#     bash examples/run.sh                by programs that are built without proof, in half a minute
+#     bash examples/run.sh --proved       by the proved programs; proves first what isn't
 set -euo pipefail
 cd "$(dirname "$0")/.."
-echo "Proving and building the batch program and the library; minutes where nothing is proved yet:"
-rt check hep_batch
-bash tools/archive.sh
-echo "Building hep-tools and hep-rust."
-cargo build --quiet --release --offline --manifest-path hep-tools/Cargo.toml
-cargo build --quiet --offline --manifest-path hep-rust/Cargo.toml --example image_after
-tools=hep-tools/target/release
-
-# The data words 32 to 41 of task 1 in the image after the run; an input without items shows an image as it is.
-table() {
-    { printf '\0\0' && "$tools/hep-image" asm "$1" | hep-rust/target/debug/examples/image_after; } | "$tools/hep-image" share --data 32..41 1 -
+build_unproved() {
+    bash tools/needs.sh
+    echo "Building the batch program, the library and the program hep without proof: about 15 s of processor, 0.4 GB of memory."
+    python3 tools/native.py hep_batch --stdin crates/hep_batch/stdin
+    python3 tools/native.py hep_c
+    HEP_LIB_DIR=$PWD/target/native CARGO_PROFILE_DEV_OPT_LEVEL=0 cargo build --quiet --offline --manifest-path hep-cli/Cargo.toml --target-dir target/native/cargo
+    batch=target/native/hep_batch hep=target/native/cargo/debug/hep
+}
+build_proved() {
+    bash tools/proved.sh
+    env -u HEP_LIB_DIR cargo build --quiet --release --offline --manifest-path hep-cli/Cargo.toml
+    batch=target/bin/hep_batch hep=hep-cli/target/release/hep
+}
+# A report, and each of its lines in words.
+in_words() {
+    awk '
+        /^[1-7] / { printf "%-24s task %d: %d live, %s\n", $0, $1, $2, ($3 == "--" ? "not trapped" : "trapped at PC " $4 ", kind " $3 ($3 == "14" ? ", a protection violation" : "")); next }
+        { line = $0; gsub(/[A-Z]/, ""); printf "%-24s %d steps executed, %d waved (had to wait), %d trapped, %d idle; flag %d\n", line, $1, $2, $3, $4, $5 }'
+}
+# House one's table: utilisations in units of 10^-16 at 32 to 37, the worst at 40, how many are too much at 41.
+spans() {
+    awk '
+        $1 <= 37 { printf "    span %d: %.3f of what it bears%s\n", $1 - 31, $2 / 1e16, ($2 > 1e16 ? ", too much" : "") }
+        $1 == 40 { worst = $2 / 1e16 }
+        $1 == 41 { printf "    the judge says: the worst %.3f; too much: %d\n", worst, $2 }'
 }
 
-echo "The printed case:"
-target/bin/hep_batch < crates/hep_batch/stdin
+case "${1:-}" in
+    "") build_unproved ;;
+    --proved) build_proved ;;
+    *) echo "usage: bash examples/run.sh [--proved]" >&2; exit 2 ;;
+esac
+after=$(mktemp)
+trap 'rm -f "$after"' EXIT
+declare -A beside=(
+    [a]="house two, task 2, which checks four spans for shear"
+    [b]="house three, task 5, which leaves ten processes waiting for ever and then stores past its window"
+)
+echo "The printed case of document 01, one step of one task:"
+"$batch" < crates/hep_batch/stdin | tee "$after" | in_words
+diff "$after" crates/hep_batch/stdout
 for neighbour in a b; do
-    echo "The frame check, neighbour $neighbour:"
-    "$tools/hep-image" asm "examples/frame-$neighbour.hep" | target/bin/hep_batch | diff - "examples/frame-$neighbour.out"
-    cat "examples/frame-$neighbour.out"
-    table "examples/frame-$neighbour.hep" | diff - examples/house-one.table
+    text=examples/frame-$neighbour.hep report=examples/frame-$neighbour.out
+    echo "House one's frame check, task 1, beside ${beside[$neighbour]}:"
+    "$hep" asm "$text" | "$batch" | diff - "$report"
+    in_words < "$report"
+    "$hep" run -o "$after" "$text" | diff - "$report"
+    "$hep" share --data 32..41 1 "$after" | diff - examples/house-one.table
 done
-echo "House one's table, beside both (place, value, state):"
-cat examples/house-one.table
+echo "House one's spans, the same beside both:"
+spans < examples/house-one.table
+"$hep" timeline -o target/frame-b.svg examples/frame-b.hep
+echo "A picture of the second, to open in a browser: target/frame-b.svg"
+if [ "${1:-}" = --proved ]; then
+    echo "All of it by the proved programs."
+else
+    echo "Nothing of this was proved yet. bash .ci/run proves it, and holds what you just ran to what it proved:"
+    echo "$(python3 tools/progress.py --forecast --gate)."
+fi

@@ -18,6 +18,9 @@
 #include <stddef.h>
 #include <stdint.h>
 
+/* Of this header and of the archive that it was installed with: 0.N.0 has the requests L1 to LN. */
+#define HEP_VERSION "0.5.0"
+
 #ifdef __cplusplus
 extern "C" {
 #endif

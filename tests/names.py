@@ -53,7 +53,8 @@ class Tree:
             self.words.add(path.stem)
             if path.suffix in (".rs", ".rt", ".h", ".py", ".sh", ".c"):
                 self.words.update(name for found in OTHERS.findall(read(path)) for name in found if name)
-        self.words.update(re.findall(r"[\w-]+", read(ROOT / "hep-tools/src/bin/hep-image.rs")))
+        for path in ROOT.glob("hep-cli/src/**/*.rs"):
+            self.words.update(re.findall(r"[\w-]+", read(path)))
 
     def has_path(self, text, folder):
         text = text.rstrip("/.")

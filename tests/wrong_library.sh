@@ -1,6 +1,6 @@
 #!/usr/bin/env bash
-# A wrong library is noticed: hep-trials is linked to the archive spoilt by tests/c/wrong.c, and must differ under each of its faults.
-# tools/archive.sh comes first.
+# A wrong library is noticed: hep-trials is linked to the archive spoilt by tests/c/wrong.c, and must differ under each of its faults. So is
+# `hep`, whose commands must end with status 3 where the two emulators differ. tools/archive.sh comes first.
 set -euo pipefail
 cd "$(dirname "$0")/.."
 folder=$PWD/target/wrong
@@ -19,4 +19,22 @@ for fault in $faults; do
     if [ $status != 1 ]; then echo "wrong library: $fault is not noticed"; exit 1; fi
     if [ "${1:-}" = -v ]; then echo "$fault: $(grep -m 1 'differs\|hep-trials:' "$folder/log"), $(grep -m 1 '^found' -A 1 "$folder/log" | tr '\n' ' ')"; fi
 done
-echo "wrong library: $(wc -w <<< "$faults") faults, each noticed"
+HEP_LIB_DIR=$folder cargo build --quiet --offline --target-dir "$folder/build" --manifest-path hep-cli/Cargo.toml
+cargo run --quiet --release --offline --manifest-path hep-tools/Cargo.toml --bin hep-generate -- --refused "$folder/refused"
+hep() { WRONG=$1 "$folder/build/debug/hep" "${@:2}" > "$folder/log" 2>&1; }
+differing=0
+differs() {
+    local status=0
+    hep "$@" || status=$?
+    if [ $status != 3 ]; then echo "wrong library: hep ${*:2} ends with status $status under $1"; cat "$folder/log"; exit 1; fi
+    differing=$((differing + 1))
+}
+frame=examples/frame-a.hep
+hep none run --check "$frame"
+for fault in rare_bit_of_the_image rare_letter_of_the_report a_step_miscounted; do differs "$fault" run --check "$frame"; done
+for command in trace why timeline; do differs rare_bit_of_the_image "$command" "$frame"; done
+differs left_over_accepted check --image "$folder/refused/R4.bin"
+differs constant_as_a_cell run --image --schedule 1 "$folder/refused/R14.bin"
+printf '\0\0' | cat - "$folder/refused/R6.bin" > "$folder/refused/R6.input"
+differs refusal_one_off run --input "$folder/refused/R6.input"
+echo "wrong library: $(wc -w <<< "$faults") faults, each noticed; hep ends with status 3 in $differing cases"

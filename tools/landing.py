@@ -11,6 +11,8 @@ import re
 import subprocess
 import sys
 
+import gate_log
+
 SPEC = re.compile(r"^\s*((?:(?:unfoldable|abbrev|opaque|pub|data|record)\s+)*)([^\s:({]+)(?:\s+(?:[({].*?[)}]))*\s*:(?!:)")
 FUNCTION = re.compile(r'^\s*(?:pub )?(?:extern "C" )?(?:fn|struct|enum|const) (\w+)')
 PASSED_OVER = ("--", "//", "use ", "ghost use ", "pub use ", "unfoldable pub use ", "pub mod ", "mod ", "#[")
@@ -119,15 +121,13 @@ def outside(before, after):
 
 def times(log):
     text = open(log).read()
-    took = {crate: int(n) for crate, n in re.findall(r"^rt: (\w+) proved \((\d+) s\)", text, flags=re.M)}
-    edits = [int(n) for n in re.findall(r"^rt: must-fail .*; (\d+) s\)$", text, flags=re.M)]
-    tests = sum(int(n) for n in re.findall(r"^gate: (\d+) s:", text, flags=re.M))
+    took, edits = gate_log.proofs(text), gate_log.edits(text)
     whole = re.search(r"^real\s+(\d+)m([\d.]+)s", text, flags=re.M)
     return took, {
         "proofs, added up": sum(took.values()),
-        "edits, added up": sum(edits),
+        "edits, added up": sum(edits.values()),
         "number of edits": len(edits),
-        "tests": tests,
+        "tests": gate_log.tests(text),
         "the gate": f"{whole.group(1)} min {float(whole.group(2)):.0f} s" if whole else "",
     }
 

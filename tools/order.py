@@ -13,6 +13,8 @@ import glob
 import re
 import sys
 
+import gate_log
+
 KIT = ("io", "libc", "bytes", "os", "check")
 text = open("crates.txt").read()
 listed = {m.group(1): m.group(2).split() for m in re.finditer(r"^(\w+):(.*)$", text, flags=re.M)}
@@ -106,7 +108,7 @@ def level(crate):
 
 
 log = open(sys.argv[1]).read() if len(sys.argv) > 1 else ""
-seconds = {c: int(s) for c, s in re.findall(r"^rt: (\w+) proved \((\d+) s\)", log, flags=re.M)}
+seconds = gate_log.proofs(log)
 today = list(listed)
 order = sorted(uses, key=lambda c: (level(c), -seconds.get(c, 0), today.index(c)))
 place = {c: i for i, c in enumerate(order)}

@@ -1,6 +1,7 @@
 //! Safe calls of the proved emulator of a HEP process execution module: whole images in, whole images out.
 //!
-//! What `crates/hep_c` promises is proved; this crate is not. It makes the buffers, lends them, and cuts the results to their lengths.
+//! What `crates/hep_c` promises is proved; this crate is not. It makes the buffers, lends them, and cuts the results to their lengths;
+//! `State` takes an image's bytes apart.
 //!
 //! ```
 //! let image = hep::example_image();
@@ -11,8 +12,10 @@
 //! assert_eq!(hep::run(&image, &[8]).unwrap_err().number(), 10);
 //! ```
 
+mod state;
 pub mod sys;
 
+pub use state::{Cell, Process, State, Task, Trap};
 use std::{error, fmt};
 
 /// Why a call is refused. Each has a number of document 01.
@@ -49,6 +52,25 @@ impl Refusal {
         self as u32
     }
 
+    /// What the number means.
+    pub fn words(self) -> &'static str {
+        match self {
+            Refusal::InputEnds => "the image ends before its last section is whole",
+            Refusal::CountOverLimit => "a count is over its limit",
+            Refusal::TaskField => "a field of the task section is out of its range",
+            Refusal::ProcessField => "a field of the process section is out of its range",
+            Refusal::ConstantField => "a quality of a constant is out of its range",
+            Refusal::CellField => {
+                "a tag of a register or a state of a data word is out of its range"
+            }
+            Refusal::BytesLeftOver => "bytes stand after the last section",
+            Refusal::WindowPastMemory => "a window that isn't empty ends past its memory",
+            Refusal::ProcessesClash => "a process number stands twice, or 64 processes with flag 0",
+            Refusal::ListTooLong => "a schedule of over 65,535 items",
+            Refusal::ItemOutOfRange => "an item of the schedule is not 1 to 7",
+        }
+    }
+
     // 7 cannot come: the buffers are as long as the calls ask.
     fn of(number: u32) -> Result<(), Refusal> {
         Err(match number {
@@ -71,7 +93,7 @@ impl Refusal {
 
 impl fmt::Display for Refusal {
     fn fmt(&self, f: &mut fmt::Formatter<'_>) -> fmt::Result {
-        write!(f, "refused: R{}", self.number())
+        write!(f, "refused: R{}: {}", self.number(), self.words())
     }
 }
 
@@ -88,7 +110,7 @@ pub struct Sizes {
 }
 
 /// How the steps of a run ended.
-#[derive(Clone, Copy, Debug, PartialEq, Eq)]
+#[derive(Clone, Copy, Debug, Default, PartialEq, Eq)]
 pub struct Counts {
     pub executed: u64,
     pub waved: u64,
@@ -161,6 +183,43 @@ pub fn run(image: &[u8], schedule: &[u8]) -> Result<Outcome, Refusal> {
         counts: Counts { executed, waved, trapped, idle },
         report: text(&report[..report_len as usize]),
     })
+}
+
+/// The most items of a schedule that one run takes.
+pub const MOST_ITEMS: usize = 65_535;
+
+/// Runs a schedule of any length, as runs of at most `MOST_ITEMS` items each, image in to image out. The counts are those of all runs
+/// added up, also in the report's last line.
+///
+/// ```
+/// let outcome = hep::run_in_slices(&hep::example_image(), &vec![1; 70_000])?;
+/// assert_eq!(outcome.report, "1 1 14 00000\nE0 W0 T1 I69999 CF0\n");
+/// # Ok::<(), hep::Refusal>(())
+/// ```
+pub fn run_in_slices(image: &[u8], schedule: &[u8]) -> Result<Outcome, Refusal> {
+    let mut slices = schedule.chunks(MOST_ITEMS);
+    let mut outcome = run(image, slices.next().unwrap_or(&[]))?;
+    for slice in slices {
+        let before = outcome.counts;
+        outcome = run(&outcome.image, slice)?;
+        let counts = &mut outcome.counts;
+        counts.executed += before.executed;
+        counts.waved += before.waved;
+        counts.trapped += before.trapped;
+        counts.idle += before.idle;
+    }
+    if schedule.len() > MOST_ITEMS {
+        outcome.report = with_counts(&outcome.report, &outcome.counts);
+    }
+    Ok(outcome)
+}
+
+/// A report with these counts before the flag of its last line.
+fn with_counts(report: &str, counts: &Counts) -> String {
+    let rows = report.trim_end().rfind('\n').map_or(0, |end| end + 1);
+    let flag = report[rows..].split_whitespace().last().unwrap_or_default();
+    let Counts { executed, waved, trapped, idle } = counts;
+    format!("{}E{executed} W{waved} T{trapped} I{idle} {flag}\n", &report[..rows])
 }
 
 /// The batch program: from its input to its output, which is a report or the line of a refusal.

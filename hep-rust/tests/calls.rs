@@ -1,9 +1,11 @@
-//! The printed case of document 01, each refusal that a caller of this crate can meet, lengths, and the header's numbers.
+//! The printed case of document 01, each refusal that a caller of this crate can meet, lengths, what an image holds, and the header's numbers.
 
-use hep::{sys, Counts, Refusal};
+use hep::{sys, Cell, Counts, Refusal};
 use hep_tools::emulator::draft::{batch_input, Draft, Process, Task};
 use hep_tools::emulator::image;
 use hep_tools::emulator::machine::PROTECTION;
+use hep_tools::generate;
+use hep_tools::tool::share::{instructions, share};
 use hep_tools::tool::text;
 use hep_tools::trials::edges;
 
@@ -130,6 +132,40 @@ fn a_constants_quality() {
     assert_eq!(moved.counts.executed, 1);
     let after = image::draft(&image::read(&moved.image).unwrap());
     assert_eq!((after.constants[0], after.registers[0]), ((5, 7), (0, 7)));
+}
+
+/// A state holds what hep-tools reads from the same image, and windows are cut as its shares are.
+#[test]
+fn states_are_what_images_hold() {
+    for n in 0..200 {
+        let bytes = generate::image(41, n);
+        let outcome = hep::run(&bytes, &[1, 2, 3, 4, 5, 6, 7].repeat(10)).unwrap();
+        let (state, draft) = (outcome.state(), image::draft(&image::read(&outcome.image).unwrap()));
+        let tagged = |cells: &[Cell]| -> Vec<(u8, u64)> {
+            cells.iter().map(|c| (c.quality + if c.full { 0 } else { 8 }, c.word)).collect()
+        };
+        let stated = |cells: &[Cell]| -> Vec<(u8, u64)> {
+            cells.iter().map(|c| (u8::from(c.full), c.word)).collect()
+        };
+        assert_eq!(tagged(&state.constants), draft.constants);
+        assert_eq!(tagged(&state.registers), draft.registers);
+        assert_eq!(stated(&state.data), draft.data);
+        assert_eq!((&state.program, state.create_fault), (&draft.program, draft.flag != 0));
+        assert_eq!(state.tasks.len(), draft.tasks.len());
+        for (task, row) in state.tasks.iter().zip(&draft.tasks) {
+            let fields = (task.cb, task.rb, task.rl, task.pb, task.pl, task.db, task.dl);
+            assert_eq!(fields, (row.cb, row.rb, row.rl, row.pb, row.pl, row.db, row.dl));
+            let own = share(&draft, row.number).unwrap();
+            let trap = task.trap.map_or((0xFF, 0), |trap| (trap.kind, trap.psw));
+            assert_eq!((task.number, trap), (row.number, (own.kind, own.trapped)));
+            assert_eq!(tagged(state.registers_of(row.number)), own.registers);
+            assert_eq!(stated(state.data_of(row.number)), own.data);
+            assert_eq!(state.program_of(row.number), instructions(&draft, row));
+            let psws: Vec<u64> = state.processes_of(row.number).map(|p| p.psw).collect();
+            assert_eq!(psws, own.processes);
+        }
+    }
+    assert!(hep::State::of(&[]).is_err());
 }
 
 #[test]

@@ -6,7 +6,7 @@
 //! - `trials`: inputs with answers worked out by hand
 //! - `compare`: an implementation held to the trials and to the emulator; isolation tried
 //! - `benchmark`: workloads for timing
-//! - `tool`: the image tool: text both ways, traces, a task's share
+//! - `tool`: what the program `hep` says: text both ways, refused files, traces, reasons, pictures
 
 pub mod benchmark;
 pub mod compare;

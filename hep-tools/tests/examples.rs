@@ -2,6 +2,7 @@
 
 use hep_tools::emulator::batch;
 use hep_tools::tool;
+use hep_tools::tool::share::{cells_shown, share};
 use std::fs;
 
 fn example(name: &str) -> String {
@@ -27,12 +28,14 @@ fn reports() {
 fn house_one_beside_either_neighbour() {
     let (a, b) = (example("frame-a.hep"), example("frame-b.hep"));
     assert_eq!(house_one(&a), house_one(&b));
-    let share = |text: &str| tool::shared(text.as_bytes(), 1, None).unwrap();
-    assert_eq!(share(&a), share(&b));
-    for text in [&a, &b] {
-        let table = tool::shared(text.as_bytes(), 1, Some(32..=41)).unwrap();
-        assert_eq!(table, example("house-one.table"));
-    }
+    let [first, second] = [&a, &b].map(|text| {
+        let input = tool::load(text.as_bytes()).unwrap().bytes();
+        let image = batch::answer(&input).image.expect("accepted");
+        share(&tool::load(&image).unwrap().draft, 1).expect("listed")
+    });
+    assert_eq!(first, second);
+    let table = cells_shown(&first.data, &(32..=41), "data words", |state| state == 0);
+    assert_eq!(table.unwrap(), example("house-one.table"));
 }
 
 /// House one's spans: section, dead and live load, span, factor.

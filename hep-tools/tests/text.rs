@@ -1,4 +1,4 @@
-//! The image tool's text, both ways, and what it says of bad text.
+//! The text of images and inputs, both ways, and what is said of bad text.
 
 use hep_tools::emulator::assemble::*;
 use hep_tools::emulator::batch;
@@ -8,13 +8,17 @@ use hep_tools::emulator::image;
 use hep_tools::generate;
 use hep_tools::generate::random::Random;
 use hep_tools::tool;
+use hep_tools::tool::load::open;
 use hep_tools::tool::text::{assemble, dump, show};
+use hep_tools::tool::timeline::{svg, View};
+use hep_tools::tool::trace::{lines, Filter};
 use hep_tools::trials::edges;
+use std::fs;
 
 /// That the bytes come back from their text, and the text from the bytes.
 fn both_ways(bytes: &[u8]) {
-    let text = tool::dumped(bytes, false).expect("accepted");
-    let source = assemble(&text).unwrap_or_else(|error| panic!("{error}\n{text}"));
+    let text = tool::dumped(bytes).expect("accepted");
+    let source = assemble(&text).unwrap_or_else(|errors| panic!("{}\n{text}", errors[0]));
     assert_eq!(source.bytes(), bytes, "{text}");
     assert_eq!(dump(&source), text);
 }
@@ -34,7 +38,7 @@ fn generated_images() {
 /// The instruction's text gives the word again.
 fn word_both_ways(word: u64) {
     let text = format!("hep image\nprogram\n{}\n", show(word));
-    let source = assemble(&text).unwrap_or_else(|error| panic!("{error}\n{text}"));
+    let source = assemble(&text).unwrap_or_else(|errors| panic!("{}\n{text}", errors[0]));
     assert_eq!(source.draft.program, [word], "{text}");
 }
 
@@ -62,8 +66,8 @@ fn instructions_read_as_the_source_writes_them() {
         (word(MOV, accessed(3, 9), INDEXED | accessed(1, 2), 0), "MOV r9:E:U, r2+RI:W"),
         (word(NOT, accessed(1, 9), INDEXED | constant(2), 0), "NOT r9:F, c2+CI"),
         (word(CLR, accessed(2, 9), 0, 0), "CLR r9:E"),
-        (branch(7, 0x1_0002, constant(0), register(3)), "B 65538, r3, c0"),
-        (branch(2, 4, constant(0), accessed(3, 3)), "BEQ 4, r3:E, c0"),
+        (branch(7, 0x1_0002, constant(0), register(3)), "B 0x10002, r3, c0"),
+        (branch(2, 4, constant(0), accessed(3, 3)), "BEQ 0x00004, r3:E, c0"),
         (call(14, register(1), register(2), register(3)), "CALLPE r1, r2, r3"),
         (create(7, 0, constant(1), constant(0)), "CREATE c1, c0"),
         (create(9, 9, accessed(2, 1), constant(0)), "CREATEF r1:W:U(RCI,RPC), c0"),
@@ -122,7 +126,7 @@ fn names_labels_and_repetitions() {
 }
 
 /// Bad text as lines behind `hep input`, with the line, column and reason.
-const BAD: [(&str, usize, usize, &str); 55] = [
+const BAD: [(&str, usize, usize, &str); 61] = [
     ("task", 2, 5, "a number should stand here"),
     ("task 0 cb=0", 2, 6, "the task must be from 1 to 7"),
     ("task 8 cb=0", 2, 6, "the task must be from 1 to 7"),
@@ -140,9 +144,30 @@ const BAD: [(&str, usize, usize, &str); 55] = [
         48,
         "the kinds are 0x00 0x12 0x14 0x16 0x1A 0x1C 0x1E",
     ),
-    ("task 1 cb=0 rb=0 rl=0 pb=1 pl=0 db=1 dl=0", 2, 1, "the register window ends past its memory"),
-    ("task 1 cb=0 rb=1 rl=0 pb=0 pl=0 db=1 dl=0", 2, 1, "the program window ends past its memory"),
-    ("task 1 cb=0 rb=1 rl=0 pb=1 pl=0 db=0 dl=0", 2, 1, "the data window ends past its memory"),
+    (
+        "task 1 cb=0 rb=0 rl=1 pb=1 pl=0 db=1 dl=0\nregisters\nfull 0",
+        2,
+        1,
+        "the register window ends past its memory: it needs 4 registers, 1 are there, 3 are missing (`full 0 * 3`)",
+    ),
+    (
+        "task 1 cb=0 rb=1 rl=0 pb=0 pl=2 db=1 dl=0\nprogram\nNOP * 45",
+        2,
+        1,
+        "the program window ends past its memory: it needs 48 words, 45 are there, 3 are missing (`NOP * 3`)",
+    ),
+    (
+        "task 1 cb=0 rb=1 rl=0 pb=1 pl=0 db=0 dl=0",
+        2,
+        1,
+        "the data window ends past its memory: it needs 32 words, 0 are there, 32 are missing (`empty 0 * 32`)",
+    ),
+    ("task 1 cb=0 rb=1 rx=0", 2, 18, "`rx` is no field here (did you mean `rb` or `rl`?)"),
+    ("task 1 cb=0 rb=1", 2, 17, "rl, pb, pl, db, dl are missing"),
+    ("registrs", 2, 1, "`task`, `process` or a section should stand here (did you mean `registers`?)"),
+    ("constants\n7 qualty=5", 3, 3, "`qualty` is no field here (did you mean `quality`?)"),
+    ("program\nstart: NOP\nB strat, c0, c0", 4, 3, "`strat` is unknown (did you mean `start`?)"),
+    ("program\nMOVE r0, r1", 3, 1, "`MOVE` is no instruction (did you mean `MOV`?)"),
     ("flag 2", 2, 6, "the flag must be from 0 to 1"),
     ("process 0 task=1", 2, 16, "task 1 isn't listed above"),
     ("process 64", 2, 9, "the process number must be from 0 to 63"),
@@ -165,7 +190,7 @@ const BAD: [(&str, usize, usize, &str); 55] = [
     ("constants\nquality=5 5", 3, 1, "`quality` is unknown"),
     ("registers\n5", 3, 1, "`full` or `empty` should stand here"),
     ("registers\nfull 5 quality=7", 3, 16, "quality must be from 0 to 6"),
-    ("program\nAND r0, r1, r2", 3, 1, "an instruction should stand here"),
+    ("program\nAND r0, r1, r2", 3, 1, "`AND` is no instruction (did you mean `ADD` or `NAND`?)"),
     ("program\nADD r0, r1", 3, 11, "`,` is missing"),
     ("program\nADD r0, r1,", 3, 12, "an operand should stand here"),
     ("program\nADD r0, r1, 2", 3, 13, "an operand should stand here"),
@@ -188,7 +213,8 @@ const BAD: [(&str, usize, usize, &str); 55] = [
 #[test]
 fn bad_text() {
     for (text, line, column, reason) in BAD {
-        let error = assemble(&format!("hep input\n{text}\n")).expect_err(text);
+        let errors = assemble(&format!("hep input\n{text}\n")).expect_err(text);
+        let error = &errors[0];
         assert_eq!(
             (error.line, error.column, error.reason.as_str()),
             (line, column, reason),
@@ -201,11 +227,11 @@ fn bad_text() {
         ("hep tape", 5, "`image` or `input` should stand here"),
     ];
     for (text, column, reason) in whole {
-        let error = assemble(text).expect_err(text);
+        let error = &assemble(text).expect_err(text)[0];
         assert_eq!((error.line, error.column, error.reason.as_str()), (1, column, reason));
     }
-    let error = assemble("hep image\nschedule\n").expect_err("an image has none");
-    assert_eq!(error.to_string(), "line 2, column 1: only `hep input` has a schedule");
+    let errors = assemble("hep image\nschedule\n").expect_err("an image has none");
+    assert_eq!(errors[0].to_string(), "line 2, column 1: only `hep input` has a schedule");
 }
 
 #[test]
@@ -213,7 +239,7 @@ fn bad_crowds() {
     let row = "hep input\ntask 1 cb=0 rb=1 rl=0 pb=1 pl=0 db=1 dl=0\n";
     let crowd =
         |count| (0..count).map(|pt| format!("process {pt} task=1 pc=0\n")).collect::<String>();
-    let error = |text: String| assemble(&text).expect_err("a crowd").to_string();
+    let error = |text: String| assemble(&text).expect_err("a crowd")[0].to_string();
     assert!(assemble(&format!("{row}{}", crowd(63))).is_ok());
     assert_eq!(
         error(format!("{row}{}", crowd(64))),
@@ -225,8 +251,26 @@ fn bad_crowds() {
     assert_eq!(error(order), "line 3, column 6: tasks stand in ascending order");
     let twice = format!("{row}{}process 1 task=1 pc=0\n", crowd(2));
     assert_eq!(error(twice), "line 5, column 9: process number 1 stands twice");
-    let long = "hep input\nconstants\n0 * 4096\nschedule\n1 * 40000\n".to_string();
-    assert_eq!(error(long), "line 5, column 1: the input is over 65536 bytes");
+    let long = |items| {
+        assemble(&format!("hep input\nconstants\n0 * 4096\nschedule\n1 * {items}\n")).unwrap()
+    };
+    assert_eq!(long(28_655).over(), None);
+    assert_eq!(long(28_656).over().unwrap(), "it has 65537 bytes, over 65536");
+    assert_eq!(long(65_536).over().unwrap(), "its schedule has 65536 items, over 65535");
+}
+
+/// The kept dump of each level assembles, is accepted, and is dumped again word by word: what a later request added has its default.
+#[test]
+fn kept_dumps_of_earlier_levels() {
+    let folder = concat!(env!("CARGO_MANIFEST_DIR"), "/tests/dumps");
+    let files = fs::read_dir(folder).unwrap().map(|file| file.unwrap().path());
+    let levels = files.map(|path| {
+        let text = fs::read_to_string(&path).unwrap();
+        let source = assemble(&text).unwrap_or_else(|errors| panic!("{path:?}: {}", errors[0]));
+        assert_eq!(dump(&source), text, "{path:?}");
+        assert!(batch::accepted(&source.bytes()).is_ok(), "{path:?}");
+    });
+    assert!(levels.count() > 0);
 }
 
 #[test]
@@ -282,13 +326,13 @@ const REFUSED: [(usize, &[u8], &str); 28] = [
 /// What is said of an image with a reason at this place, alone and in a batch input of two items.
 fn said_of(image: &[u8], place: usize, reason: &str) {
     let as_image = format!("{reason} (byte {place} of the image, 0x{place:X}, counted from 0)");
-    let failure = tool::dumped(image, false).unwrap_err();
+    let failure = tool::dumped(image).unwrap_err();
     let first = failure.lines().next().unwrap();
     assert_eq!(first, format!("refused as an image: {as_image}"));
     let place = place + 4;
     let as_input =
         format!("{reason} (byte {place} of the batch input, 0x{place:X}, counted from 0)");
-    let failure = tool::traced(&batch_input(&[1, 7], image)).unwrap_err();
+    let failure = tool::load(&batch_input(&[1, 7], image)).unwrap_err();
     let first = failure.lines().next().unwrap();
     assert_eq!(first, format!("refused as a batch input: {as_input}"));
 }
@@ -344,7 +388,7 @@ fn refusals_of_processes_in_words() {
 fn refused_schedules_in_words() {
     let image = edges::full().bytes();
     let said = |input: &[u8], reason: &str| {
-        let failure = tool::dumped(input, false).unwrap_err();
+        let failure = tool::dumped(input).unwrap_err();
         assert!(failure.lines().any(|line| line.contains(reason)), "{failure}");
     };
     let place =
@@ -387,24 +431,28 @@ const TRACED: &str = "hep input
 
 #[test]
 fn a_trace_shows_what_is_written() {
-    let lines: Vec<String> =
-        tool::traced(TRACED.as_bytes()).unwrap().lines().map(str::to_string).collect();
+    let trace = traced(TRACED);
+    let lines: Vec<&str> = trace.lines().collect();
     let expected = [
-        "item task PT PC    instruction                      ending     what it wrote",
+        "item task PT PC    instruction                      ending     what it wrote, or why it waits or traps",
         "   0    1  5 00000 ADD r0:F, r1:W:U, c0             executed   r1 set empty, r0 = full 11",
         "   1    1  5 00001 STOI r0, c0                      executed   data 1 = full 11",
         "   2    1  5 00002 LODI:W:U r2, c0                  executed   r2 = full 11, data 1 = empty 11",
-        "   3    1  5 00003 CREATE c1(RPC), c9               executed   PT 0 joins at pc=4",
+        "   3    1  5 00003 CREATE c1(RPC), c9               executed   PT 0 joins at pc=0x00004",
         "   4    1  5 00004 QT c9                            executed   PT 5 leaves",
         "   5    1  0 00004 QT c9                            executed   PT 0 leaves",
         "   6    2 -- ----- -                                idle",
     ];
     assert_eq!(lines, expected);
-    let after = tool::dumped(TRACED.as_bytes(), true).unwrap();
-    let registers = "registers\n  full 11                                  ; 0\n  empty 3";
-    assert!(after.contains(registers), "{after}");
-    assert_eq!(tool::shared(TRACED.as_bytes(), 1, Some(0..=1)).unwrap(), "0 0 full\n1 11 empty\n");
-    assert!(tool::shared(TRACED.as_bytes(), 2, None).is_err());
+}
+
+/// The trace of a text.
+fn traced(text: &str) -> String {
+    let loaded = open(text.as_bytes(), None).unwrap();
+    let schedule = loaded.source.schedule.clone().unwrap();
+    let (filter, mut machine) = (Filter::default(), tool::machine(&loaded.source));
+    let lines = lines(&mut machine, &schedule, &loaded.symbols, &filter);
+    lines.map(|line| line + "\n").collect()
 }
 
 /// Five steps with parts of data word 1, whose address is 8.
@@ -432,14 +480,14 @@ const PARTS_TRACED: &str = "hep input
 
 #[test]
 fn a_trace_shows_parts() {
-    let trace = tool::traced(PARTS_TRACED.as_bytes()).unwrap();
+    let trace = traced(PARTS_TRACED);
     let steps: Vec<&str> = trace.lines().skip(1).map(|line| &line[19..]).collect();
     let expected = [
         "STOI r0, c0                      executed   data 1 = full 0x0000123400000000 (quarter 1)",
         "LODI:W:U r1, c1                  executed   r1 = full 0, data 1 = empty 0x0000123400000000 (half 1)",
         "STOI:B:E r0, c2                  executed   data 1 = full 0x0000123400340000 (byte 5)",
         "LODI r2, c0                      executed   r2 = full 4660",
-        "STOI r0, c3                      trapped 12",
+        "STOI r0, c3                      trapped 12 byte address 12 ends in 4, which names no part of data word 1; c3 = 12, r0 = full 4660, data 1 = full 0x0000123400340000",
     ];
     assert_eq!(steps, expected);
 }
@@ -464,13 +512,21 @@ fn said<'a>(svg: &'a str, start: &str) -> Vec<&'a str> {
         .collect()
 }
 
+/// The picture of a text's run.
+fn drawn(text: &str) -> String {
+    let loaded = open(text.as_bytes(), None).unwrap();
+    let schedule = loaded.source.schedule.clone().unwrap();
+    let view = View { name: "a <b>", symbols: &loaded.symbols, items: 0..usize::MAX };
+    svg(&mut tool::machine(&loaded.source), &schedule, &view)
+}
+
 #[test]
 fn timelines() {
     let frame = include_str!("../../examples/frame-b.hep");
-    let svg = tool::drawn(frame.as_bytes()).unwrap();
+    let svg = drawn(frame);
     assert_eq!(said(&svg, "task "), ["task 1", "task 5"]);
     assert_eq!(said(&svg, "E"), ["E191 W84 T0 I25", "E126 W1115 T1 I683"]);
-    assert_eq!(said(&svg, "trap "), ["trap 14 at item 1381, PC 00003"]);
+    assert_eq!(said(&svg, "trap "), ["trap 14 at item 1381, PC 00003 (store)"]);
     for total in ["executed 317", "waved (waits) 1199", "trapped 1", "idle 708"] {
         assert_eq!(said(&svg, total), [total]);
     }
@@ -481,12 +537,12 @@ fn timelines() {
 fn timelines_stay_small() {
     let task = "task 1 cb=0 rb=1 rl=0 pb=0 pl=0 db=1 dl=0\nprocess 0 task=1\nprogram\nNOP * 16\n";
     let long = format!("hep input\n{task}schedule\n1 * 15\n{}", "2\n1 * 3\n".repeat(15_000));
-    let svg = tool::drawn(long.as_bytes()).unwrap();
+    let svg = drawn(&long);
     assert_eq!(said(&svg, "60015 items of 2 tasks, each column is 251 items").len(), 1);
     assert_eq!(said(&svg, "trap "), ["trap 14 at item 17, PC 00010"]);
     assert_eq!(said(&svg, "not in the image").len(), 1);
     assert!(svg.len() < 10_000, "{} bytes", svg.len());
-    let none = tool::drawn(format!("hep input\n{task}schedule\n").as_bytes()).unwrap();
+    let none = drawn(&format!("hep input\n{task}schedule\n"));
     assert_eq!(said(&none, "E"), ["E0 W0 T0 I0"]);
 }
 
@@ -502,7 +558,7 @@ fn timelines_mark_the_flag() {
         CREATE c0, c0 * 16
         schedule
         1 * 100";
-    let svg = tool::drawn(text.as_bytes()).unwrap();
+    let svg = drawn(text);
     let heading = "100 items of 2 tasks, a column for each item; create fault flag up at item 61";
     assert_eq!(said(&svg, "100 items"), [heading]);
     assert_eq!(said(&svg, "trap 00 at item 61, PC ").len(), 1);

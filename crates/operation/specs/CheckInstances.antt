@@ -59,23 +59,23 @@ pub record CheckTrials : Type 0 where
   pub unfetched : decideOn 16 0 ≡ Traps ProtectionViolation 16
   -- 2: the privileged pages; what is left to software; codes beside those listed
   pub pages : codes (
-    0x0700 ∷ 0x3601 ∷ 0x3700 ∷ 0x3B7F ∷ 0x3C00 ∷ 0x4A00 ∷ 0x5700 ∷ 0x5800 ∷ 0x7600 ∷ 0x8700 ∷ 0x8701 ∷ 0x9900 ∷ 0x9901 ∷ 0x9902 ∷ 0x9903 ∷ 0xB700 ∷ 0xC900 ∷ 0xD700
-    ∷ 0xE10E ∷ 0xE11F ∷ 0xE705 ∷ 0xE706 ∷ 0xE707 ∷ 0xE97F ∷ 0xEC00 ∷ 0xF101 ∷ 0xF10D ∷ []) ≡ replicate 27 (Traps PrivilegedInstruction 0)
+      0x0700 ∷ 0x3601 ∷ 0x3700 ∷ 0x3B7F ∷ 0x3C00 ∷ 0x4A00 ∷ 0x5700 ∷ 0x5800 ∷ 0x7600 ∷ 0x8700 ∷ 0x8701 ∷ 0x9900 ∷ 0x9901 ∷ 0x9902 ∷ 0x9903 ∷ 0xB700 ∷ 0xC900 ∷ 0xD700
+      ∷ 0xE10E ∷ 0xE11F ∷ 0xE705 ∷ 0xE706 ∷ 0xE707 ∷ 0xE97F ∷ 0xEC00 ∷ 0xF101 ∷ 0xF10D ∷ []) ≡ replicate 27 (Traps PrivilegedInstruction 0)
   pub simulated : codes (0x7200 ∷ 0x7F00 ∷ 0x610A ∷ 0x6108 ∷ []) ≡ replicate 4 (Traps SimulatedInstruction 0)
   pub unlisted : codes (0x0001 ∷ 0x0901 ∷ 0x1971 ∷ 0x611E ∷ 0x6C20 ∷ 0x7970 ∷ 0x7C20 ∷ 0xBC20 ∷ 0xFC20 ∷ 0xFFFF ∷ []) ≡ replicate 10 illegal
   -- an unused field that is not zero: of NOP, MOV, CLR, CREATE, QT, LODI, STOI, SVC
   pub unused : words (
-    instructionWord 0x0000 1 0 0 ∷ instructionWord 0x0000 0 1 0 ∷ instructionWord 0x0000 0 0 1 ∷ instructionWord 0x611F 0 0x4001 1 ∷ instructionWord 0x411C 0 1 0
-    ∷ instructionWord 0x411C 0 0 1 ∷ instructionWord 0x3970 1 0x4000 0x4001 ∷ instructionWord 0x1970 1 0 0x4001 ∷ instructionWord 0x1970 0 1 0x4001
-    ∷ instructionWord 0x6C00 0 0x4004 1 ∷ instructionWord 0xBC00 1 0x4004 0x4001 ∷ instructionWord 0x0900 0 1 0 ∷ instructionWord 0x0900 0 0 1 ∷ []) ≡ replicate 13 illegal
+      instructionWord 0x0000 1 0 0 ∷ instructionWord 0x0000 0 1 0 ∷ instructionWord 0x0000 0 0 1 ∷ instructionWord 0x611F 0 0x4001 1 ∷ instructionWord 0x411C 0 1 0
+      ∷ instructionWord 0x411C 0 0 1 ∷ instructionWord 0x3970 1 0x4000 0x4001 ∷ instructionWord 0x1970 1 0 0x4001 ∷ instructionWord 0x1970 0 1 0x4001
+      ∷ instructionWord 0x6C00 0 0x4004 1 ∷ instructionWord 0xBC00 1 0x4004 0x4001 ∷ instructionWord 0x0900 0 1 0 ∷ instructionWord 0x0900 0 0 1 ∷ []) ≡ replicate 13 illegal
   -- bit 2 of a constant's field
   pub constant : resultOf 0x611F 0x6001 0 ≡ illegal
   -- 3: SVC stores the PC past the instruction; its first field is free
   pub svc : decideOn running (instructionWord 0x0900 0xFFFF 0 0) ≡ Traps SupervisorCall next
   -- 4: a constant as D; D, S1 and S2 past register 7
   pub outside : words (
-    instructionWord 0x611F 0x4000 0x4001 0 ∷ instructionWord 0x7126 0x0002 0x4001 0x4001 ∷ instructionWord 0x7126 0 0x0002 0x4001
-    ∷ instructionWord 0x7126 0 0x4001 0x0002 ∷ []) ≡ replicate 4 violation
+      instructionWord 0x611F 0x4000 0x4001 0 ∷ instructionWord 0x7126 0x0002 0x4001 0x4001 ∷ instructionWord 0x7126 0 0x0002 0x4001
+      ∷ instructionWord 0x7126 0 0x4001 0x0002 ∷ []) ≡ replicate 4 violation
   -- an indexed register and constant, under CI 3 and RI 1, as source and as D; under RI 2 past register 7
   pub indexedRegister : decideOn (pswOf 3 1 0 0) (instructionWord 0x611F 0 0x8000 0) ≡ does (Put 6 (cell 0 30)) Nothing (Continues (pswOf 3 1 0 1))
   pub indexedConstant : decideOn (pswOf 3 1 0 0) (instructionWord 0x611F 0 0xC001 0) ≡ does (Put 6 (cell 0 8)) Nothing (Continues (pswOf 3 1 0 1))

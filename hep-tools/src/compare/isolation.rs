@@ -3,20 +3,13 @@
 
 use crate::compare::Implementation;
 use crate::emulator::batch::Answer;
-use crate::emulator::draft::{Draft, Task};
-use crate::emulator::image::{self, MOST_CONSTANTS};
+use crate::emulator::draft::Draft;
+use crate::emulator::image;
 use crate::generate::{self, Pair};
-use crate::tool::share::{data, instructions, registers, share, Share};
+use crate::tool::agree::premises;
+pub use crate::tool::agree::Broken;
+use crate::tool::share::share;
 use crate::tool::text::Source;
-
-/// A premise that a pair breaks.
-#[derive(Clone, Copy, PartialEq, Eq, Debug)]
-pub enum Broken {
-    Disagree,
-    WindowsMeet,
-    ItemsDiffer,
-    FlagUp,
-}
 
 pub const PREMISES: [(Broken, &str); 4] = [
     (Broken::Disagree, "disagree on the task"),
@@ -76,44 +69,7 @@ fn answered(tried: &mut dyn Implementation, source: &Source) -> Result<Draft, St
 
 /// The first premise that a pair breaks, from the states before and after.
 pub fn broken(pair: &Pair, after: &[Draft; 2]) -> Option<Broken> {
-    let drafts = [&pair.first.draft, &pair.second.draft];
-    let [first, second] = drafts.map(|draft| compared(draft, pair.task));
-    if first != second || !constants_agree(drafts) {
-        return Some(Broken::Disagree);
-    }
-    if drafts.iter().any(|draft| meets_another(draft, pair.task)) {
-        return Some(Broken::WindowsMeet);
-    }
-    let items = |source: &Source| {
-        let items = source.schedule.iter().flatten();
-        items.filter(|item| **item == pair.task).count()
-    };
-    if items(&pair.first) != items(&pair.second) {
-        return Some(Broken::ItemsDiffer);
-    }
-    after.iter().any(|draft| draft.flag != 0).then_some(Broken::FlagUp)
-}
-
-/// Whether every real address of constant memory reads the same, word and quality; past the count both are zero.
-fn constants_agree(drafts: [&Draft; 2]) -> bool {
-    let read = |draft: &Draft, real| draft.constants.get(real).copied().unwrap_or_default();
-    (0..MOST_CONSTANTS).all(|real| read(drafts[0], real) == read(drafts[1], real))
-}
-
-/// Windows, instructions and share of a task: what two images must agree on.
-fn compared(draft: &Draft, number: u8) -> Option<(Task, Vec<u64>, Share)> {
-    let task = draft.tasks.iter().find(|task| task.number == number)?;
-    Some((*task, instructions(draft, task), share(draft, number)?))
-}
-
-/// Whether the task's register or data window meets another task's.
-fn meets_another(draft: &Draft, number: u8) -> bool {
-    let meet = |a: std::ops::Range<usize>, b: std::ops::Range<usize>| {
-        a.start.max(b.start) < a.end.min(b.end)
-    };
-    let own = draft.tasks.iter().filter(|task| task.number == number);
-    own.flat_map(|task| draft.tasks.iter().map(move |other| (task, other))).any(|(task, other)| {
-        other.number != number
-            && (meet(registers(task), registers(other)) || meet(data(task), data(other)))
-    })
+    let held = premises(&[pair.task], [&pair.first, &pair.second], after.each_ref());
+    let fails = |about| held.iter().any(|premise| premise.about == about && premise.held.is_err());
+    PREMISES.map(|(broken, _)| broken).into_iter().find(|broken| fails(*broken))
 }

@@ -28,7 +28,7 @@ pub fn difference(difference: &Difference, folder: &Path) -> Result<(), String> 
 
 /// Prints the lines of two images' texts that differ.
 fn images(expected: &[u8], found: &[u8]) {
-    let text = |image| tool::dumped(image, false).unwrap_or_else(|reason| reason);
+    let text = |image| tool::dumped(image).unwrap_or_else(|reason| reason);
     let (expected, found) = (text(expected), text(found));
     for (expected, found) in expected.lines().zip(found.lines()).filter(|(a, b)| a != b) {
         println!("image, expected: {expected}\nimage, found:    {found}");

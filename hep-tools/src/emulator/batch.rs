@@ -110,7 +110,8 @@ pub fn split(input: &[u8]) -> Option<(&[u8], &[u8])> {
     rest.split_at_checked(usize::from(u16::from_be_bytes(*count)))
 }
 
-fn report(machine: &Machine, counts: &Counts) -> String {
+/// The report of a run that left this machine.
+pub fn report(machine: &Machine, counts: &Counts) -> String {
     let mut text = String::new();
     for task in machine.tasks() {
         let live = machine.live_count(task);

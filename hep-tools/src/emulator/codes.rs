@@ -1,5 +1,5 @@
 //! Operation codes: one table of the operations, which decoding, the generator and
-//! the image tool share.
+//! the text share.
 
 /// What an instruction's code stands for.
 #[derive(Clone, Copy, PartialEq, Eq, Debug)]

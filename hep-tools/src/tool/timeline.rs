@@ -2,10 +2,15 @@
 //!
 //! A column takes as many items as make at most `COLUMNS` of them, so a picture stays small however long the schedule is. In a lane's
 //! column the colours stand in the shares of that task's items; an ending that came at all is to be seen. A trap and the create fault
-//! flag are marked at their item.
+//! flag are marked at their item; below a lane stands what its processes waited for.
 
+use super::reason::{reason, Look};
+use super::taken::{place, Taken};
+use super::text::Symbols;
 use crate::emulator::machine::{Counts, Ending, Machine};
 use crate::emulator::psw;
+use std::collections::BTreeMap;
+use std::ops::Range;
 
 /// The most columns, and the width of all together.
 const COLUMNS: usize = 240;
@@ -30,13 +35,24 @@ const ENDINGS: [(&str, &str); 4] = [
 ];
 const NO_ITEM: &str = "#f6f7f9";
 
+/// What is drawn.
+pub struct View<'a> {
+    /// The file's name.
+    pub name: &'a str,
+    pub symbols: &'a Symbols,
+    /// The items that are drawn; all are run.
+    pub items: Range<usize>,
+}
+
 /// What a task's lane shows.
 struct Lane {
     task: u8,
     /// For each column how many items ended each way, in the order of `ENDINGS`.
     columns: Vec<[usize; 4]>,
-    /// The item at which it trapped; none if it was trapped before.
-    trapped_at: Option<usize>,
+    /// The item at which it trapped and why; none if it was trapped before.
+    trapped_at: Option<(usize, String)>,
+    /// How many drawn items waited for each cell.
+    waits: BTreeMap<String, usize>,
 }
 
 impl Lane {
@@ -47,7 +63,9 @@ impl Lane {
 
 /// The whole picture of a run.
 struct Picture {
-    items: usize,
+    /// The items that are drawn, and how many there are.
+    items: Range<usize>,
+    all: usize,
     /// Items of a column.
     each: usize,
     lanes: Vec<Lane>,
@@ -55,46 +73,83 @@ struct Picture {
     fault_at: Option<usize>,
 }
 
+impl Picture {
+    fn new(machine: &Machine, schedule: &[u8], view: &View) -> Self {
+        let all = schedule.len();
+        let items = view.items.start.min(all)..view.items.end.min(all);
+        let each = items.len().div_ceil(COLUMNS).max(1);
+        let listed: Vec<u8> = machine.tasks().collect();
+        let shown = (1..=7).filter(|task| listed.contains(task) || schedule.contains(task));
+        let columns = vec![[0; 4]; items.len().div_ceil(each)];
+        let waits = BTreeMap::new();
+        let lane =
+            |task| Lane { task, columns: columns.clone(), trapped_at: None, waits: waits.clone() };
+        Picture { items, all, each, lanes: shown.map(lane).collect(), fault_at: None }
+    }
+}
+
 /// Runs the schedule and draws it.
-pub fn svg(machine: &mut Machine, schedule: &[u8]) -> String {
-    let picture = run(machine, schedule);
-    let height = TOP + PITCH * picture.lanes.len() + 40;
+pub fn svg(machine: &mut Machine, schedule: &[u8], view: &View) -> String {
+    let picture = run(machine, schedule, view);
+    let height = TOP + PITCH * picture.lanes.len() + 56;
     let mut out = format!(
         "<svg xmlns=\"http://www.w3.org/2000/svg\" width=\"{WIDTH}\" height=\"{height}\" \
          viewBox=\"0 0 {WIDTH} {height}\" font-family=\"sans-serif\" font-size=\"13\">\n\
-         <rect width=\"{WIDTH}\" height=\"{height}\" fill=\"#fff\"/>\n"
+         <title>{}: the steps of its schedule</title>\n\
+         <rect width=\"{WIDTH}\" height=\"{height}\" fill=\"#fff\"/>\n",
+        escaped(view.name)
     );
     heading(&mut out, &picture);
     for (place, lane) in picture.lanes.iter().enumerate() {
         let top = TOP + PITCH * place;
         columns(&mut out, &picture, lane, top);
         labels(&mut out, machine, lane, top);
-        trap(&mut out, machine, &picture, lane, top);
+        waits(&mut out, lane, top);
+        trap(&mut out, machine, &picture, lane, top, view.symbols);
     }
     axis(&mut out, &picture);
+    let from =
+        format!("{}; steps by the emulator of hep-tools, which is not proved", escaped(view.name));
+    text(
+        &mut out,
+        &WIDTH.saturating_sub(16).to_string(),
+        height - 8,
+        " text-anchor=\"end\" font-size=\"11\" fill=\"#555\"",
+        &from,
+    );
     out + "</svg>\n"
 }
 
+/// Text as SVG takes it.
+fn escaped(text: &str) -> String {
+    text.replace('&', "&amp;").replace('<', "&lt;").replace('>', "&gt;")
+}
+
 /// The lanes of the listed tasks and of the others that have items.
-fn run(machine: &mut Machine, schedule: &[u8]) -> Picture {
-    let items = schedule.len();
-    let each = items.div_ceil(COLUMNS).max(1);
-    let listed: Vec<u8> = machine.tasks().collect();
-    let shown = (1..=7).filter(|task| listed.contains(task) || schedule.contains(task));
-    let columns = vec![[0; 4]; items.div_ceil(each)];
-    let lane = |task| Lane { task, columns: columns.clone(), trapped_at: None };
-    let mut picture = Picture { items, each, lanes: shown.map(lane).collect(), fault_at: None };
+fn run(machine: &mut Machine, schedule: &[u8], view: &View) -> Picture {
+    let mut picture = Picture::new(machine, schedule, view);
     for (item, &task) in schedule.iter().enumerate() {
         let flag = machine.create_fault();
+        let taken = Taken::next(machine, task);
         let ending = machine.step(task);
         if machine.create_fault() && !flag {
             picture.fault_at = Some(item);
         }
-        for lane in picture.lanes.iter_mut().filter(|lane| lane.task == task) {
-            lane.columns[item / each][place_of(ending)] += 1;
-            if let Ending::Trapped { .. } = ending {
-                lane.trapped_at = Some(item);
+        let (drawn, each) = (picture.items.contains(&item), picture.each);
+        let column = item.wrapping_sub(picture.items.start) / each;
+        let Some(lane) = picture.lanes.iter_mut().find(|lane| lane.task == task) else { continue };
+        if drawn {
+            lane.columns[column][place_of(ending)] += 1;
+        }
+        let Some(taken) = &taken else { continue };
+        let look = Look { machine, symbols: view.symbols, taken };
+        match ending {
+            Ending::Waved if drawn => {
+                let waits = look.unmet().iter().map(|unmet| unmet.name.clone()).collect::<Vec<_>>();
+                *lane.waits.entry(waits.join(" and ")).or_insert(0) += 1;
             }
+            Ending::Trapped { .. } => lane.trapped_at = Some((item, reason(look, ending))),
+            _ => {}
         }
     }
     picture
@@ -112,7 +167,8 @@ fn place_of(ending: Ending) -> usize {
 
 /// Where an item begins, in tenths.
 fn x_of(picture: &Picture, item: usize) -> usize {
-    10 * LEFT + 10 * PLOT * item / picture.items.max(1)
+    let drawn = item.clamp(picture.items.start, picture.items.end) - picture.items.start;
+    10 * LEFT + 10 * PLOT * drawn / picture.items.len().max(1)
 }
 
 /// Tenths as SVG has them.
@@ -129,7 +185,7 @@ fn text(out: &mut String, x: &str, y: usize, more: &str, text: &str) {
 
 /// Items, columns and the flag; below it the legend with the counts of all tasks.
 fn heading(out: &mut String, picture: &Picture) {
-    let Picture { items, each, .. } = *picture;
+    let Picture { items, all, each, .. } = picture;
     let scale = match each {
         1 => "a column for each item".to_string(),
         _ => format!("each column is {each} items, heights are their shares"),
@@ -138,7 +194,15 @@ fn heading(out: &mut String, picture: &Picture) {
         Some(item) => format!("; create fault flag up at item {item}"),
         None => String::new(),
     };
-    let title = format!("{items} items of {} tasks, {scale}{fault}", picture.lanes.len());
+    let drawn = match items.len() == *all {
+        true => format!("{all} items"),
+        false => format!("items {} to {} (of {all})", items.start, items.end.saturating_sub(1)),
+    };
+    let tasks = match picture.lanes.len() {
+        1 => "1 task".to_string(),
+        tasks => format!("{tasks} tasks"),
+    };
+    let title = format!("{drawn} of {tasks}, {scale}{fault}");
     text(out, "16", 26, " font-size=\"16\" font-weight=\"bold\"", &title);
     for (place, (name, colour)) in ENDINGS.iter().enumerate() {
         let count: usize = picture.lanes.iter().map(|lane| lane.total(place)).sum();
@@ -185,8 +249,8 @@ fn columns(out: &mut String, picture: &Picture, lane: &Lane, top: usize) {
             let same = heights[first..].iter().take_while(|other| piece(other) == (foot, height));
             let end = first + same.count();
             if height > 0 {
-                let left = x_of(picture, first * picture.each);
-                let right = x_of(picture, (end * picture.each).min(picture.items));
+                let item = |column: usize| picture.items.start + column * picture.each;
+                let (left, right) = (x_of(picture, item(first)), x_of(picture, item(end)));
                 let (x, width, y) = (tenths(left), tenths(right - left), top + LANE - foot);
                 path += &format!("M{x} {y}h{width}v-{height}h-{width}z");
             }
@@ -218,30 +282,61 @@ fn labels(out: &mut String, machine: &Machine, lane: &Lane, top: usize) {
     text(out, &x, top + 29, " fill=\"#555\"", &live);
 }
 
-/// A mark at the item that trapped, with its record.
-fn trap(out: &mut String, machine: &Machine, picture: &Picture, lane: &Lane, top: usize) {
+/// What the task's processes waited for, the most first.
+fn waits(out: &mut String, lane: &Lane, top: usize) {
+    let mut waits: Vec<(&String, &usize)> = lane.waits.iter().collect();
+    waits.sort_by_key(|(_, count)| std::cmp::Reverse(**count));
+    let shown: Vec<String> =
+        waits.iter().take(4).map(|(name, count)| format!("{name} ({count})")).collect();
+    if shown.is_empty() {
+        return;
+    }
+    let more =
+        if waits.len() > 4 { format!(" and {} more", waits.len() - 4) } else { String::new() };
+    let said = escaped(&format!("waited for {}{more}", shown.join(", ")));
+    text(out, &LEFT.to_string(), top + LANE + 13, " font-size=\"11\" fill=\"#8a5a00\"", &said);
+}
+
+/// A mark at the item that trapped, with its record, and the reason where a pointer rests on it.
+fn trap(
+    out: &mut String,
+    machine: &Machine,
+    picture: &Picture,
+    lane: &Lane,
+    top: usize,
+    symbols: &Symbols,
+) {
     let Some((kind, psw)) = machine.trap_record(lane.task) else { return };
     let colour = ENDINGS[3].1;
     let pc = psw::pc(psw);
-    let (item, when) = match lane.trapped_at {
-        Some(item) => (item, format!("at item {item}")),
-        None => (0, "before the run".to_string()),
+    let (item, when, why) = match &lane.trapped_at {
+        Some((item, why)) => (*item, format!("at item {item}"), why.as_str()),
+        None => (0, "before the run".to_string(), ""),
     };
     let x = x_of(picture, item);
     let (shift, anchor) = if x > 10 * (LEFT + PLOT / 2) { (-8, "end") } else { (8, "start") };
     let (left, tip, foot) = (tenths(x), top - 2, top + LANE + 4);
     *out += &format!(
-        "<path fill=\"{colour}\" stroke=\"{colour}\" stroke-width=\"2\" d=\"M{left} {foot}V{tip}l-5 -9h10l-5 9\"/>\n"
+        "<path fill=\"{colour}\" stroke=\"{colour}\" stroke-width=\"2\" d=\"M{left} {foot}V{tip}l-5 -9h10l-5 9\"><title>{}</title></path>\n",
+        escaped(why)
     );
     let more =
         format!(" dx=\"{shift}\" text-anchor=\"{anchor}\" fill=\"{colour}\" font-weight=\"bold\"");
-    text(out, &left, top - 4, &more, &format!("trap {kind:02X} {when}, PC {pc:05X}"));
+    let label =
+        place(machine, symbols, lane.task, pc).map_or(String::new(), |label| format!(" ({label})"));
+    text(
+        out,
+        &left,
+        top - 4,
+        &more,
+        &escaped(&format!("trap {kind:02X} {when}, PC {pc:05X}{label}")),
+    );
 }
 
 /// The items below the lanes, and the flag's line through them.
 fn axis(out: &mut String, picture: &Picture) {
-    let foot = TOP + PITCH * picture.lanes.len() - (PITCH - LANE) + 10;
-    if let Some(item) = picture.fault_at {
+    let foot = TOP + PITCH * picture.lanes.len() - (PITCH - LANE) + 20;
+    if let Some(item) = picture.fault_at.filter(|item| picture.items.contains(item)) {
         let x = tenths(x_of(picture, item));
         let line = format!(
             "<path stroke=\"#7b2cbf\" stroke-dasharray=\"4 3\" d=\"M{x} {}V{foot}\"/>",
@@ -249,8 +344,9 @@ fn axis(out: &mut String, picture: &Picture) {
         );
         *out += &format!("{line}\n");
     }
-    let step = step(picture.items);
-    for item in (0..=picture.items).step_by(step) {
+    let step = step(picture.items.len());
+    let first = picture.items.start.next_multiple_of(step);
+    for item in (first..=picture.items.end).step_by(step) {
         let x = tenths(x_of(picture, item));
         *out += &format!("<path stroke=\"#888\" d=\"M{x} {foot}v5\"/>\n");
         text(out, &x, foot + 20, " text-anchor=\"middle\" fill=\"#555\"", &item.to_string());

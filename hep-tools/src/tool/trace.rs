@@ -1,116 +1,156 @@
-//! The steps of a schedule as lines: what each took and what it wrote.
+//! The steps of a schedule as lines: what each took, what it wrote, or why it waited or trapped.
 
-use crate::emulator::codes::{listed, Low, Operation, Role};
+use super::reason::{reason, Look};
+use super::taken::{place, psw_shown, writes_data, Taken};
+use super::text::{self, Symbols};
+use crate::emulator::codes::Role;
 use crate::emulator::machine::{Ending, Machine, CREATE_FAULT};
 use crate::emulator::part::Part;
 use crate::emulator::psw;
-use crate::tool::text::{self, psw_fields};
 
-/// What a task's next step takes.
-struct Taken {
-    pt: u8,
-    psw: u64,
-    /// The instruction, unless PC is outside the program window.
-    word: Option<u64>,
+/// Which steps are shown; all are made.
+#[derive(Clone, Debug)]
+pub struct Filter {
+    pub task: Option<u8>,
+    /// The first and the last item.
+    pub from: usize,
+    pub to: usize,
+    /// The endings, by their names; none for all.
+    pub only: Vec<String>,
 }
 
-/// The lines of a run, one for each item.
+impl Default for Filter {
+    fn default() -> Self {
+        Filter { task: None, from: 0, to: usize::MAX, only: Vec::new() }
+    }
+}
+
+/// The endings that a filter names.
+pub const ENDINGS: [&str; 4] = ["executed", "waved", "trapped", "idle"];
+
+impl Filter {
+    fn shows(&self, item: usize, task: u8, ending: Ending) -> bool {
+        (self.from..=self.to).contains(&item)
+            && self.task.is_none_or(|only| only == task)
+            && (self.only.is_empty() || self.only.iter().any(|only| only == name(ending)))
+    }
+}
+
+/// The ending's name.
+pub fn name(ending: Ending) -> &'static str {
+    match ending {
+        Ending::Executed => ENDINGS[0],
+        Ending::Waved => ENDINGS[1],
+        Ending::Trapped { .. } => ENDINGS[2],
+        Ending::Idle => ENDINGS[3],
+    }
+}
+
+/// The lines of a run, one for each item that the filter shows.
 pub fn lines<'a>(
     machine: &'a mut Machine,
     schedule: &'a [u8],
+    symbols: &'a Symbols,
+    filter: &'a Filter,
 ) -> impl Iterator<Item = String> + 'a {
-    let heading = "item task PT PC    instruction                      ending     what it wrote";
-    let steps = schedule.iter().enumerate().map(|(i, &task)| {
-        let line = format!("{i:4} {task:4} {}", line(machine, task));
-        line.trim_end().to_string()
+    let place = if symbols.has_labels() { format!("{:<16} ", "place") } else { String::new() };
+    let width = schedule.len().to_string().len().max(4);
+    let heading = format!(
+        "{:>width$} task PT PC    {place}{:<32} {:<10} what it wrote, or why it waits or traps",
+        "item", "instruction", "ending"
+    );
+    let steps = schedule.iter().enumerate().filter_map(move |(item, &task)| {
+        let before = Before::new(machine, task);
+        let ending = machine.step(task);
+        let shown = filter.shows(item, task, ending);
+        shown.then(|| {
+            let step = before.line(machine, symbols, ending);
+            let line = format!("{item:width$} {task:4} {step}");
+            line.trim_end().to_string()
+        })
     });
-    std::iter::once(heading.to_string()).chain(steps)
+    std::iter::once(heading).chain(steps)
 }
 
-/// One step of a task, from its PT on.
-fn line(machine: &mut Machine, task: u8) -> String {
-    let Some(taken) = taken(machine, task) else {
-        machine.step(task);
-        return format!("-- ----- {:<32} idle", "-");
-    };
-    let before = machine.clone();
-    let ending = machine.step(task);
-    let wrote = match (ending, taken.word.and_then(listed)) {
-        (Ending::Executed | Ending::Trapped { kind: CREATE_FAULT, .. }, Some(operation)) => {
-            wrote(&before, machine, task, &taken, operation).join(", ")
+/// What is seen before a step.
+struct Before {
+    taken: Option<Taken>,
+    /// The task's process numbers.
+    numbers: Vec<u8>,
+}
+
+impl Before {
+    fn new(machine: &Machine, task: u8) -> Self {
+        let numbers = machine.processes(task).into_iter().map(|(pt, _)| pt).collect();
+        Before { taken: Taken::next(machine, task), numbers }
+    }
+
+    /// The step's line from its PT on, seen after it.
+    fn line(&self, machine: &Machine, symbols: &Symbols, ending: Ending) -> String {
+        let column = |place: String| match symbols.has_labels() {
+            true => format!("{place:<16} "),
+            false => String::new(),
+        };
+        let Some(taken) = &self.taken else {
+            return format!("-- ----- {}{:<32} idle", column(String::new()), "-");
+        };
+        let (task, pc) = (taken.task, taken.pc());
+        let said = match ending {
+            Ending::Executed | Ending::Idle => self.wrote(machine, symbols, taken).join(", "),
+            Ending::Waved | Ending::Trapped { .. } => {
+                let mut said = vec![reason(Look { machine, symbols, taken }, ending)];
+                if let Ending::Trapped { kind: CREATE_FAULT, .. } = ending {
+                    said.extend(self.wrote(machine, symbols, taken));
+                }
+                said.join(", ")
+            }
+        };
+        let place = column(place(machine, symbols, task, pc).unwrap_or_default());
+        let instruction = taken.instruction(machine, symbols);
+        format!("{:2} {pc:05X} {place}{instruction:<32} {:<10} {said}", taken.pt, shown(ending))
+    }
+
+    /// The writes of an executed step, sources first.
+    fn wrote(&self, machine: &Machine, symbols: &Symbols, taken: &Taken) -> Vec<String> {
+        let mut out = Vec::new();
+        let operands = taken.operands(machine);
+        for operand in operands.iter().filter(|o| o.role == Role::Source && o.access() == 2) {
+            out.push(format!("{} set empty", taken.name(machine, symbols, operand)));
         }
-        _ => String::new(),
-    };
-    let instruction = taken.word.map_or("-".to_string(), text::show);
-    let pc = psw::pc(taken.psw);
-    format!("{:2} {pc:05X} {instruction:<32} {:<10} {wrote}", taken.pt, show_ending(ending))
+        for operand in operands.iter().filter(|operand| operand.role == Role::Destination) {
+            let cell = operand.cell.map(|cell| text::register(&machine.register(cell)));
+            let name = taken.name(machine, symbols, operand);
+            out.push(format!("{name} = {}", cell.unwrap_or_default()));
+        }
+        out.extend(data_write(machine, taken));
+        out.extend(self.joined(machine, symbols, taken.task));
+        out.extend(next(machine, symbols, taken));
+        out
+    }
+
+    /// The process that a create has added.
+    fn joined(&self, machine: &Machine, symbols: &Symbols, task: u8) -> Option<String> {
+        let now = machine.processes(task);
+        let (pt, psw) = now.into_iter().find(|(pt, _)| !self.numbers.contains(pt))?;
+        Some(format!("PT {pt} joins at {}", psw_shown(machine, symbols, task, psw)))
+    }
 }
 
-fn show_ending(ending: Ending) -> String {
+fn shown(ending: Ending) -> String {
     match ending {
-        Ending::Executed => "executed".to_string(),
-        Ending::Waved => "waved".to_string(),
-        Ending::Trapped { kind, .. } => format!("trapped {kind:02X}"),
-        Ending::Idle => "idle".to_string(),
+        Ending::Trapped { kind, .. } => format!("{} {kind:02X}", name(ending)),
+        _ => name(ending).to_string(),
     }
-}
-
-/// What the step takes, unless it will be idle.
-fn taken(machine: &Machine, task: u8) -> Option<Taken> {
-    if machine.trap_record(task).is_some() {
-        return None;
-    }
-    let &(pt, psw) = machine.processes(task).first()?;
-    Some(Taken { pt, psw, word: machine.instruction(task, psw::pc(psw)) })
-}
-
-/// The writes of an executed step, sources first.
-fn wrote(
-    before: &Machine,
-    after: &Machine,
-    task: u8,
-    taken: &Taken,
-    of: &Operation,
-) -> Vec<String> {
-    let word = taken.word.unwrap_or(0);
-    let field = |i: usize| (word >> (32 - 16 * i)) as u16;
-    let mut out = Vec::new();
-    for i in 0..3 {
-        if of.fields[i] == Role::Source && field(i) & 0x7800 == 0x1000 {
-            out.push(format!("{} set empty", place(field(i), taken.psw)));
-        }
-    }
-    if of.fields[0] == Role::Destination {
-        let cell = after.operand_cell(task, taken.psw, word, 0);
-        let cell = cell.map(|cell| text::register(&after.register(cell)));
-        out.push(format!("{} = {}", place(field(0), taken.psw), cell.unwrap_or_default()));
-    }
-    out.extend(data_write(before, after, task, taken, of));
-    out.extend(joined(before, after, task));
-    out.extend(next(after, task, taken));
-    out
-}
-
-/// The operand without its access, indexed by RI.
-fn place(field: u16, psw: u64) -> String {
-    let index = if field & 0x8000 != 0 { psw::ri(psw) } else { 0 };
-    format!("r{}", u64::from(field & 0x7FF) + index)
 }
 
 /// A store, or a load that sets empty: the word then, and which part of it was named.
-fn data_write(
-    before: &Machine,
-    after: &Machine,
-    task: u8,
-    taken: &Taken,
-    of: &Operation,
-) -> Option<String> {
+fn data_write(machine: &Machine, taken: &Taken) -> Option<String> {
     let word = taken.word?;
-    if of.low != Low::Store && (of.low != Low::Load || word >> 50 & 3 != 2) {
+    if !writes_data(taken.operation()?, word) {
         return None;
     }
-    let address = before.data_address(task, taken.psw, word)?;
-    let cell = after.data_word(after.data_place(task, address)?);
+    let address = taken.address?;
+    let cell = machine.data_word(machine.data_place(taken.task, address)?);
     let part = Part::named(word, address).map(show_part).unwrap_or_default();
     Some(format!("data {} = {}{part}", address / 8, text::data(&cell)))
 }
@@ -125,18 +165,12 @@ fn show_part(Part { width, place }: Part) -> String {
     }
 }
 
-/// The process that a create has added.
-fn joined(before: &Machine, after: &Machine, task: u8) -> Option<String> {
-    let known = before.processes(task);
-    let new = after.processes(task).into_iter().find(|(pt, _)| known.iter().all(|k| k.0 != *pt))?;
-    Some(format!("PT {} joins at {}", new.0, psw_fields(new.1)))
-}
-
 /// The process's status word, if the step didn't just add 1 to PC.
-fn next(after: &Machine, task: u8, taken: &Taken) -> Option<String> {
-    match after.processes(task).into_iter().find(|(pt, _)| *pt == taken.pt) {
+fn next(machine: &Machine, symbols: &Symbols, taken: &Taken) -> Option<String> {
+    let queue = machine.processes(taken.task);
+    match queue.into_iter().find(|(pt, _)| *pt == taken.pt) {
         None => Some(format!("PT {} leaves", taken.pt)),
         Some((_, psw)) if psw == psw::next(taken.psw) => None,
-        Some((_, psw)) => Some(format!("goes to {}", psw_fields(psw))),
+        Some((_, psw)) => Some(format!("goes to {}", psw_shown(machine, symbols, taken.task, psw))),
     }
 }

@@ -62,6 +62,7 @@ module _ (n : Sizes) (b : Buffers) (t a size : ℕ) (tags words : Buffers → Li
     where
       left : Option Refusal → Buffers
       left o = leaving (unless o (step t (fieldsIn n b) .ending)) b (holding after b)
+
       go : (o : Option Refusal) → stepRefusal n b t ≡ o → SameAt a (memory (tags (left o)) (words (left o))) (memory (tags b) (words b))
       go none q = kept-there q
       go (some e) q = record { tag = refl; word = refl }

@@ -31,8 +31,8 @@ lines-found table t (y ∷ rows) r e =
     elim (found t r y rows e) [
       | here q p ↦ record { before = []; rest = rowLines table rows; is = ap (λ (x : Row). rowLine table x ++ rowLines table rows) p }
       | there q k ↦
-        let u = lines-found table t rows r k in
-        record { before = y ∷ u .before; rest = u .rest; is = ap (λ (x : List ℕ). rowLine table y ++ x) (u .is) ∙ sym (append-assoc (rowLine table y) (rowLines table (u .before)) (rowLine table r ++ u .rest)) }
+          let u = lines-found table t rows r k in
+          record { before = y ∷ u .before; rest = u .rest; is = ap (λ (x : List ℕ). rowLine table y ++ x) (u .is) ∙ sym (append-assoc (rowLine table y) (rowLines table (u .before)) (rowLine table r ++ u .rest)) }
     ]
 
 -- with more text behind

@@ -3,14 +3,28 @@
 
 use super::instruction;
 use super::line::{Error, Line};
-use super::names::{plain_operand, Meaning, Names};
+use super::names::{no_field, plain_operand, Meaning, Names, KEYWORDS};
+use super::nearest::hint;
+use super::symbols::Symbols;
 use super::Source;
-use crate::emulator::batch::MOST_BYTES;
 use crate::emulator::draft::{Draft, Process, Task};
-use crate::emulator::image::{self, KINDS, MOST_CONSTANTS, MOST_WORDS};
+use crate::emulator::image::{KINDS, MOST_CONSTANTS, MOST_WORDS};
 use crate::emulator::machine::{EMPTY, NO_TRAP, PROCESSES, REGISTERS};
+use crate::tool::share;
 
-const MOST_ITEMS: usize = 65_535;
+/// The most errors that are told of a text.
+pub const MOST_ERRORS: usize = 20;
+
+/// The fields of a row, each with its greatest value.
+const ROW: [(&str, u64); 7] = [
+    ("cb", 0xFFF),
+    ("rb", 0x3FF),
+    ("rl", 0x3FF),
+    ("pb", 0xFFFF),
+    ("pl", 0xFFFF),
+    ("db", 0xFF_FFFF),
+    ("dl", 0xFF_FFFF),
+];
 
 #[derive(Clone, Copy, PartialEq, Eq)]
 enum Section {
@@ -31,6 +45,7 @@ struct Reading<'a> {
     origin: usize,
     draft: Draft,
     schedule: Option<Vec<u8>>,
+    symbols: Symbols,
     task_lines: Vec<usize>,
     process_lines: Vec<usize>,
 }
@@ -43,14 +58,20 @@ impl<'a> Reading<'a> {
             origin: 0,
             draft: Draft::default(),
             schedule: None,
+            symbols: Symbols::default(),
             task_lines: Vec::new(),
             process_lines: Vec::new(),
         }
     }
 }
 
-/// The image or input that the text describes; it is accepted by a reader.
-pub fn assemble(text: &str) -> Result<Source, Error> {
+/// The image or input that the text describes, or what is wrong; its image is accepted by a reader.
+pub fn assemble(text: &str) -> Result<Source, Vec<Error>> {
+    assemble_named(text).map(|(source, _)| source)
+}
+
+/// The same with what the text calls things.
+pub fn assemble_named(text: &str) -> Result<(Source, Symbols), Vec<Error>> {
     let mut names = Names::default();
     let mut first = Reading::new(&mut names);
     for (i, line) in text.lines().enumerate() {
@@ -59,8 +80,15 @@ pub fn assemble(text: &str) -> Result<Source, Error> {
     }
     names.complete = true;
     let mut second = Reading::new(&mut names);
+    let mut errors = Vec::new();
     for (i, line) in text.lines().enumerate() {
-        second.line(&mut Line::new(i + 1, line))?;
+        errors.extend(second.line(&mut Line::new(i + 1, line)).err());
+        if errors.len() == MOST_ERRORS || second.section == Section::Start && !errors.is_empty() {
+            break;
+        }
+    }
+    if !errors.is_empty() {
+        return Err(errors);
     }
     second.finish(text.lines().count().max(1))
 }
@@ -110,26 +138,28 @@ impl Reading<'_> {
         if number <= last {
             return Err(line.error_at(place, "tasks stand in ascending order"));
         }
-        let known = [
-            ("cb", 0xFFF),
-            ("rb", 0x3FF),
-            ("rl", 0x3FF),
-            ("pb", 0xFFFF),
-            ("pl", 0xFFFF),
-            ("db", 0xFF_FFFF),
-            ("dl", 0xFF_FFFF),
-        ];
-        let mut fields = [0; 7];
-        let given = self.names.fields(line, &known, &mut fields)?;
-        if let Some(i) = (0..known.len()).find(|i| given >> i & 1 == 0) {
-            return Err(line.error(format!("{} is missing", known[i].0)));
+        let row = self.row(line, number);
+        self.draft.tasks.push(*row.as_ref().unwrap_or(&Task::empty(number)));
+        self.task_lines.push(line.number());
+        row.map(|_| ())
+    }
+
+    /// The fields of a row behind its number.
+    fn row(&self, line: &mut Line, number: u8) -> Result<Task, Error> {
+        let mut fields = [0; ROW.len()];
+        let given = self.names.fields(line, &ROW, &mut fields)?;
+        no_field(line, &ROW, "trap")?;
+        let missing = ROW.iter().enumerate().filter(|(i, _)| given >> i & 1 == 0);
+        let missing: Vec<&str> = missing.map(|(_, (name, _))| *name).collect();
+        match missing[..] {
+            [] => {}
+            [one] => return Err(line.error(format!("{one} is missing"))),
+            _ => return Err(line.error(format!("{} are missing", missing.join(", ")))),
         }
         let (kind, trapped) = self.trap_record(line)?;
         let [cb, rb, rl, pb, pl] = [0, 1, 2, 3, 4].map(|i: usize| fields[i] as u16);
         let (db, dl) = (fields[5] as u32, fields[6] as u32);
-        self.draft.tasks.push(Task { number, cb, rb, rl, pb, pl, db, dl, kind, trapped });
-        self.task_lines.push(line.number());
-        Ok(())
+        Ok(Task { number, cb, rb, rl, pb, pl, db, dl, kind, trapped })
     }
 
     /// Kind and status word of a trapped task.
@@ -187,11 +217,13 @@ impl Reading<'_> {
         let place = line.mark();
         let name = line.word();
         line.expect('=')?;
+        let start = line.mark();
         let meaning = if plain_operand(line.peek()).is_some() {
             Meaning::Operand(self.names.operand(line)?)
         } else {
             Meaning::Number(self.names.whole(line)?)
         };
+        self.symbols.name(name, line.since(start));
         self.names.give(line, name, place, meaning)
     }
 
@@ -211,6 +243,7 @@ impl Reading<'_> {
         };
         if section == Section::Program {
             self.origin = at;
+            self.symbols.origin(at);
         }
         self.push(0, u8::from(section == Section::Data), between);
         Ok(())
@@ -232,7 +265,7 @@ impl Reading<'_> {
             Section::Constants => MOST_CONSTANTS,
             Section::Registers => REGISTERS,
             Section::Program | Section::Data => MOST_WORDS,
-            Section::Schedule => MOST_ITEMS,
+            Section::Schedule => usize::MAX,
         }
     }
 
@@ -263,15 +296,17 @@ impl Reading<'_> {
     /// A line of the open section: one cell or a list of items, `* N` for N times.
     fn cell(&mut self, line: &mut Line) -> Result<(), Error> {
         let start = line.mark();
-        let (mut word, mut tag, mut items) = (0, 0, Vec::new());
+        let (mut word, mut tag, mut items, mut written) = (0, 0, Vec::new(), String::new());
         match self.section {
             Section::Start | Section::Rows => {
-                return Err(line.error("`task`, `process` or a section should stand here"));
+                let hint = hint(line.peek(), KEYWORDS);
+                let reason = format!("`task`, `process` or a section should stand here{hint}");
+                return Err(line.error(reason));
             }
             Section::Constants => (tag, word) = self.qualified(line)?,
             Section::Registers => (tag, word) = self.register(line)?,
             Section::Program => match self.labelled(line)? {
-                Some(instruction) => word = instruction,
+                Some(instruction) => (word, written) = instruction,
                 None => return Ok(()),
             },
             Section::Data => {
@@ -283,6 +318,9 @@ impl Reading<'_> {
         let times = self.times(line)?;
         if times.saturating_mul(items.len().max(1)) > self.most() - self.length() {
             return Err(line.error_at(start, format!("the section has at most {}", self.most())));
+        }
+        if self.section == Section::Program {
+            self.symbols.write(self.length(), times, written);
         }
         self.push(word, tag, times);
         if let Some(schedule) = &mut self.schedule {
@@ -322,18 +360,22 @@ impl Reading<'_> {
         Ok((state | quality, word))
     }
 
-    /// The instruction behind the line's labels, if there is one.
-    fn labelled(&mut self, line: &mut Line) -> Result<Option<u64>, Error> {
+    /// The instruction behind the line's labels, if there is one, and its text.
+    fn labelled(&mut self, line: &mut Line) -> Result<Option<(u64, String)>, Error> {
         loop {
             let place = line.mark();
             let Some(label) = line.label() else { break };
-            let distance = self.draft.program.len() - self.origin;
-            self.names.give(line, label, place, Meaning::Number(distance as i128))?;
+            let real = self.draft.program.len();
+            let distance = Meaning::Number((real - self.origin) as i128);
+            self.names.give(line, label, place, distance)?;
+            self.symbols.label(real, self.origin, label);
         }
         if line.is_done() {
             return Ok(None);
         }
-        instruction::parse(line, self.names).map(Some)
+        let start = line.mark();
+        let word = instruction::parse(line, self.names)?;
+        Ok(Some((word, line.since(start))))
     }
 
     fn items(&self, line: &mut Line) -> Result<Vec<u8>, Error> {
@@ -345,26 +387,42 @@ impl Reading<'_> {
     }
 
     /// What can be told only at the end.
-    fn finish(self, last: usize) -> Result<Source, Error> {
-        let at = |line: usize, reason: &str| Error { line, column: 1, reason: reason.to_string() };
+    fn finish(self, last: usize) -> Result<(Source, Symbols), Vec<Error>> {
         if self.section == Section::Start {
-            return Err(at(last, "the text must begin with `hep image` or `hep input`"));
+            let reason = "the text must begin with `hep image` or `hep input`";
+            return Err(vec![Error::at(last, reason)]);
         }
-        let Draft { registers, program, data, .. } = &self.draft;
-        let sizes = [registers.len(), program.len(), data.len()];
-        for (task, &line) in self.draft.tasks.iter().zip(&self.task_lines) {
-            if let Some(name) = image::past_its_memory(task, sizes) {
-                return Err(at(line, &format!("the {name} window ends past its memory")));
-            }
-        }
+        let rows = self.draft.tasks.iter().zip(&self.task_lines);
+        let lacking = rows.flat_map(|(task, &line)| lacking(&self.draft, task, line));
+        let mut errors: Vec<Error> = lacking.collect();
         if self.draft.processes.len() == PROCESSES && self.draft.flag == 0 {
             let line = self.process_lines[PROCESSES - 1];
-            return Err(at(line, "64 processes need `flag 1`"));
+            errors.push(Error::at(line, "64 processes need `flag 1`"));
         }
-        let source = Source { schedule: self.schedule, draft: self.draft };
-        if source.schedule.is_some() && source.bytes().len() > MOST_BYTES {
-            return Err(at(last, "the input is over 65536 bytes"));
+        if !errors.is_empty() {
+            return Err(errors);
         }
-        Ok(source)
+        Ok((Source { schedule: self.schedule, draft: self.draft }, self.symbols))
     }
+}
+
+/// The windows of a row that end past their memories, each with how much it lacks and a line that adds it.
+fn lacking(draft: &Draft, task: &Task, line: usize) -> Vec<Error> {
+    let windows = [
+        ("register", "registers", share::registers(task), draft.registers.len(), "full 0"),
+        ("program", "words", share::program(task), draft.program.len(), "NOP"),
+        ("data", "words", share::data(task), draft.data.len(), "empty 0"),
+    ];
+    let past = windows
+        .into_iter()
+        .filter(|(.., window, size, _)| !window.is_empty() && window.end > *size);
+    let told = past.map(|(name, unit, window, size, cell)| {
+        let (end, lacks) = (window.end, window.end - size);
+        let missing =
+            if lacks == 1 { "1 is missing".into() } else { format!("{lacks} are missing") };
+        let needs =
+            format!("it needs {end} {unit}, {size} are there, {missing} (`{cell} * {lacks}`)");
+        Error::at(line, format!("the {name} window ends past its memory: {needs}"))
+    });
+    told.collect()
 }

@@ -1,10 +1,12 @@
 //! An image's fields as text.
 
-use super::instruction::show;
+use super::instruction::{pc, show};
+use super::symbols::Symbols;
 use super::Source;
 use crate::emulator::draft::{Draft, Process, Task};
 use crate::emulator::machine::{EMPTY, NO_TRAP};
 use crate::emulator::psw;
+use crate::tool::share;
 
 /// Below this in magnitude a word is shown in decimal.
 const DECIMAL: u64 = 1_000_000_000;
@@ -15,6 +17,11 @@ const ITEMS: usize = 30;
 
 /// The text of an image or input.
 pub fn dump(source: &Source) -> String {
+    dump_named(source, &Symbols::default())
+}
+
+/// The same with the names and labels of the text that it comes from.
+pub fn dump_named(source: &Source, symbols: &Symbols) -> String {
     let draft = &source.draft;
     let kind = if source.schedule.is_some() { "input" } else { "image" };
     let mut out = format!("hep {kind}\n");
@@ -23,7 +30,10 @@ pub fn dump(source: &Source) -> String {
         out += &format!("flag {}\n", draft.flag);
     }
     draft.processes.iter().for_each(|process| out += &show_process(process));
-    show_memories(&mut out, draft);
+    for (name, meaning) in symbols.names() {
+        out += &format!("name {name} = {meaning}\n");
+    }
+    show_memories(&mut out, draft, symbols);
     if let Some(schedule) = &source.schedule {
         out += "schedule\n";
         show_schedule(&mut out, schedule);
@@ -55,11 +65,11 @@ pub fn psw_fields(word: u64) -> String {
     if psw::utm(word) != 0 {
         out += &format!("utm=0x{:02X} ", psw::utm(word));
     }
-    out + &format!("pc={}", psw::pc(word))
+    out + &format!("pc={}", pc(psw::pc(word)))
 }
 
 /// A word in decimal if it is small, else in hex.
-pub fn word(word: u64) -> String {
+fn word(word: u64) -> String {
     let value = word as i64;
     if value.unsigned_abs() < DECIMAL {
         value.to_string()
@@ -68,15 +78,47 @@ pub fn word(word: u64) -> String {
     }
 }
 
-fn show_memories(out: &mut String, draft: &Draft) {
-    cells(out, "constants", &draft.constants, qualified, |i| i.to_string());
-    cells(out, "registers", &draft.registers, register, |i| i.to_string());
-    cells(out, "program", &draft.program, |cell| show(*cell), |i| format!("{i:05X}"));
-    cells(out, "data", &draft.data, data, |i| i.to_string());
+fn show_memories(out: &mut String, draft: &Draft, symbols: &Symbols) {
+    cells(out, "constants", &draft.constants, constant);
+    cells(out, "registers", &draft.registers, register);
+    program(out, draft, symbols);
+    cells(out, "data", &draft.data, data);
 }
 
-/// A word with its quality if that isn't 0: a constant.
-fn qualified(&(quality, cell): &(u8, u64)) -> String {
+/// The program with its labels, equal neighbours on one line; the comment is the first real address, and its PC where that is another.
+fn program(out: &mut String, draft: &Draft, symbols: &Symbols) {
+    let words = &draft.program;
+    if words.is_empty() {
+        return;
+    }
+    *out += "program\n";
+    let text =
+        |real: usize| symbols.written(real).map_or_else(|| show(words[real]), str::to_string);
+    let mut start = 0;
+    while start < words.len() {
+        symbols.lines_before(start).iter().for_each(|line| *out += &format!("{line}\n"));
+        let line = text(start);
+        let same = |&i: &usize| {
+            words[i] == words[start] && symbols.lines_before(i).is_empty() && text(i) == line
+        };
+        let times = 1 + (start + 1..words.len()).take_while(same).count();
+        *out += &cell_line(&line, times, &program_place(draft, start));
+        start += times;
+    }
+    symbols.lines_before(start).iter().for_each(|line| *out += &format!("{line}\n"));
+}
+
+/// A real address, and the PC of the tasks that have it elsewhere in their windows.
+fn program_place(draft: &Draft, real: usize) -> String {
+    let windows = draft.tasks.iter().map(|task| (task.number, share::program(task)));
+    let there = windows.filter(|(_, window)| window.start > 0 && window.contains(&real));
+    let there =
+        there.map(|(task, window)| format!(", PC {:05X} of task {task}", real - window.start));
+    format!("{real:05X}{}", there.collect::<String>())
+}
+
+/// A constant: a word with its quality if that isn't 0.
+pub fn constant(&(quality, cell): &(u8, u64)) -> String {
     match quality {
         0 => word(cell),
         _ => format!("{} quality={quality}", word(cell)),
@@ -86,7 +128,7 @@ fn qualified(&(quality, cell): &(u8, u64)) -> String {
 /// A register from its tag and word.
 pub fn register(&(tag, cell): &(u8, u64)) -> String {
     let state = if tag & EMPTY == 0 { "full" } else { "empty" };
-    format!("{state} {}", qualified(&(tag & 7, cell)))
+    format!("{state} {}", constant(&(tag & 7, cell)))
 }
 
 /// A data word from its state and word.
@@ -95,26 +137,22 @@ pub fn data(&(full, cell): &(u8, u64)) -> String {
 }
 
 /// A memory, equal neighbours on one line; the comment is the first real address.
-fn cells<T: PartialEq>(
-    out: &mut String,
-    name: &str,
-    memory: &[T],
-    show: impl Fn(&T) -> String,
-    address: impl Fn(usize) -> String,
-) {
+fn cells<T: PartialEq>(out: &mut String, name: &str, memory: &[T], show: impl Fn(&T) -> String) {
     if memory.is_empty() {
         return;
     }
     *out += &format!("{name}\n");
     let mut start = 0;
     for run in memory.chunk_by(|a, b| a == b) {
-        let mut line = show(&run[0]);
-        if run.len() > 1 {
-            line += &format!(" * {}", run.len());
-        }
-        *out += &format!("  {line:<40} ; {}\n", address(start));
+        *out += &cell_line(&show(&run[0]), run.len(), &start.to_string());
         start += run.len();
     }
+}
+
+fn cell_line(cell: &str, times: usize, comment: &str) -> String {
+    let times = if times > 1 { format!(" * {times}") } else { String::new() };
+    let line = cell.to_string() + &times;
+    format!("  {line:<40} ; {comment}\n")
 }
 
 fn show_schedule(out: &mut String, schedule: &[u8]) {

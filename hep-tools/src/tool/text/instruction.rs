@@ -1,7 +1,8 @@
 //! One instruction: word to text and back, by the table of operations.
 
 use super::line::{Error, Line};
-use super::names::Names;
+use super::names::{Names, KEYWORDS};
+use super::nearest::hint;
 use crate::emulator::assemble::{CONSTANT, INDEXED};
 use crate::emulator::codes::{listed, Low, Operation, Role, OPERATIONS};
 
@@ -33,6 +34,11 @@ pub fn show(word: u64) -> String {
     format!("{name} {operands}").trim_end().to_string()
 }
 
+/// A PC in hex, as reports have it.
+pub fn pc(pc: u64) -> String {
+    format!("0x{pc:05X}")
+}
+
 /// What the low bits of the code add to the name.
 fn suffix(low: Low, code: u16) -> &'static str {
     let letters = |table: &[(&'static str, u16)]| {
@@ -50,7 +56,7 @@ fn suffix(low: Low, code: u16) -> &'static str {
 fn show_field(operation: &Operation, i: usize, word: u64) -> String {
     let field = (word >> (32 - 16 * i)) as u16;
     match operation.fields[i] {
-        Role::Free if operation.low == Low::TestTarget => (word >> 32 & 0xF_FFFF).to_string(),
+        Role::Free if operation.low == Low::TestTarget => pc(word >> 32 & 0xF_FFFF),
         Role::Unused | Role::Free => field.to_string(),
         Role::Destination => show_operand(field, &DESTINATION_ACCESS),
         Role::Source if operation.low == Low::TestAct && i == 1 => {
@@ -85,7 +91,7 @@ pub fn parse(line: &mut Line, names: &Names) -> Result<u64, Error> {
         return names.word(line);
     }
     let Some((operation, test)) = find(&name) else {
-        return Err(line.error_at(place, "an instruction should stand here"));
+        return Err(line.error_at(place, no_instruction(&name)));
     };
     let low = match operation.low {
         Low::Load => letters(line, &LOAD_ACCESS)?,
@@ -100,6 +106,14 @@ pub fn parse(line: &mut Line, names: &Names) -> Result<u64, Error> {
         word |= parse_field(line, names, operation, i)?;
     }
     Ok(word)
+}
+
+fn no_instruction(name: &str) -> String {
+    if name.is_empty() {
+        return "an instruction should stand here".to_string();
+    }
+    let hint = hint(name, OPERATIONS.iter().map(|operation| operation.name).chain(KEYWORDS));
+    format!("`{name}` is no instruction{hint}")
 }
 
 /// The operation of a name, and its test.

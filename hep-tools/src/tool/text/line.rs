@@ -7,7 +7,27 @@ use std::fmt;
 pub struct Error {
     pub line: usize,
     pub column: usize,
+    /// How many letters the word has that is wrong.
+    pub width: usize,
     pub reason: String,
+}
+
+impl Error {
+    /// At the start of a line.
+    pub fn at(line: usize, reason: impl Into<String>) -> Self {
+        Error { line, column: 1, width: 1, reason: reason.into() }
+    }
+
+    /// The place as editors jump to it, the reason, and the line with a caret below the place.
+    pub fn told(&self, file: &str, text: &str) -> String {
+        let Error { line, column, width, reason } = self;
+        let source = text.lines().nth(line - 1).unwrap_or("");
+        let before = source.chars().take(column - 1);
+        let blank: String = before.map(|c| if c == '\t' { '\t' } else { ' ' }).collect();
+        let under = "~".repeat(width.saturating_sub(1));
+        let place = format!("{file}:{line}:{column}: error: {reason}");
+        format!("{place}\n{line:5} | {source}\n      | {blank}^{under}\n")
+    }
 }
 
 impl fmt::Display for Error {
@@ -48,7 +68,8 @@ impl<'a> Line<'a> {
 
     pub fn error_at(&self, place: usize, reason: impl Into<String>) -> Error {
         let column = self.text[..place].chars().count() + 1;
-        Error { line: self.number, column, reason: reason.into() }
+        let width = word_of(&self.text[place..]).len().max(1);
+        Error { line: self.number, column, width, reason: reason.into() }
     }
 
     /// An error at the next token.
@@ -87,9 +108,18 @@ impl<'a> Line<'a> {
 
     /// The next word of letters, digits and underscores; it may be empty.
     pub fn peek(&mut self) -> &'a str {
-        let rest = self.rest();
-        let end = rest.find(|c: char| !c.is_ascii_alphanumeric() && c != '_');
-        &rest[..end.unwrap_or(rest.len())]
+        word_of(self.rest())
+    }
+
+    /// Whether the next word stands before a `=`.
+    pub fn is_field(&mut self) -> bool {
+        let word = self.peek();
+        !word.is_empty() && self.rest()[word.len()..].trim_start().starts_with('=')
+    }
+
+    /// What was read since this place, with single spaces.
+    pub fn since(&self, place: usize) -> String {
+        self.text[place..self.place].split_whitespace().collect::<Vec<_>>().join(" ")
     }
 
     pub fn word(&mut self) -> &'a str {
@@ -117,4 +147,10 @@ impl<'a> Line<'a> {
         self.place += word.len() + 1;
         Some(word)
     }
+}
+
+/// The letters, digits and underscores at the front.
+fn word_of(text: &str) -> &str {
+    let end = text.find(|c: char| !c.is_ascii_alphanumeric() && c != '_');
+    &text[..end.unwrap_or(text.len())]
 }

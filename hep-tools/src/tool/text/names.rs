@@ -1,8 +1,16 @@
 //! Names, numbers, words and operands of the text.
 
 use super::line::{Error, Line};
+use super::nearest::hint;
 use crate::emulator::assemble::{constant, psw, register};
 use std::collections::HashMap;
+
+/// The words that a line may begin with.
+pub const KEYWORDS: [&str; 9] =
+    ["task", "flag", "process", "name", "constants", "registers", "program", "data", "schedule"];
+
+/// The fields of a status word, each with its greatest value.
+const PSW: [(&str, u64); 4] = [("ci", 0x1FFF), ("ri", 0x7FF), ("utm", 0xFF), ("pc", 0xF_FFFF)];
 
 /// What a name stands for; in the first reading it may be unknown yet.
 #[derive(Clone, Copy)]
@@ -49,7 +57,10 @@ impl Names {
     fn meaning(&self, line: &Line, name: &str, at: usize) -> Result<Meaning, Error> {
         match self.known.get(name) {
             Some((_, meaning)) => Ok(*meaning),
-            None if self.complete => Err(line.error_at(at, format!("`{name}` is unknown"))),
+            None if self.complete => {
+                let hint = hint(name, self.known.keys().map(String::as_str).chain(KEYWORDS));
+                Err(line.error_at(at, format!("`{name}` is unknown{hint}")))
+            }
             None => Ok(Meaning::Unknown),
         }
     }
@@ -114,11 +125,8 @@ impl Names {
     /// The fields of a status word up to the end of the line or a `*`.
     pub fn psw(&self, line: &mut Line) -> Result<u64, Error> {
         let mut fields = [0; 4];
-        self.fields(
-            line,
-            &[("ci", 0x1FFF), ("ri", 0x7FF), ("utm", 0xFF), ("pc", 0xF_FFFF)],
-            &mut fields,
-        )?;
+        self.fields(line, &PSW, &mut fields)?;
+        no_field(line, &PSW, "quality")?;
         let [ci, ri, utm, pc] = fields;
         Ok(psw(ci, ri, utm, pc))
     }
@@ -126,7 +134,9 @@ impl Names {
     /// The quality, 0 if it is left out.
     pub fn quality(&self, line: &mut Line) -> Result<u8, Error> {
         let mut quality = [0];
-        self.fields(line, &[("quality", 6)], &mut quality)?;
+        let known = [("quality", 6)];
+        self.fields(line, &known, &mut quality)?;
+        no_field(line, &known, "")?;
         Ok(quality[0] as u8)
     }
 
@@ -176,6 +186,16 @@ impl Names {
             Meaning::Number(_) => Err(line.error_at(place, format!("`{word}` is a number"))),
         }
     }
+}
+
+/// That no field is next but this one.
+pub fn no_field(line: &mut Line, known: &[(&str, u64)], but: &str) -> Result<(), Error> {
+    let word = line.peek();
+    if word == but || !line.is_field() {
+        return Ok(());
+    }
+    let hint = hint(word, known.iter().map(|(name, _)| *name));
+    Err(line.error(format!("`{word}` is no field here{hint}")))
 }
 
 /// `r` or `c` and digits: whether it is a constant, and the displacement unless it is

@@ -1,0 +1,39 @@
+//! `hep timeline`: a run as a picture.
+
+use super::trace::{range, FROM, TO};
+use super::{Command, OUTPUT};
+use crate::arguments::Arguments;
+use crate::files::{self, IMAGE, INPUT, SCHEDULE};
+use crate::output;
+use crate::runs;
+use crate::status::{Failure, Status};
+use hep_tools::tool;
+use hep_tools::tool::timeline::{svg, View};
+
+pub const COMMAND: Command = Command {
+    name: "timeline",
+    operands: "[FILE]",
+    summary: "a picture of the run, as SVG",
+    about: "Runs the schedule and draws it as SVG: a lane for each task, each item coloured by its ending, with the\n\
+            counts and what the task waited for; a trap is marked at its item. Of more than 240 items a column shows\n\
+            several. The steps are those of hep-tools' emulator, not proved; the image that they end in is held to the\n\
+            proved library's.",
+    options: &[FROM, TO, SCHEDULE, OUTPUT, INPUT, IMAGE],
+    run,
+};
+
+fn run(arguments: &Arguments) -> Result<Status, Failure> {
+    let (from, to) = range(arguments).map_err(Failure::usage)?;
+    let file = files::one(arguments, 0)?;
+    let loaded = files::load_to_run(file, arguments)?;
+    let mut machine = tool::machine(&loaded.source);
+    let schedule = loaded.source.schedule.as_deref().unwrap_or(&[]);
+    let view = View {
+        name: files::name(file),
+        symbols: &loaded.symbols,
+        items: from..to.saturating_add(1),
+    };
+    output::answer(arguments, svg(&mut machine, schedule, &view))?;
+    runs::same(file, &loaded.source, &machine)?;
+    Ok(Status::Done)
+}
