@@ -82,7 +82,7 @@ pub fn assemble_named(text: &str) -> Result<(Source, Symbols), Vec<Error>> {
     let mut second = Reading::new(&mut names);
     let mut errors = Vec::new();
     for (i, line) in text.lines().enumerate() {
-        errors.extend(second.whole_line(&mut Line::new(i + 1, line)).err());
+        errors.extend(second.line(&mut Line::new(i + 1, line)).err());
         if errors.len() == MOST_ERRORS || second.section == Section::Start && !errors.is_empty() {
             break;
         }
@@ -94,16 +94,6 @@ pub fn assemble_named(text: &str) -> Result<(Source, Symbols), Vec<Error>> {
 }
 
 impl Reading<'_> {
-    /// A line; where its cell is wrong another stands for it, so that the errors below don't come of this one.
-    fn whole_line(&mut self, line: &mut Line) -> Result<(), Error> {
-        let (section, length) = (self.section, self.length());
-        let read = self.line(line);
-        if read.is_err() && self.section == section && self.length() == length {
-            self.push(0, 0, 1);
-        }
-        read
-    }
-
     fn line(&mut self, line: &mut Line) -> Result<(), Error> {
         if line.is_done() {
             return Ok(());
