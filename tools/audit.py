@@ -5,7 +5,7 @@ the definitions that these rest on in reading order, and apart from them what is
     python3 tools/audit.py              proves what isn't (nothing, after .ci/run), then writes target/audit/audit.html and audit.md
     python3 tools/audit.py --as-is      the same from the logs as they are
 
-What a definition rests on is told by the names in its text (tools/closure.py), not by the checker.
+What a definition rests on is told by the names in its text (tools/closure.py); tools/believed.py has the checker accept what is found alone.
 """
 import collections
 import glob
@@ -235,7 +235,7 @@ def main():
     below = specs.below(specs.delivered())
     page = Page(specs, below + specs.delivered() + stated(specs, below))
     page.heading(1, "What was proved, and what must be believed")
-    page.paragraph("Made by tools/audit.py from the sources and the logs of the proofs. docs/TRUST.md says what the toolchain has to be trusted for. What a definition rests on is told by the names in its text, not by the checker.")
+    page.paragraph("Made by tools/audit.py from the sources and the logs of the proofs. docs/TRUST.md says what the toolchain has to be trusted for. What a definition rests on is told by the names in its text; tools/believed.py writes what is found as a repository of its own, which the checker accepts.")
     summary(page, specs)
     top = len(page.markdown), len(page.html)
     contracts(page, specs)

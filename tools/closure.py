@@ -5,7 +5,8 @@
     closure.py CRATE NAME..         the definitions and types below these, in reading order, each with its file and line
 
 A name is looked up in its file, then in what the file imports. A local variable of the same name counts as the definition, so that a closure may
-have too much and never too little. Of a statement or function only what it says counts, not how it is proved or done.
+have too much; that it doesn't have too little is checked by tools/believed.py. Of a statement or function only what it says counts, not how it is
+proved or done.
 """
 import collections
 import glob
