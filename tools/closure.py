@@ -40,8 +40,8 @@ class Item:
         """The lines that count: of a statement its type alone."""
         if self.kind != "statement":
             return self.lines
-        end = next((i for i, line in enumerate(self.lines) if i and re.match(rf"\s*(unfolding |{re.escape(self.name)}\s.*=|{re.escape(self.name)} =)", line)), len(self.lines))
-        return self.lines[:end]
+        proof = re.compile(rf"\s*(unfolding |{re.escape(self.name)}\s(.*\s)?=)")
+        return self.lines[:next((i for i, line in enumerate(self.lines) if i and proof.match(line)), len(self.lines))]
 
     def general(self):
         """Whether a statement is about any values, and not an example that computes."""
