@@ -1,6 +1,6 @@
 #!/usr/bin/env python3
-"""What an auditor is given, held to the tree after `rt ci`: the page of tools/audit.py, the commands of docs/TRUST.md, and the definitions run on an
-input of his own by tools/by_definition.py.
+"""What an auditor is given, held to the tree after `rt ci`: the page of tools/audit.py, the definitions that must be believed alone by
+tools/believed.py, the commands of docs/TRUST.md, and the definitions run on an input of his own by tools/by_definition.py.
 
     python3 tests/auditor.py
 """
@@ -79,9 +79,10 @@ def main():
     markdown, shown = page()
     facts(markdown)
     links(markdown, shown)
+    output(sys.executable, "tools/believed.py")
     trust()
     definitions()
-    print("auditor: the page, docs/TRUST.md's commands and the definitions on an input, as they say")
+    print("auditor: the page, the definitions alone, docs/TRUST.md's commands and the definitions on an input, as they say")
 
 
 if __name__ == "__main__":

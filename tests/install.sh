@@ -1,6 +1,6 @@
 #!/usr/bin/env bash
 # install.sh in a temporary prefix: both programs run there; a C program that only pkg-config leads to the library and a Rust program over a copy of
-# hep-rust outside the repository give the same report; the man pages are well formed, name every command of hep, and show a text that it takes;
+# hep-rust outside the repository give the same report; the man pages are well formed, and hep.5 shows a text that hep takes;
 # every version is that of VERSION; --destdir puts the same files elsewhere, --uninstall leaves none, and wrong usage is told as such.
 set -euo pipefail
 cd "$(dirname "$0")/.."
@@ -42,9 +42,6 @@ for page in "$prefix"/share/man/man*/*; do
     if ! command -v groff > /dev/null; then echo "install: no groff, so the layout of $page is not checked"; continue; fi
     warnings=$(cd "$prefix/share/man" && groff -man -Tutf8 -ww -z "$page" 2>&1)
     [ -z "$warnings" ] || fail "$page: $warnings"
-done
-for command in $(hep --help | sed -n 's/^  \([a-z]\+\)  .*/\1/p'); do
-    grep -q "^\.SS hep $command " install/hep.1 || fail "hep.1 has no $command"
 done
 sed -n '/^    hep input/,/^\.fi/{/^\.fi/d;p}' install/hep.5 | hep asm | hep_batch | diff - <(echo "1 1 -- -----"; echo "E2 W0 T0 I0 CF0")
 [ "$(pkg-config --modversion hep)" = "$version" ] || fail "hep.pc has another version than $version"

@@ -5,7 +5,7 @@ the definitions that these rest on in reading order, and apart from them what is
     python3 tools/audit.py              proves what isn't (nothing, after .ci/run), then writes target/audit/audit.html and audit.md
     python3 tools/audit.py --as-is      the same from the logs as they are
 
-What a definition rests on is told by the names in its text (tools/closure.py), not by the checker.
+What a definition rests on is told by the names in its text (tools/closure.py); tools/believed.py has the checker accept what is found alone.
 """
 import collections
 import glob
@@ -89,7 +89,8 @@ class Page:
             self.markdown += ["names: " + ", ".join(f"[{n.name}]({self.link(n)})" for n in named), ""]
         links = {word: self.link(found) for word, found in self.specs.words(item)}
         code = "\n".join([*item.parameters, *item.says()])
-        linked = re.sub(r"[\w′·-]+", lambda m: f'<a href="{links[m.group()]}">{m.group()}</a>' if m.group() in links else m.group(), html.escape(code, quote=False))
+        link = lambda m: f'<a href="{links[m.group()]}">{m.group()}</a>' if m.group() in links else m.group()
+        linked = re.sub(r"[\w′·-]+", link, html.escape(code, quote=False))
         self.html.append(f'<p class="item" id="{anchor(item)}">{self.inline(said)}</p><pre>{linked}</pre>')
 
     def write(self, title):
@@ -139,23 +140,34 @@ def built(path):
     return f"sha256 `{hashlib.sha256(open(path, 'rb').read()).hexdigest()}`, {', '.join(f'`{mark.decode()}`' for mark in marks)}"
 
 
+def commit():
+    changed = ", with changes that are not committed" if run("git", "status", "--porcelain") else ""
+    return f"commit `{run('git', 'rev-parse', 'HEAD')}`{changed}"
+
+
+def edits_told():
+    tried = list(edits())
+    refused, others = [name for name, end in tried if end == "refused"], [f"{name} {end}" for name, end in tried if end != "refused"]
+    rest = f"; {', '.join(others)}" if refused and others else "; `rt ci` tries them" if others else ""
+    return f"{len(refused)} of {len(tried)}{rest}"
+
+
 def summary(page, specs):
     told = list(logs(specs.crates))
     unproved = [crate for crate, words, _ in told if not words]
     axioms = [f"{crate}: {', '.join(f'`{name}`' for name in names)}" for crate, _, names in told if names]
     count, asking = public_functions(specs.crates)
-    tried = list(edits())
-    refused, others = [name for name, end in tried if end == "refused"], [f"{name} {end}" for name, end in tried if end != "refused"]
-    words = collections.Counter(f"{key}={value}" for _, words, _ in told for key, value in words.items() if key not in ("functions", "axioms", "target"))
+    apart = ("functions", "axioms", "target")
+    words = collections.Counter(f"{key}={value}" for _, words, _ in told for key, value in words.items() if key not in apart)
     page.table(("What", "Found"), [
-        ("version", f"{version.VERSION}, with the requests L1 to L{version.last_in_a_row()} of document 02; commit `{run('git', 'rev-parse', 'HEAD')}`" + (", with changes that are not committed" if run("git", "status", "--porcelain") else "")),
+        ("version", f"{version.VERSION}, with the requests L1 to L{version.last_in_a_row()} of document 02; {commit()}"),
         ("kit", f"`{run('rt', 'version')}`"),
         ("crates proved", f"{len(told) - len(unproved)} of {len(told)}" + (f"; not: {', '.join(unproved)}" if unproved else "")),
         ("functions proved", str(sum(int(words.get("functions", 0)) for _, words, _ in told))),
         ("words of the proved lines", ", ".join(f"`{word}` {n} times" for word, n in words.items()) + " (docs/TRUST.md, the toolchain)"),
         ("axioms, by the crates that reach one", "; ".join(axioms) or "none"),
         ("public functions with a `requires`", f"{len(asking)} of {count}" + "".join(f", {name}" for name in asking)),
-        ("must-fail edits refused", f"{len(refused)} of {len(tried)}" + (f"; {', '.join(others)}" if refused and others else "; `rt ci` tries them" if others else "")),
+        ("must-fail edits refused", edits_told()),
         *((path, built(path)) for path in BUILT),
     ])
 
@@ -169,7 +181,10 @@ def roots(specs):
 
 def contracts(page, specs):
     page.heading(2, "Contracts of the delivered calls, and demand 3")
-    page.paragraph("The program hep_batch has no contract of its own: its `main` reads standard input, calls batch `batch` and writes what that answers. A contract's names lead to their definitions below.")
+    page.paragraph(
+        "The program hep_batch has no contract of its own: its `main` reads standard input, calls batch `batch` and writes what that answers. "
+        "A contract's names lead to their definitions below."
+    )
     rows = [(f"[{item.crate} `{item.name}`](#{anchor(item)})", *map(str, lines_below(specs, item))) for _, items in roots(specs) for item in items]
     page.table(("Call or statement", "Definitions", "Lines", "Types and constants of the sources", "Lines of these"), rows)
     for _, items in roots(specs):
@@ -187,7 +202,10 @@ def lines_below(specs, item):
 def definitions(page, specs, below):
     page.heading(2, "Must be believed: the definitions that they rest on")
     lines = sum(item.counted() for item in below)
-    page.paragraph(f"In reading order, {len(below)} definitions and types, {lines} lines; comments and imports are not counted. Behind each stands what rests on it.")
+    page.paragraph(
+        f"In reading order, {len(below)} definitions and types, {lines} lines; comments and imports are not counted. "
+        "Behind each stands what rests on it."
+    )
     marks = {name: {item.key for item in specs.below(items)} for name, items in roots(specs)}
     at = None
     for item in below:
@@ -195,9 +213,9 @@ def definitions(page, specs, below):
             at = item.crate, item.path
             page.heading(3, f"{item.crate} / {item.module if item.module != 'src' else 'types and constants of the source'}")
         page.item(item, f" ({', '.join(name for name, keys in marks.items() if item.key in keys)})")
-    kit = specs.known_names(below)
     page.heading(3, "Names of the kit's libraries")
-    page.paragraph("The definitions also use these, of the kit (`rt doc` leads to its guides): " + "; ".join(f"{module}: {', '.join(f'`{n}`' for n in sorted(names))}" for module, names in sorted(kit.items()) if names) + ".")
+    kit = [f"{module}: {', '.join(f'`{name}`' for name in sorted(names))}" for module, names in sorted(specs.known_names(below).items()) if names]
+    page.paragraph(f"The definitions also use these, of the kit (`rt doc` leads to its guides): {'; '.join(kit)}.")
 
 
 def statements(specs):
@@ -214,7 +232,10 @@ def stated(specs, believed):
 
 def checked(page, specs, believed):
     page.heading(2, "Checked: statements about any values")
-    page.paragraph("Each is proved of the definitions above; docs/PROMISES.md says which sentence of the order each stands for. Read what you want to rely on, with the definitions that only statements name; no statement need be believed.")
+    page.paragraph(
+        "Each is proved of the definitions above; docs/PROMISES.md says which sentence of the order each stands for. "
+        "Read what you want to rely on, with the definitions that only statements name; no statement need be believed."
+    )
     for item in stated(specs, believed):
         page.item(item)
     page.heading(2, "Checked: trials and examples")
@@ -235,7 +256,11 @@ def main():
     below = specs.below(specs.delivered())
     page = Page(specs, below + specs.delivered() + stated(specs, below))
     page.heading(1, "What was proved, and what must be believed")
-    page.paragraph("Made by tools/audit.py from the sources and the logs of the proofs. docs/TRUST.md says what the toolchain has to be trusted for. What a definition rests on is told by the names in its text, not by the checker.")
+    page.paragraph(
+        "Made by tools/audit.py from the sources and the logs of the proofs. docs/TRUST.md says what the toolchain has to be trusted for. "
+        "What a definition rests on is told by the names in its text; tools/believed.py writes what is found as a repository of its own, "
+        "which the checker accepts."
+    )
     summary(page, specs)
     top = len(page.markdown), len(page.html)
     contracts(page, specs)

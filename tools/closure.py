@@ -5,7 +5,8 @@
     closure.py CRATE NAME..         the definitions and types below these, in reading order, each with its file and line
 
 A name is looked up in its file, then in what the file imports. A local variable of the same name counts as the definition, so that a closure may
-have too much and never too little. Of a statement or function only what it says counts, not how it is proved or done.
+have too much; that it doesn't have too little is checked by tools/believed.py. Of a statement or function only what it says counts, not how it is
+proved or done.
 """
 import collections
 import glob
@@ -39,8 +40,8 @@ class Item:
         """The lines that count: of a statement its type alone."""
         if self.kind != "statement":
             return self.lines
-        end = next((i for i, line in enumerate(self.lines) if i and re.match(rf"\s*(unfolding |{re.escape(self.name)}\s.*=|{re.escape(self.name)} =)", line)), len(self.lines))
-        return self.lines[:end]
+        proof = re.compile(rf"\s*(unfolding |{re.escape(self.name)}\s(.*\s)?=)")
+        return self.lines[:next((i for i, line in enumerate(self.lines) if i and proof.match(line)), len(self.lines))]
 
     def general(self):
         """Whether a statement is about any values, and not an example that computes."""

@@ -104,7 +104,8 @@ def path():
     whole = sum(lines([f"crates/{crate}/specs/{module}.antt"]) for crate in delivered() for module in closure.read_files(crate))
     believed = lines_in(parts["believed"])
     types = sum(item.counted() for item in specs.below(specs.delivered()) if item.module == "src")
-    said = [BELIEVED, "", f"What the contracts of the delivered calls and the statement of demand 3 rest on: {believed} of {whole} lines, and {types} lines of types and constants of the sources.", ""]
+    counted = f"{believed} of {whole} lines, and {types} lines of types and constants of the sources."
+    said = [BELIEVED, "", f"What the contracts of the delivered calls and the statement of demand 3 rest on: {counted}", ""]
     said += [*listed(parts["believed"], lambda number: f"{number}."), "", "The contracts of the delivered calls name these definitions:", ""]
     said += [f"- {crate}: {'; '.join(contract_names(specs, crate))}" for crate in closure.DELIVERED]
     said += ["", "### Checked", "", f"Statements about any values, with the definitions that only they name, {lines_in(parts['stated'])} lines:", ""]
