@@ -37,6 +37,7 @@ files() {
 644 install/calls.3 share/man/man3/hep_sizes.3
 644 install/calls.3 share/man/man3/hep_run.3
 644 install/calls.3 share/man/man3/hep_batch.3
+644 install/calls.3 share/man/man3/hep_fill.3
 644 install/hep.5 share/man/man5/hep.5
 644 target/hep.bash share/bash-completion/completions/hep
 644 hep-tools/FORMAT.md share/doc/hep/FORMAT.md

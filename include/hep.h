@@ -9,8 +9,8 @@
  *   - no slice that is written (not const) overlaps another slice of the same call.
  * Nothing else is asked: every function answers any bytes and any lengths.
  *
- * An answer of 0 means that the call did what it says. Any other is the number of a refusal, the first that applies in the order below,
- * where the order of the bytes decides between 1, 2, 3, 12, 14 and 13; then every lent element is as it was.
+ * An answer of 0 means that the call did what it says. Any other is the number of a refusal, the first that applies in the order said at
+ * the function, where the order of the bytes decides between 1, 2, 3, 12, 14 and 13; then every lent element is as it was.
  */
 #ifndef HEP_H
 #define HEP_H
@@ -38,12 +38,15 @@ enum hep_refusal {
     HEP_PROCESSES_CLASH = 6,     /* a process number stands twice, or 64 processes with flag 0 */
     HEP_SHORT_BUFFER = 7,        /* a slice to be filled is too short */
     HEP_LIST_TOO_LONG = 9,       /* a schedule of over 65,535 items */
-    HEP_ITEM_OUT_OF_RANGE = 10   /* an item of the schedule is not 1 to 7 */
+    HEP_ITEM_OUT_OF_RANGE = 10,  /* an item of the schedule is not 1 to 7 */
+    HEP_BAD_JOBS = 17,           /* more than 15 jobs, or a need that is odd, below 2 or above 2,048 */
+    HEP_NO_TRIES = 18            /* zero tries */
 };
 
-/* Lengths that hep_sizes and hep_run ask for. */
+/* Lengths that hep_sizes, hep_run and hep_fill ask for. */
 #define HEP_SIZES 5
 #define HEP_COUNTS 6
+#define HEP_FILLING 4
 #define HEP_REPORT_ROOM 512
 #define HEP_OUTPUT_ROOM(image_len) ((image_len) + 640)
 
@@ -52,6 +55,9 @@ enum { HEP_ROWS, HEP_CONSTANTS, HEP_REGISTERS, HEP_PROGRAM, HEP_DATA_WORDS };
 
 /* Places in `counts`. */
 enum { HEP_EXECUTED, HEP_WAVED, HEP_TRAPPED, HEP_IDLE, HEP_IMAGE_LEN, HEP_REPORT_LEN };
+
+/* Places in `filling`. */
+enum { HEP_CHOICE, HEP_SUM, HEP_TRIES, HEP_CEILING };
 
 /* 0 if the image is accepted, else 1, 2, 3, 12, 14, 13, 4, 5 or 6. */
 uint32_t hep_check(const uint8_t *image, size_t image_len);
@@ -94,6 +100,19 @@ uint32_t hep_run(const uint8_t *image, size_t image_len,
  * It takes 300 KB of stack, hep_run 21 KB (x86-64: a thread's stack filled with a mark, on the printed case; 4 KB are the thread's own).
  */
 size_t hep_batch(const uint8_t *input, size_t input_len, uint8_t *output, size_t output_len);
+
+/*
+ * Which of at most 15 jobs go into a module together, by their register needs: at most seven, whose needs sum to at most 2,048 and to as
+ * much as possible. A choice is a binary number, the first job being the lowest bit; choices are tried from 0 upward, until all or `tries`
+ * are tried.
+ *
+ * `filling`, of at least HEP_FILLING, starts with the first of the best choices tried, its sum, the tries made and the ceiling: the smaller
+ * of 2,048 and the sum of the seven largest needs. What lies beyond stays. If all were tried, no choice that keeps the rules has a larger
+ * sum; in any case none has one above the ceiling.
+ *
+ * Refused: 17, then 18, then 7 if `filling` is shorter than HEP_FILLING.
+ */
+uint32_t hep_fill(const uint64_t *needs, size_t needs_len, uint64_t tries, uint64_t *filling, size_t filling_len);
 
 #ifdef __cplusplus
 }

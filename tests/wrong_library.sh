@@ -6,7 +6,7 @@ cd "$(dirname "$0")/.."
 folder=$PWD/target/wrong
 mkdir -p "$folder"
 cp "${HEP_LIB_DIR:-target/staticlib}/libhep_c.a" "$folder/libhep_c.a"
-for name in check sizes run batch; do objcopy --redefine-sym "hep_$name=true_$name" "$folder/libhep_c.a"; done
+for name in check sizes run batch fill; do objcopy --redefine-sym "hep_$name=true_$name" "$folder/libhep_c.a"; done
 cc -std=c11 -Wall -Wextra -Werror -O1 -I include -c -o "$folder/wrong.o" tests/c/wrong.c
 ar rs "$folder/libhep_c.a" "$folder/wrong.o"
 HEP_LIB_DIR=$folder cargo build --quiet --release --offline --target-dir "$folder/build" --manifest-path hep-trials/Cargo.toml --bin hep-trials

@@ -14,7 +14,7 @@ import os
 import re
 import sys
 
-DELIVERED = ("hep", "batch", "hep_c")
+DELIVERED = ("hep", "batch", "filling_search", "hep_c")
 # The statements of demand 3: of runs, and of the calls.
 DEMAND_3 = (("image", "Demand3", "demand-3"), ("library", "Isolation", "calls-demand-3"))
 PASSED_OVER = ("//", "--", "use ", "ghost use ", "pub use ", "unfoldable pub use ", "pub mod ", "mod ")

@@ -18,7 +18,7 @@ fn commands() -> Vec<String> {
 
 #[test]
 fn help_and_version() {
-    assert_eq!(commands().len(), 10);
+    assert_eq!(commands().len(), 11);
     for command in commands() {
         let help = hep(&[&command, "--help"], b"");
         assert_eq!(help.code, 0);

@@ -1,4 +1,5 @@
-//! Safe calls of the proved emulator of a HEP process execution module: whole images in, whole images out.
+//! Safe calls of the proved emulator of a HEP process execution module: whole images in, whole images out; and of the search for jobs that
+//! fill a module.
 //!
 //! What `crates/hep_c` promises is proved; this crate is not. It makes the buffers, lends them, and cuts the results to their lengths;
 //! `State` takes an image's bytes apart.
@@ -44,6 +45,10 @@ pub enum Refusal {
     ListTooLong = sys::LIST_TOO_LONG,
     /// An item of the schedule is not 1 to 7.
     ItemOutOfRange = sys::ITEM_OUT_OF_RANGE,
+    /// More than 15 jobs, or a need that is odd, below 2 or above 2,048.
+    BadJobs = sys::BAD_JOBS,
+    /// Zero tries.
+    NoTries = sys::NO_TRIES,
 }
 
 impl Refusal {
@@ -68,6 +73,8 @@ impl Refusal {
             Refusal::ProcessesClash => "a process number stands twice, or 64 processes with flag 0",
             Refusal::ListTooLong => "a schedule of over 65,535 items",
             Refusal::ItemOutOfRange => "an item of the schedule is not 1 to 7",
+            Refusal::BadJobs => "more than 15 jobs, or a need that is odd, below 2 or above 2,048",
+            Refusal::NoTries => "zero tries",
         }
     }
 
@@ -86,6 +93,8 @@ impl Refusal {
             sys::PROCESSES_CLASH => Refusal::ProcessesClash,
             sys::LIST_TOO_LONG => Refusal::ListTooLong,
             sys::ITEM_OUT_OF_RANGE => Refusal::ItemOutOfRange,
+            sys::BAD_JOBS => Refusal::BadJobs,
+            sys::NO_TRIES => Refusal::NoTries,
             n => unreachable!("refusal {n}"),
         })
     }
@@ -236,6 +245,46 @@ pub fn batch(input: &[u8]) -> String {
 // Reports and lines of refusals are ASCII.
 fn text(bytes: &[u8]) -> String {
     bytes.iter().map(|&b| b as char).collect()
+}
+
+/// Which jobs go into a module together.
+#[derive(Clone, Copy, Debug, PartialEq, Eq)]
+pub struct Filling {
+    /// The first of the best choices tried, a binary number: its lowest bit is the first job.
+    pub choice: u64,
+    /// The sum of the needs of its jobs.
+    pub sum: u64,
+    /// How many choices were tried.
+    pub tries: u64,
+    /// What no choice's sum is above.
+    pub ceiling: u64,
+}
+
+impl Filling {
+    /// The places of the jobs that were chosen, counted from 0.
+    ///
+    /// ```
+    /// let filling = hep::fill(&[1000, 400, 600], 8).unwrap();
+    /// assert_eq!(filling.jobs().collect::<Vec<_>>(), [0, 1, 2]);
+    /// ```
+    pub fn jobs(self) -> impl Iterator<Item = usize> {
+        (0..u64::BITS as usize).filter(move |job| self.choice >> job & 1 == 1)
+    }
+}
+
+/// At most seven of up to 15 jobs, by their register needs, whose needs sum to at most 2,048 and to as much as possible: the first of the
+/// best of so many choices, tried as binary numbers from 0 upward.
+///
+/// ```
+/// let filling = hep::fill(&[2000, 40, 1000], u64::MAX)?;
+/// assert_eq!((filling.choice, filling.sum, filling.tries, filling.ceiling), (3, 2040, 8, 2048));
+/// # Ok::<(), hep::Refusal>(())
+/// ```
+pub fn fill(needs: &[u64], tries: u64) -> Result<Filling, Refusal> {
+    let mut filling = [0; sys::FILLING];
+    Refusal::of(sys::fill(needs, tries, &mut filling))?;
+    let [choice, sum, tries, ceiling] = filling;
+    Ok(Filling { choice, sum, tries, ceiling })
 }
 
 /// The image of document 01's printed case: one task with empty windows, and one process.

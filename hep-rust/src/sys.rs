@@ -16,11 +16,15 @@ pub const PROCESSES_CLASH: u32 = 6;
 pub const SHORT_BUFFER: u32 = 7;
 pub const LIST_TOO_LONG: u32 = 9;
 pub const ITEM_OUT_OF_RANGE: u32 = 10;
+pub const BAD_JOBS: u32 = 17;
+pub const NO_TRIES: u32 = 18;
 
 /// How many numbers `hep_sizes` writes.
 pub const SIZES: usize = 5;
 /// How many numbers `hep_run` writes.
 pub const COUNTS: usize = 6;
+/// How many numbers `hep_fill` writes.
+pub const FILLING: usize = 4;
 /// Bytes with room for any report, and for any output of `hep_batch`.
 pub const REPORT_ROOM: usize = 512;
 
@@ -49,6 +53,7 @@ mod c {
             report: *mut u8, report_len: usize,
         ) -> u32;
         pub fn hep_batch(input: *const u8, input_len: usize, output: *mut u8, output_len: usize) -> usize;
+        pub fn hep_fill(needs: *const u64, needs_len: usize, tries: u64, filling: *mut u64, filling_len: usize) -> u32;
     }
 }
 
@@ -96,4 +101,10 @@ pub fn run(
 pub fn batch(input: &[u8], output: &mut [u8]) -> usize {
     // SAFETY: the borrows of the slices.
     unsafe { c::hep_batch(input.as_ptr(), input.len(), output.as_mut_ptr(), output.len()) }
+}
+
+/// `hep_fill`.
+pub fn fill(needs: &[u64], tries: u64, filling: &mut [u64]) -> u32 {
+    // SAFETY: the borrows of the slices.
+    unsafe { c::hep_fill(needs.as_ptr(), needs.len(), tries, filling.as_mut_ptr(), filling.len()) }
 }

@@ -1,6 +1,6 @@
 //! The printed case of document 01, each refusal that a caller of this crate can meet, lengths, what an image holds, and the header's numbers.
 
-use hep::{sys, Cell, Counts, Refusal};
+use hep::{sys, Cell, Counts, Filling, Refusal};
 use hep_tools::emulator::draft::{batch_input, Draft, Process, Task};
 use hep_tools::emulator::image;
 use hep_tools::emulator::machine::PROTECTION;
@@ -169,6 +169,27 @@ fn states_are_what_images_hold() {
 }
 
 #[test]
+fn fillings() {
+    let filling = hep::fill(&[1000, 1048, 1048], 8).unwrap();
+    assert_eq!(filling, Filling { choice: 3, sum: 2048, tries: 8, ceiling: 2048 });
+    assert_eq!(filling.jobs().collect::<Vec<_>>(), [0, 1]);
+    let none = hep::fill(&[], u64::MAX).unwrap();
+    assert_eq!(none, Filling { choice: 0, sum: 0, tries: 1, ceiling: 0 });
+    assert_eq!(none.jobs().count(), 0);
+    let last = hep::fill(&[2; 15], 1 << 15).unwrap();
+    assert_eq!(last, Filling { choice: 127, sum: 14, tries: 32_768, ceiling: 14 });
+}
+
+#[test]
+fn fillings_refused() {
+    assert_eq!(hep::fill(&[2; 16], 0), Err(Refusal::BadJobs));
+    assert_eq!(hep::fill(&[2, 2050], 0), Err(Refusal::BadJobs));
+    assert_eq!(hep::fill(&[2, 2048], 0), Err(Refusal::NoTries));
+    assert_eq!((Refusal::BadJobs.number(), Refusal::NoTries.number()), (17, 18));
+    assert_eq!(Refusal::NoTries.to_string(), "refused: R18: zero tries");
+}
+
+#[test]
 fn the_numbers_are_the_headers() {
     let header = include_str!("../../include/hep.h");
     let numbers = [
@@ -185,6 +206,8 @@ fn the_numbers_are_the_headers() {
         ("SHORT_BUFFER", sys::SHORT_BUFFER),
         ("LIST_TOO_LONG", sys::LIST_TOO_LONG),
         ("ITEM_OUT_OF_RANGE", sys::ITEM_OUT_OF_RANGE),
+        ("BAD_JOBS", sys::BAD_JOBS),
+        ("NO_TRIES", sys::NO_TRIES),
     ];
     let stated = |line: String| header.lines().any(|found| found == line);
     for (name, number) in numbers {
@@ -197,6 +220,7 @@ fn the_numbers_are_the_headers() {
     assert_eq!(refusals, numbers.len());
     assert!(stated(format!("#define HEP_SIZES {}", sys::SIZES)));
     assert!(stated(format!("#define HEP_COUNTS {}", sys::COUNTS)));
+    assert!(stated(format!("#define HEP_FILLING {}", sys::FILLING)));
     assert!(stated(format!("#define HEP_REPORT_ROOM {}", sys::REPORT_ROOM)));
     let room = sys::output_room(0);
     assert!(stated(format!("#define HEP_OUTPUT_ROOM(image_len) ((image_len) + {room})")));

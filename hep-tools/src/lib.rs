@@ -2,7 +2,8 @@
 //! papers alone, and what is held to it.
 //!
 //! - `emulator`: images, one step, runs, the batch program
-//! - `generate`: random inputs, images and pairs for isolation
+//! - `filling`: which jobs fill a module, a plain search
+//! - `generate`: random inputs, images, pairs for isolation and jobs
 //! - `trials`: inputs with answers worked out by hand
 //! - `compare`: an implementation held to the trials and to the emulator; isolation tried
 //! - `benchmark`: workloads for timing
@@ -11,6 +12,7 @@
 pub mod benchmark;
 pub mod compare;
 pub mod emulator;
+pub mod filling;
 pub mod generate;
 pub mod tool;
 pub mod trials;

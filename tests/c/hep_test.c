@@ -309,6 +309,60 @@ static void test_schedules_refused(void)
     discard(&b);
 }
 
+/* ---- jobs that fill a module */
+
+/* 0 and these numbers, or the number of a refusal and all places stay; of the five places one is not lent. */
+static void filled(const uint64_t *needs, size_t jobs, uint64_t tries, uint32_t number, uint64_t choice, uint64_t sum, uint64_t made,
+                   uint64_t ceiling)
+{
+    uint64_t filling[HEP_FILLING + 1];
+    memset(filling, MARK, sizeof filling);
+    EXPECT(hep_fill(needs, jobs, tries, filling, HEP_FILLING - 1) == (number ? number : (uint32_t)HEP_SHORT_BUFFER));
+    EXPECT(marked((const uint8_t *)filling, sizeof filling));
+    EXPECT(hep_fill(needs, jobs, tries, filling, HEP_FILLING) == number);
+    if (number == HEP_ACCEPTED) {
+        EXPECT(filling[HEP_CHOICE] == choice && filling[HEP_SUM] == sum);
+        EXPECT(filling[HEP_TRIES] == made && filling[HEP_CEILING] == ceiling);
+        EXPECT(marked((const uint8_t *)(filling + HEP_FILLING), sizeof filling[0]));
+    } else {
+        EXPECT(marked((const uint8_t *)filling, sizeof filling));
+    }
+}
+
+static void test_fillings(void)
+{
+    static const uint64_t first[] = {1000, 1048, 1048}, eight[] = {2, 4, 6, 8, 10, 12, 14, 16};
+    static const uint64_t full[] = {1024, 1024}, over[] = {1026, 1024};
+    filled(first, 0, 1, HEP_ACCEPTED, 0, 0, 1, 0);
+    filled(first, 3, 3, HEP_ACCEPTED, 2, 1048, 3, 2048);
+    filled(first, 3, 4, HEP_ACCEPTED, 3, 2048, 4, 2048);
+    filled(first, 3, 8, HEP_ACCEPTED, 3, 2048, 8, 2048);
+    filled(first, 3, UINT64_MAX, HEP_ACCEPTED, 3, 2048, 8, 2048);
+    filled(eight, 8, 255, HEP_ACCEPTED, 254, 70, 255, 70);
+    filled(eight, 8, 254, HEP_ACCEPTED, 253, 68, 254, 70);
+    filled(full, 2, 4, HEP_ACCEPTED, 3, 2048, 4, 2048);
+    filled(over, 2, 4, HEP_ACCEPTED, 1, 1026, 4, 2048);
+}
+
+static void test_fillings_refused(void)
+{
+    uint64_t needs[16];
+    for (int i = 0; i < 16; i++)
+        needs[i] = 2;
+    filled(needs, 15, 1, HEP_ACCEPTED, 0, 0, 1, 14);
+    filled(needs, 15, 0, HEP_NO_TRIES, 0, 0, 0, 0);
+    filled(needs, 16, 1, HEP_BAD_JOBS, 0, 0, 0, 0);
+    filled(needs, 16, 0, HEP_BAD_JOBS, 0, 0, 0, 0);
+    static const uint64_t bad[] = {0, 1, 3, 2047, 2049, 2050, UINT64_MAX, UINT64_MAX - 1};
+    for (size_t i = 0; i < sizeof bad / sizeof bad[0]; i++) {
+        needs[14] = bad[i];
+        filled(needs, 15, 0, HEP_BAD_JOBS, 0, 0, 0, 0);
+        filled(needs, 14, 0, HEP_NO_TRIES, 0, 0, 0, 0);
+    }
+    needs[0] = 2048;
+    filled(needs, 1, 2, HEP_ACCEPTED, 1, 2048, 2, 2048);
+}
+
 int main(int argc, char **argv)
 {
     if (argc != 2) {
@@ -324,6 +378,8 @@ int main(int argc, char **argv)
     test_sections();
     test_buffers_refused();
     test_schedules_refused();
+    test_fillings();
+    test_fillings_refused();
     printf("c: %d checks, %d failed\n", checks, failed);
     return failed != 0;
 }

@@ -9,6 +9,7 @@ uint32_t true_sizes(const uint8_t *, size_t, uint64_t *, size_t);
 uint32_t true_run(const uint8_t *, size_t, const uint8_t *, size_t, uint8_t *, size_t, uint64_t *, size_t, uint8_t *, size_t, uint64_t *, size_t,
                   uint64_t *, size_t, uint8_t *, size_t, uint64_t *, size_t, uint8_t *, size_t, uint64_t *, size_t, uint8_t *, size_t);
 size_t true_batch(const uint8_t *, size_t, uint8_t *, size_t);
+uint32_t true_fill(const uint64_t *, size_t, uint64_t, uint64_t *, size_t);
 
 static int wrong(const char *fault)
 {
@@ -75,4 +76,22 @@ size_t hep_batch(const uint8_t *input, size_t input_len, uint8_t *output, size_t
     if (wrong("refusal_one_off") && length == 3 && output[1] == '6')
         output[1] = '5';
     return length;
+}
+
+uint32_t hep_fill(const uint64_t *needs, size_t needs_len, uint64_t tries, uint64_t *filling, size_t filling_len)
+{
+    if (wrong("one_try_more") && tries == 5)
+        tries++;
+    uint32_t answer = true_fill(needs, needs_len, tries, filling, filling_len);
+    if (wrong("jobs_as_tries") && answer == HEP_BAD_JOBS && tries == 0)
+        return HEP_NO_TRIES;
+    if (wrong("refused_filling_written") && answer == HEP_SHORT_BUFFER)
+        filling[0] = 0;
+    if (answer != HEP_ACCEPTED)
+        return answer;
+    if (wrong("last_of_the_best") && needs_len > 2 && needs[1] == needs[2] && filling[HEP_CHOICE] == 2)
+        filling[HEP_CHOICE] = 4;
+    if (wrong("ceiling_of_the_sum"))
+        filling[HEP_CEILING] = filling[HEP_SUM];
+    return answer;
 }

@@ -9,6 +9,9 @@ use lib.Dec.{leb, ltb}
 use lib.ListN.{length}
 use Rattle.refusal.specs.declared.Refusal.{Refusal}
 use Rattle.refusal.specs.declared.Refusal.the-variants.{ShortBuffer}
+use Rattle.filling.specs.declared.Filling.{Filling}
+use Rattle.filling.specs.declared.FillAnswer.{FillAnswer}
+use Rattle.filling.specs.declared.FillAnswer.the-variants as fill
 use Rattle.run.specs.declared.Counts.{Counts}
 use Rattle.run.specs.Schedule.{scheduleRefusal}
 use Rattle.run.specs.Run.{Ran, noCounts, run}
@@ -28,22 +31,34 @@ use Rattle.window.specs.Limits.{tasks}
 
 -- hep_check answers the number of checkAnswer (library Calls)
 
--- ---- hep_sizes: the image's refusals, then 7 where the slice of sizes is too short
+-- ---- numbers that go to the front of a slice: 7 where it is too short
+
+unfoldable pub listedAnswer : (slots : ℕ) → List ℕ → Answer (List ℕ)
+listedAnswer slots numbers = unless (cond (ltb slots (length numbers)) (some ShortBuffer) none) numbers
+
+unfoldable pub listedLeft : Answer (List ℕ) → (slice : List ℕ) → List ℕ
+listedLeft (refuses e) slice = slice
+listedLeft (answers numbers) slice = over numbers slice
+
+-- ---- hep_sizes: the image's refusals, then 7
 
 -- five numbers: rows, constants, registers, program, data words
 unfoldable pub sizesListed : Sizes → List ℕ
 sizesListed n = n .rows ∷ n .constants ∷ n .registers ∷ n .program ∷ n .data_words ∷ []
 
-unfoldable pub listedAnswer : (slots : ℕ) → Sizes → Answer Sizes
-listedAnswer slots n = unless (cond (ltb slots 5) (some ShortBuffer) none) n
-
-unfoldable pub sizesAnswer : (slots : ℕ) → Decoded → Answer Sizes
+unfoldable pub sizesAnswer : (slots : ℕ) → Decoded → Answer (List ℕ)
 sizesAnswer slots (bad e) = refuses e
-sizesAnswer slots (good i) = listedAnswer slots (sizesOf (stateOf i))
+sizesAnswer slots (good i) = listedAnswer slots (sizesListed (sizesOf (stateOf i)))
 
-unfoldable pub sizesLeft : Answer Sizes → (sizes : List ℕ) → List ℕ
-sizesLeft (refuses e) sizes = sizes
-sizesLeft (answers n) sizes = over (sizesListed n) sizes
+-- ---- hep_fill: 17, then 18, then 7
+
+-- four numbers: the choice, its sum, the tries made, the ceiling
+unfoldable pub fillingListed : Filling → List ℕ
+fillingListed f = f .choice ∷ f .sum ∷ f .tries ∷ f .ceiling ∷ []
+
+unfoldable pub fillingAnswer : (slots : ℕ) → FillAnswer → Answer (List ℕ)
+fillingAnswer slots (fill.Refused e) = refuses e
+fillingAnswer slots (fill.Filled f) = listedAnswer slots (fillingListed f)
 
 -- ---- hep_run: the image's refusals, then 7, then 9 and 10
 

@@ -1,13 +1,16 @@
--- The calls on an image of one task: refusals at both sides of their boundaries, and what a run leaves.
+-- The calls on an image of one task, and the filling of three jobs: refusals at both sides of their boundaries, and what a call leaves.
 use mathlib.Core.Path.{_≡_, refl}
 use mathlib.Core.List.{List, [], _∷_}
 use Prim.Native.Nat.{ℕ, _-_}
 use lib.ListN.{take, replicate}
 use Rattle.image.specs.Image.{decode}
 use Rattle.report.specs.Laws.Opened.{opened}
-use Rattle.library.specs.Calls.{checkAnswer}
+use Rattle.refusal.specs.Numbers.{numberOf}
+use Rattle.library.specs.Calls.{unless, checkAnswer}
 use Rattle.library.specs.Trials.{trialBytes, trialled}
-use Rattle.hep_c.specs.Answers.{numberAnswered, sizesListed, listedAnswer, sizesAnswer, sizesLeft, Slices, slices, resultsFit, lengthsRefusal, imageRunRefusal, imageRunAnswer, countsListed, imageRunLeft}
+use Rattle.filling.specs.Filling.{fillAnswer}
+use Rattle.filling.specs.Laws.Opened.{opened as filling}
+use Rattle.hep_c.specs.Answers.{numberAnswered, listedAnswer, listedLeft, sizesListed, sizesAnswer, fillingListed, fillingAnswer, Slices, slices, resultsFit, lengthsRefusal, imageRunRefusal, imageRunAnswer, countsListed, imageRunLeft}
 use Rattle.report_text.specs.Texts.{reportRoom}
 
 -- slices that are just long enough, each shorter by so many
@@ -32,8 +35,27 @@ pub record SizesTrials : Type 0 where
   pub ends : numberAnswered (checkAnswer (decode (take 40 trialBytes))) ≡ 1
   pub short : numberAnswered (sizesAnswer 4 (decode trialBytes)) ≡ 7
   pub first : numberAnswered (sizesAnswer 4 (decode (take 40 trialBytes))) ≡ 1
-  pub listed : sizesLeft (sizesAnswer 6 (decode trialBytes)) (replicate 6 9) ≡ 1 ∷ 1 ∷ 2 ∷ 16 ∷ 1 ∷ 9 ∷ []
-  pub left : sizesLeft (sizesAnswer 4 (decode trialBytes)) (replicate 4 9) ≡ replicate 4 9
+  pub listed : listedLeft (sizesAnswer 6 (decode trialBytes)) (replicate 6 9) ≡ 1 ∷ 1 ∷ 2 ∷ 16 ∷ 1 ∷ 9 ∷ []
+  pub left : listedLeft (sizesAnswer 4 (decode trialBytes)) (replicate 4 9) ≡ replicate 4 9
+
+-- what a filling of jobs of 2,000, 40 and 1,000 answers, and what it leaves in so many places that held 9
+unfoldable pub filledNumber : (needs : List ℕ) (tries slots : ℕ) → ℕ
+filledNumber needs tries slots = numberAnswered (fillingAnswer slots (fillAnswer needs tries))
+
+unfoldable pub filledLeft : (needs : List ℕ) (tries slots : ℕ) → List ℕ
+filledLeft needs tries slots = listedLeft (fillingAnswer slots (fillAnswer needs tries)) (replicate slots 9)
+
+pub record FillTrials : Type 0 where
+  pub filled : filledNumber (2000 ∷ 40 ∷ 1000 ∷ []) 100 4 ≡ 0
+  pub listed : filledLeft (2000 ∷ 40 ∷ 1000 ∷ []) 100 5 ≡ 3 ∷ 2040 ∷ 8 ∷ 2048 ∷ 9 ∷ []
+  -- 17 comes before 18, and 18 before 7
+  pub short : filledNumber (2000 ∷ 40 ∷ 1000 ∷ []) 100 3 ≡ 7
+  pub tries : filledNumber (2000 ∷ 40 ∷ 1000 ∷ []) 0 3 ≡ 18
+  pub jobs : filledNumber (2000 ∷ 41 ∷ 1000 ∷ []) 0 3 ≡ 17
+  -- refused: nothing is touched
+  pub left-short : filledLeft (2000 ∷ 40 ∷ 1000 ∷ []) 100 3 ≡ replicate 3 9
+  pub left-tries : filledLeft (2000 ∷ 40 ∷ 1000 ∷ []) 0 4 ≡ replicate 4 9
+  pub left-jobs : filledLeft (2000 ∷ 41 ∷ 1000 ∷ []) 1 4 ≡ replicate 4 9
 
 pub record ImageRunTrials : Type 0 where
   -- just enough room, and one place short of it in each slice: 7
@@ -58,8 +80,12 @@ pub record ImageRunTrials : Type 0 where
   pub left : leftBySchedule (2 ∷ 0 ∷ []) exactSlices ≡ exactSlices
 
 pub sizes-trials : SizesTrials
-unfolding trialled numberAnswered checkAnswer sizesListed listedAnswer sizesAnswer sizesLeft
+unfolding trialled numberAnswered checkAnswer sizesListed listedAnswer sizesAnswer listedLeft
 sizes-trials = record { accepted = refl; ends = refl; short = refl; first = refl; listed = refl; left = refl }
+
+pub fill-trials : FillTrials
+unfolding filling numberOf numberAnswered listedAnswer listedLeft unless fillingListed fillingAnswer filledNumber filledLeft
+fill-trials = record { filled = refl; listed = refl; short = refl; tries = refl; jobs = refl; left-short = refl; left-tries = refl; left-jobs = refl }
 
 pub image-run-trials : ImageRunTrials
 unfolding trialled opened numberAnswered resultsFit lengthsRefusal imageRunRefusal imageRunAnswer countsListed imageRunLeft slicesLess exactSlices imageRunNumber leftBySchedule

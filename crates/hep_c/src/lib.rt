@@ -13,8 +13,11 @@ ghost use Rattle.library.specs.Trials.{numbered};
 ghost use Rattle.library.specs.Held.{roomFrom};
 ghost use Rattle.report.specs.Report.{outputOf};
 ghost use Rattle.batch.specs.Output.{bytesCopied, copiedInto};
-ghost use Rattle.hep_c.specs.Answers.{numberAnswered, listedAnswer, sizesAnswer, sizesLeft, slices, resultsFit, lengthsRefusal, imageRunRefusal, imageRunAnswer, countsListed, imageRunLeft, ImageRunPromise, countsAnswered};
+ghost use Rattle.filling.specs.Filling.{fillAnswer};
+ghost use Rattle.hep_c.specs.Answers.{numberAnswered, listedAnswer, listedLeft, sizesListed, sizesAnswer, fillingListed, fillingAnswer, slices, resultsFit, lengthsRefusal, imageRunRefusal, imageRunAnswer, countsListed, imageRunLeft, ImageRunPromise, countsAnswered};
 ghost use Rattle.window.specs.Limits.{tasks};
+use filling::FillAnswer;
+use filling::Filling;
 use image::PROCESS_BYTES;
 use library::ReadAnswer;
 use library::RunAnswer;
@@ -43,6 +46,18 @@ fn put_numbers(numbers: &[u64], out: &mut [u64])
     }
 }
 
+// Puts numbers to the front of a slice: 7 where it has no room for them.
+fn put_listed(numbers: &[u64], out: &mut [u64]) -> u32
+    ensures answer { λ r. ⌜ r ≡ numberAnswered (listedAnswer (length (now (out .entry))) (now (numbers .entry))) ⌝ }
+    ensures left { λ _. ⌜ now (out .exit) ≡ listedLeft (listedAnswer (length (now (out .entry))) (now (numbers .entry))) (now (out .entry)) ⌝ }
+{
+    if out.len() < numbers.len() {
+        return refusal::number(Refusal::ShortBuffer) as u32;
+    }
+    put_numbers(numbers, out);
+    0
+}
+
 // ---- images
 
 // 0 where the image is accepted, else the number of its refusal.
@@ -59,12 +74,9 @@ pub extern "C" fn hep_check(image: &[u8]) -> u32
 
 // The sizes of an image that was found sound: 7 where they have no room.
 fn put_sizes(n: Sizes, sizes: &mut [u64]) -> u32
-    ensures answer { λ r. ⌜ r ≡ numberAnswered (listedAnswer (length (now (sizes .entry))) n) ⌝ }
-    ensures left { λ _. ⌜ now (sizes .exit) ≡ sizesLeft (listedAnswer (length (now (sizes .entry))) n) (now (sizes .entry)) ⌝ }
+    ensures answer { λ r. ⌜ r ≡ numberAnswered (listedAnswer (length (now (sizes .entry))) (sizesListed n)) ⌝ }
+    ensures left { λ _. ⌜ now (sizes .exit) ≡ listedLeft (listedAnswer (length (now (sizes .entry))) (sizesListed n)) (now (sizes .entry)) ⌝ }
 {
-    if sizes.len() < 5 {
-        return refusal::number(Refusal::ShortBuffer) as u32;
-    }
     let numbers = [
         n.rows as u64,
         n.constants as u64,
@@ -72,15 +84,14 @@ fn put_sizes(n: Sizes, sizes: &mut [u64]) -> u32
         n.program as u64,
         n.data_words as u64,
     ];
-    put_numbers(&numbers, sizes);
-    0
+    put_listed(&numbers, sizes)
 }
 
 // The sizes of rows, constants, registers, program and data words go to `sizes`: the image's refusals, then 7.
 #[no_mangle]
 pub extern "C" fn hep_sizes(image: &[u8], sizes: &mut [u64]) -> u32
     ensures answer { λ r. ⌜ r ≡ numberAnswered (sizesAnswer (length (now (sizes .entry))) (decode (now (image .entry)))) ⌝ }
-    ensures left { λ _. ⌜ now (sizes .exit) ≡ sizesLeft (sizesAnswer (length (now (sizes .entry))) (decode (now (image .entry)))) (now (sizes .entry)) ⌝ }
+    ensures left { λ _. ⌜ now (sizes .exit) ≡ listedLeft (sizesAnswer (length (now (sizes .entry))) (decode (now (image .entry)))) (now (sizes .entry)) ⌝ }
 {
     let found = image_check::check(image);
     match found {
@@ -357,4 +368,28 @@ pub extern "C" fn hep_batch(input: &[u8], output: &mut [u8]) -> usize
     ensures left { λ _. ⌜ now (output .exit) ≡ copiedInto (outputOf (now (input .entry))) (now (output .entry)) ⌝ }
 {
     batch::batch(input, output)
+}
+
+// ---- filling a module
+
+// A filling that was found: 7 where it has no room.
+fn put_filling(f: Filling, filling: &mut [u64]) -> u32
+    ensures answer { λ r. ⌜ r ≡ numberAnswered (listedAnswer (length (now (filling .entry))) (fillingListed f)) ⌝ }
+    ensures left { λ _. ⌜ now (filling .exit) ≡ listedLeft (listedAnswer (length (now (filling .entry))) (fillingListed f)) (now (filling .entry)) ⌝ }
+{
+    let numbers = [f.choice, f.sum, f.tries, f.ceiling];
+    put_listed(&numbers, filling)
+}
+
+// The first of the best choices of jobs with these register needs, its sum, the tries made and the ceiling go to `filling`: 17, then 18, then 7.
+#[no_mangle]
+pub extern "C" fn hep_fill(needs: &[u64], tries: u64, filling: &mut [u64]) -> u32
+    ensures answer { λ r. ⌜ r ≡ numberAnswered (fillingAnswer (length (now (filling .entry))) (fillAnswer (now (needs .entry)) tries)) ⌝ }
+    ensures left { λ _. ⌜ now (filling .exit) ≡ listedLeft (fillingAnswer (length (now (filling .entry))) (fillAnswer (now (needs .entry)) tries)) (now (filling .entry)) ⌝ }
+{
+    let found = filling_search::fill(needs, tries);
+    match found {
+        FillAnswer::Refused(e) => refusal::number(e) as u32,
+        FillAnswer::Filled(f) => put_filling(f, filling),
+    }
 }

@@ -2,7 +2,7 @@
 use Prim.Native.Nat.{ℕ}
 use Rattle.refusal.specs.declared.Refusal.{Refusal}
 use Rattle.refusal.specs.declared.Refusal.the-variants.{InputEnds, CountOverLimit, TaskField, ProcessField, ConstantField, CellField, BytesLeftOver}
-use Rattle.refusal.specs.declared.Refusal.the-variants.{WindowPastMemory, ProcessesClash, ShortBuffer, UnsoundState, ListTooLong, ItemOutOfRange, InputTooLong}
+use Rattle.refusal.specs.declared.Refusal.the-variants.{WindowPastMemory, ProcessesClash, ShortBuffer, UnsoundState, ListTooLong, ItemOutOfRange, InputTooLong, BadJobs, NoTries}
 
 unfoldable pub numberOf : Refusal → ℕ
 -- program input over 65,536 bytes
@@ -33,3 +33,7 @@ numberOf UnsoundState = 8
 numberOf ListTooLong = 9
 -- an item not 1 to 7
 numberOf ItemOutOfRange = 10
+-- more than 15 jobs, or a bad need
+numberOf BadJobs = 17
+-- zero tries
+numberOf NoTries = 18

@@ -18,6 +18,8 @@ pub enum Refusal {
     ListTooLong,
     ItemOutOfRange,
     InputTooLong,
+    BadJobs,
+    NoTries,
 }
 
 // Document 01's number of a refusal.
@@ -39,5 +41,7 @@ pub fn number(e: Refusal) -> u8
         Refusal::ListTooLong => 9,
         Refusal::ItemOutOfRange => 10,
         Refusal::InputTooLong => 11,
+        Refusal::BadJobs => 17,
+        Refusal::NoTries => 18,
     }
 }

@@ -4,6 +4,7 @@ mod agree;
 mod asm;
 mod check;
 mod dump;
+mod fill;
 mod run;
 mod share;
 mod show;
@@ -29,7 +30,7 @@ pub struct Command {
     pub run: fn(&Arguments) -> Result<Status, Failure>,
 }
 
-pub const COMMANDS: [&Command; 10] = [
+pub const COMMANDS: [&Command; 11] = [
     &run::COMMAND,
     &check::COMMAND,
     &show::COMMAND,
@@ -40,6 +41,7 @@ pub const COMMANDS: [&Command; 10] = [
     &trace::COMMAND,
     &share::COMMAND,
     &timeline::COMMAND,
+    &fill::COMMAND,
 ];
 
 /// Where the answer goes.

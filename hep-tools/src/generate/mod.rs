@@ -1,6 +1,7 @@
-//! Seeded batch inputs: valid, gently damaged and wild.
+//! Seeded batch inputs: valid, gently damaged and wild; and seeded jobs.
 
 mod damage;
+mod jobs;
 mod layout;
 mod neighbours;
 mod program;
@@ -42,6 +43,11 @@ pub fn image(seed: u64, n: u64) -> Vec<u8> {
 /// The nth pair of a seed, for isolation.
 pub fn pair(seed: u64, n: u64) -> Pair {
     neighbours::pair(&mut random(seed, n))
+}
+
+/// The nth jobs of a seed, as register needs, and a number of tries.
+pub fn jobs(seed: u64, n: u64) -> (Vec<u64>, u64) {
+    jobs::jobs(&mut random(seed, n))
 }
 
 fn random(seed: u64, n: u64) -> Random {

@@ -3,6 +3,7 @@
 pub mod agree;
 pub mod check;
 pub mod hex;
+pub mod join;
 pub mod load;
 pub mod profile;
 pub mod reason;

@@ -17,6 +17,11 @@ pub struct Share {
     pub data: Vec<(u8, u64)>,
 }
 
+/// Cells a unit of base and limit.
+pub const REGISTER_UNIT: usize = 2;
+pub const PROGRAM_UNIT: usize = 16;
+pub const DATA_UNIT: usize = 32;
+
 /// The real addresses of a window of this many addresses a unit.
 fn addresses(base: u32, limit: u32, unit: usize) -> Range<usize> {
     let base = base as usize * unit;
@@ -25,17 +30,17 @@ fn addresses(base: u32, limit: u32, unit: usize) -> Range<usize> {
 
 /// Real addresses of a task's registers.
 pub fn registers(task: &Task) -> Range<usize> {
-    addresses(task.rb.into(), task.rl.into(), 2)
+    addresses(task.rb.into(), task.rl.into(), REGISTER_UNIT)
 }
 
 /// Real addresses of a task's program words.
 pub fn program(task: &Task) -> Range<usize> {
-    addresses(task.pb.into(), task.pl.into(), 16)
+    addresses(task.pb.into(), task.pl.into(), PROGRAM_UNIT)
 }
 
 /// Real addresses of a task's data words.
 pub fn data(task: &Task) -> Range<usize> {
-    addresses(task.db, task.dl, 32)
+    addresses(task.db, task.dl, DATA_UNIT)
 }
 
 /// The cells of an accepted image at these real addresses.

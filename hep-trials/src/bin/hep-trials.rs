@@ -3,7 +3,7 @@
 use hep_tools::compare::{self, isolation, shown, Difference, Emulator};
 use hep_tools::trials;
 use hep_trials::proved::Proved;
-use hep_trials::{calls, random};
+use hep_trials::{calls, filling, random};
 use std::path::PathBuf;
 use std::{env, process};
 
@@ -12,7 +12,7 @@ usage: hep-trials [OPTION..]
 
 Holds the proved library (libhep_c.a) to the trials of document 01, its calls to their refusals, then the
 library to the emulator of hep-tools on an image with each of its bits changed and on random inputs: output,
-counts, memories and image. Pairs of inputs try isolation.
+counts, memories and image. Pairs of inputs try isolation. Fillings of random jobs are held to a plain search.
 
   --seed N     the first of the random inputs, 1 if not given; each seed has 1,000 inputs
   --count N    random inputs, 50000 if not given; a line on standard error tells how many are done
@@ -39,10 +39,11 @@ fn main() {
     told(compare::trials(&mut Proved, &trials), &arguments);
     told(compare::flipped(&mut Proved, &mut Emulator), &arguments);
     let calls = calls::all().unwrap_or_else(|reason| fail(1, &reason));
+    let fillings = filling::all(arguments.seed).unwrap_or_else(|reason| fail(1, &reason));
     let inputs = run_random(&arguments);
     let met = run_isolation(&arguments);
     println!(
-        "trials: {} trials, {} changed bits, {calls} calls, {inputs} random cases, {} pairs ({met} met the premises), 0 differed",
+        "trials: {} trials, {} changed bits, {calls} calls, {fillings} fillings, {inputs} random cases, {} pairs ({met} met the premises), 0 differed",
         trials.len(),
         compare::flips(),
         arguments.pairs

@@ -1,41 +1,23 @@
 -- Skeleton and paths (.before ..) are generated: docs/PROOFS.md.
 -- `hep_c::put_sizes` meets its contract.
 use Rattle.hep_c.specs.Answers.{sizesListed}
-use Rattle.hep_c.specs.Laws.Numbers.{put-short, put-all}
 use borrow.Author.Needs.{needs}
 use Rattle.hep_c.proofs.put_sizes.Statement.{statement}
 use Rattle.hep_c.proofs.put_sizes.Tie as tie
 
-number-requires : tie.Need-number-requires
-number-requires c κs = search needs
+slice-aggregate-put-listed : tie.Need-slice-aggregate-put-listed
+slice-aggregate-put-listed c = search needs
 
-cast-result : tie.Need-cast-result
-cast-result c = search needs
-
-returns : tie.Need-returns
-returns c = put-short _ _ _ (c .before .if1 .taken) (c .number .ensures)
-
-slice-aggregate-put-numbers : tie.Need-slice-aggregate-put-numbers
-slice-aggregate-put-numbers c = search needs
-
-put-numbers-requires : tie.Need-put-numbers-requires
-put-numbers-requires c κs = search needs
+put-listed-requires : tie.Need-put-listed-requires
+put-listed-requires c κs = search needs
 
 same-length : tie.Need-same-length
 same-length c = search needs
 
-returns-2 : tie.Need-returns-2
+returns : tie.Need-returns
 unfolding sizesListed
-returns-2 c = put-all (c .before .before .before .before .before .before .before .args .sizes .now) _ _ (c .before .before .before .before .before .if1 .left) (c .before .before .put-numbers .ensures)
+returns c = c .before .before .put-listed .ensures
 
 pub put-sizes-spec : {M : Type 1} → statement M
 put-sizes-spec =
-    tie.close
-    (tie.spec
-    number-requires
-    cast-result
-    returns
-    slice-aggregate-put-numbers
-    put-numbers-requires
-    same-length
-    returns-2)
+    tie.close (tie.spec slice-aggregate-put-listed put-listed-requires same-length returns)

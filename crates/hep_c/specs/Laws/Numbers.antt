@@ -9,18 +9,21 @@ use lib.ListN.{length, getD, take, drop, set, length-append, length-take, length
 use lib.Seq.{length-take-le, take-suc, drop-cons, set-at, append-snoc, take-all}
 use borrow.Author.Tests.{lt-ltb, le-ltb}
 use Rattle.refusal.specs.declared.Refusal.{Refusal}
-use Rattle.refusal.specs.declared.Refusal.the-variants.{InputEnds, CountOverLimit, TaskField, ProcessField, ConstantField, CellField, BytesLeftOver, WindowPastMemory, ProcessesClash, ShortBuffer, UnsoundState, ListTooLong, ItemOutOfRange, InputTooLong}
+use Rattle.refusal.specs.declared.Refusal.the-variants.{InputEnds, CountOverLimit, TaskField, ProcessField, ConstantField, CellField, BytesLeftOver, WindowPastMemory, ProcessesClash, ShortBuffer, UnsoundState, ListTooLong, ItemOutOfRange, InputTooLong, BadJobs, NoTries}
 use Rattle.refusal.specs.Numbers.{numberOf}
+use Rattle.filling.specs.declared.Filling.{Filling}
+use Rattle.filling.specs.declared.FillAnswer.{FillAnswer}
+use Rattle.filling.specs.declared.FillAnswer.the-variants as fill
 use Rattle.run.specs.Run.{Ran}
 use Rattle.image.specs.Image.{Image, Decoded, bad, good, stateOf}
 use Rattle.image.specs.Fields.{over}
 use Rattle.library.specs.declared.Sizes.{Sizes}
 use Rattle.library.specs.declared.ReadAnswer.the-variants.{Refused, Read}
 use Rattle.library.specs.Buffers.{sizesOf}
-use Rattle.library.specs.Calls.{refuses, answers, unless, checkAnswer}
+use Rattle.library.specs.Calls.{Answer, refuses, answers, unless, checkAnswer}
 use Rattle.library.specs.Promises.{readAnswered}
 use Rattle.library.specs.Trials.{numbered}
-use Rattle.hep_c.specs.Answers.{numberAnswered, sizesListed, listedAnswer, sizesAnswer, sizesLeft, Slices, imageRunLeft}
+use Rattle.hep_c.specs.Answers.{numberAnswered, listedAnswer, listedLeft, sizesListed, sizesAnswer, fillingListed, fillingAnswer, Slices, imageRunLeft}
 
 -- ---- what a check finds
 
@@ -72,6 +75,8 @@ above-0 UnsoundState h = omega arith
 above-0 ListTooLong h = omega arith
 above-0 ItemOutOfRange h = omega arith
 above-0 InputTooLong h = omega arith
+above-0 BadJobs h = omega arith
+above-0 NoTries h = omega arith
 
 pub none-numbered : (o : Option Refusal) → numbered o ≡ 0 → o ≡ none
 unfolding numbered
@@ -83,38 +88,47 @@ unfolding numbered imageRunLeft unless
 refused-stays none r l h = absurd (h refl)
 refused-stays (some e) r l h = refl
 
--- ---- five sizes
+-- ---- numbers where they have room
 
-pub sizes-short : (slots : ℕ) (n : Sizes) → slots < 5 → listedAnswer slots n ≡ refuses ShortBuffer
+listed-short : (slots : ℕ) (numbers : List ℕ) → slots < length numbers → listedAnswer slots numbers ≡ refuses ShortBuffer
 unfolding listedAnswer unless
-sizes-short slots n h = rw (lt-ltb slots 5 h)
+listed-short slots numbers h = rw (lt-ltb slots (length numbers) h)
 
-pub sizes-fit : (slots : ℕ) (n : Sizes) → 5 ≤ slots → listedAnswer slots n ≡ answers n
+listed-fit : (slots : ℕ) (numbers : List ℕ) → length numbers ≤ slots → listedAnswer slots numbers ≡ answers numbers
 unfolding listedAnswer unless
-sizes-fit slots n h = rw (le-ltb slots 5 h)
+listed-fit slots numbers h = rw (le-ltb slots (length numbers) h)
 
-module _ (sizes : List ℕ) where
+module _ (slice : List ℕ) where
+  -- what a call that answers numbers promises
+  abbrev Put : (a : Answer (List ℕ)) (r : ℕ) (out : List ℕ) → Type 0
+  Put a r out = (r ≡ numberAnswered a) × (out ≡ listedLeft a slice)
+
   -- no room: 7, and all stays
-  pub put-short : (n : Sizes) (r : ℕ) → length sizes < 5 → r ≡ numberOf ShortBuffer
-      → (r ≡ numberAnswered (listedAnswer (length sizes) n)) × (sizes ≡ sizesLeft (listedAnswer (length sizes) n) sizes)
-  unfolding numberAnswered sizesLeft
-  put-short n r h k = rw (sizes-short (length sizes) n h) (k, refl)
+  pub put-short : (numbers : List ℕ) (r : ℕ) → length slice < length numbers → r ≡ numberOf ShortBuffer → Put (listedAnswer (length slice) numbers) r slice
+  unfolding numberAnswered listedLeft
+  put-short numbers r h k = rw (listed-short (length slice) numbers h) (k, refl)
 
-  pub put-all : (n : Sizes) (out : List ℕ) → 5 ≤ length sizes → out ≡ over (sizesListed n) sizes
-      → (0 ≡ numberAnswered (listedAnswer (length sizes) n)) × (out ≡ sizesLeft (listedAnswer (length sizes) n) sizes)
-  unfolding numberAnswered sizesLeft
-  put-all n out h k = rw (sizes-fit (length sizes) n h) (refl, k)
+  pub put-all : (numbers out : List ℕ) → length numbers ≤ length slice → out ≡ over numbers slice → Put (listedAnswer (length slice) numbers) 0 out
+  unfolding numberAnswered listedLeft
+  put-all numbers out h k = rw (listed-fit (length slice) numbers h) (refl, k)
 
-  pub sizes-refused : (d : Decoded) (e : Refusal) (r : ℕ) → readAnswered (checkAnswer d) ≡ Refused e → r ≡ numberOf e
-      → (r ≡ numberAnswered (sizesAnswer (length sizes) d)) × (sizes ≡ sizesLeft (sizesAnswer (length sizes) d) sizes)
-  unfolding sizesAnswer numberAnswered sizesLeft
+  pub sizes-refused : (d : Decoded) (e : Refusal) (r : ℕ) → readAnswered (checkAnswer d) ≡ Refused e → r ≡ numberOf e → Put (sizesAnswer (length slice) d) r slice
+  unfolding sizesAnswer numberAnswered listedLeft
   sizes-refused d e r h k = rw (found-bad d e h) (k, refl)
 
   pub sizes-found : (d : Decoded) (z : Sizes) (r : ℕ) (out : List ℕ) → readAnswered (checkAnswer d) ≡ Read z
-      → (r ≡ numberAnswered (listedAnswer (length sizes) z)) × (out ≡ sizesLeft (listedAnswer (length sizes) z) sizes)
-      → (r ≡ numberAnswered (sizesAnswer (length sizes) d)) × (out ≡ sizesLeft (sizesAnswer (length sizes) d) sizes)
+      → Put (listedAnswer (length slice) (sizesListed z)) r out → Put (sizesAnswer (length slice) d) r out
   unfolding sizesAnswer
   sizes-found d z r out h k = let f = found-good d z h in rw (f .is, f .sizes) k
+
+  pub filling-refused : (a : FillAnswer) (e : Refusal) (r : ℕ) → a ≡ fill.Refused e → r ≡ numberOf e → Put (fillingAnswer (length slice) a) r slice
+  unfolding fillingAnswer numberAnswered listedLeft
+  filling-refused a e r h k = rw h (k, refl)
+
+  pub filling-found : (a : FillAnswer) (f : Filling) (r : ℕ) (out : List ℕ) → a ≡ fill.Filled f
+      → Put (listedAnswer (length slice) (fillingListed f)) r out → Put (fillingAnswer (length slice) a) r out
+  unfolding fillingAnswer
+  filling-found a f r out h k = rw h k
 
 -- ---- numbers put to the front of a slice
 

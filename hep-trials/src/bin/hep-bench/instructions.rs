@@ -34,7 +34,7 @@ pub fn classes() -> Result<(), String> {
 }
 
 /// The instructions of one run of this program.
-fn counted(who: &str, class: &str, items: usize) -> Result<f64, String> {
+pub fn counted(who: &str, class: &str, items: usize) -> Result<f64, String> {
     let program = env::current_exe().map_err(|error| error.to_string())?;
     let done = Command::new("valgrind")
         .args(["--tool=callgrind", "--callgrind-out-file=/dev/null"])

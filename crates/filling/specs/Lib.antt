@@ -1,0 +1,5 @@
+pub mod Filling
+pub mod Best
+pub mod Sets
+pub mod Trials
+pub mod Laws
