@@ -1,4 +1,4 @@
-// Refusal 8 of a state in lent buffers: sizes that do not fit, or a state that no image reads as.
+// Refusal 8 of a state in lent buffers: sizes that do not fit, or a state that isn't sound.
 ghost use mathlib.Core.Path.{_≡_};
 ghost use mathlib.Core.Bool.{true};
 ghost use Prim.Native.Nat.{min};
@@ -58,7 +58,7 @@ pub fn fits(
     n.data_words <= data_words
 }
 
-// Whether no image reads as the state, where its sizes fit.
+// Whether the state isn't sound, where its sizes fit.
 fn cut_refused(
     rows: Rows,
     table: ProcessTable,
@@ -93,7 +93,7 @@ fn cut_refused(
     )
 }
 
-// Refusal 8: a buffer is shorter than its size says, or no image reads as the state.
+// Refusal 8: a buffer is shorter than its size says, or the state isn't sound.
 pub fn refused(
     rows: Rows,
     table: ProcessTable,
