@@ -6,6 +6,9 @@ use crate::commands::{Command, COMMANDS};
 /// The repository's version: 0.N.0, where N is the last request in a row that has landed.
 const VERSION: &str = include_str!("../../VERSION");
 
+/// The requests that have landed before their turn.
+const BEFORE_THEIR_TURN: &[u32] = &[13];
+
 /// The logic that the archive was proved in; empty if it was built without proof.
 const LOGIC: &str = env!("HEP_LOGIC");
 
@@ -19,7 +22,8 @@ pub fn version() -> String {
         "" => "its library built WITHOUT proof".to_string(),
         logic => format!("its library proved in logic {logic}"),
     };
-    format!("hep {version}, requests L1 to L{last}, {logic}\n")
+    let others: String = BEFORE_THEIR_TURN.iter().map(|n| format!(" and L{n}")).collect();
+    format!("hep {version}, requests L1 to L{last}{others}, {logic}\n")
 }
 
 pub fn general() -> String {

@@ -7,6 +7,7 @@ use hep_tools::emulator::draft::batch_input;
 use hep_tools::generate;
 use hep_tools::tool;
 use hep_tools::trials::edges;
+use std::collections::BTreeSet;
 use std::fs;
 
 /// The commands, by the general help.
@@ -14,6 +15,13 @@ fn commands() -> Vec<String> {
     let help = hep(&["--help"], b"").out;
     let lines = help.lines().filter_map(|line| line.strip_prefix("  "));
     lines.filter_map(|line| line.split_whitespace().next().map(str::to_string)).collect()
+}
+
+/// The requests that have a landing note.
+fn landed() -> BTreeSet<u32> {
+    let notes = fs::read_dir(concat!(env!("CARGO_MANIFEST_DIR"), "/../docs/landings")).unwrap();
+    let names = notes.map(|note| note.unwrap().file_name().into_string().unwrap());
+    names.filter_map(|name| name.strip_prefix('L')?.strip_suffix(".md")?.parse().ok()).collect()
 }
 
 #[test]
@@ -29,8 +37,9 @@ fn help_and_version() {
     }
     let version = hep(&["--version"], b"");
     let number = fs::read_to_string(concat!(env!("CARGO_MANIFEST_DIR"), "/../VERSION")).unwrap();
-    let level = number.split('.').nth(1).unwrap();
-    let start = format!("hep {}, requests L1 to L{level}, its library ", number.trim());
+    let level: u32 = number.split('.').nth(1).unwrap().parse().unwrap();
+    let others: String = landed().range(level + 1..).map(|n| format!(" and L{n}")).collect();
+    let start = format!("hep {}, requests L1 to L{level}{others}, its library ", number.trim());
     assert!(version.out.starts_with(&start), "{}", version.out);
     assert_eq!(hep(&["-V"], b""), version);
     assert_eq!(env!("CARGO_PKG_VERSION"), number.trim());
