@@ -26,7 +26,7 @@ def parted(lines):
             offered[path].append(line[4:])
         elif not (path and not line.strip()):
             path = None
-            note = "note: " in line[:200] and "rewrote the goal" not in line
+            note = "note: " in line[:200] and "error: " not in line and "rewrote the goal" not in line
             if not note and not line.startswith(("note:", "  was found", "  = ", "library ")):
                 shown.append(line)
     return shown, offered
