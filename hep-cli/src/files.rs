@@ -8,6 +8,8 @@ use hep_tools::tool::text::assemble;
 use std::fs::{self, File};
 use std::io::{self, IsTerminal, Read};
 use std::os::fd::AsFd;
+use std::path::PathBuf;
+use std::sync::Mutex;
 
 pub const INPUT: Opt = flag("input", "bytes and hex digits are a batch input");
 pub const IMAGE: Opt = flag("image", "bytes and hex digits are an image");
@@ -19,6 +21,14 @@ pub const SCHEDULE: Opt = valued(
 
 /// The name of standard input in messages.
 const STANDARD: &str = "<stdin>";
+
+/// The files that were read: none of them is written over.
+static READ: Mutex<Vec<PathBuf>> = Mutex::new(Vec::new());
+
+/// Whether this file was read.
+pub fn was_read(file: &str) -> bool {
+    fs::canonicalize(file).is_ok_and(|path| READ.lock().is_ok_and(|read| read.contains(&path)))
+}
 
 /// What a file is called in messages.
 pub fn name(file: &str) -> &str {
@@ -48,6 +58,9 @@ pub fn read(file: &str) -> Result<Vec<u8>, Failure> {
         "-" => read_standard(),
         _ => fs::read(file),
     };
+    if let (Ok(path), Ok(mut read)) = (fs::canonicalize(file), READ.lock()) {
+        read.push(path);
+    }
     let name = if file == "-" { "standard input" } else { file };
     read.map_err(|error| Failure::broken(name, error))
 }

@@ -2,6 +2,7 @@
 
 use crate::arguments::Arguments;
 use crate::closed;
+use crate::files;
 use crate::status::Failure;
 use std::fs::File;
 use std::io::{self, BufWriter, ErrorKind, Write};
@@ -34,6 +35,9 @@ impl Sink {
     }
 
     pub fn file(name: &str) -> Result<Sink, Failure> {
+        if files::was_read(name) {
+            return Err(Failure::broken(name, "it was read, and is not written over"));
+        }
         let file = File::create(name).map_err(|error| Failure::broken(name, error))?;
         Ok(Sink { name: name.to_string(), to: BufWriter::new(file) })
     }

@@ -225,6 +225,18 @@ fn what_cannot_be_read_or_written() {
 }
 
 #[test]
+fn a_file_that_was_read_is_not_written_over() {
+    let folder = Folder::new("written-over");
+    let file = folder.file("own.hep", TEXT);
+    for command in ["run", "timeline", "dump", "asm"] {
+        let ended = hep(&[command, "-o", &file, &file], b"");
+        let words = format!("hep: {file}: it was read, and is not written over\n");
+        assert_eq!((ended.code, ended.err), (2, words), "{command}");
+        assert_eq!(fs::read(&file).unwrap(), TEXT.as_bytes());
+    }
+}
+
+#[test]
 fn a_reader_that_has_gone_is_no_failure() {
     let frame = example("frame-b.hep");
     let commands = [

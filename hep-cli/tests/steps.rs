@@ -198,7 +198,8 @@ fn each_premise_that_fails_is_told_with_its_place() {
         assert!(ended.out.contains("not covered by the isolation promise\n"), "{line}");
     }
     let neither = hep(&["agree", "5", &a, &a], b"");
-    assert_eq!(neither.code, 0, "{}", neither.out);
+    assert_eq!(neither.code, 1, "{}", neither.out);
+    assert!(neither.out.contains("neither file lists the task"), "{}", neither.out);
 }
 
 #[test]

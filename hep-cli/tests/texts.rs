@@ -144,6 +144,14 @@ fn a_text_has_all_its_errors_told() {
 }
 
 #[test]
+fn letters_that_are_not_utf_8() {
+    let ended = hep(&["run"], b"hep input\n; Tr\xE4ger\nschedule\n1\n");
+    assert_eq!(ended.code, 1);
+    let start = "<stdin>:2:5: error: byte 0xE4 is no letter in UTF-8\n";
+    assert!(ended.err.starts_with(start), "{}", ended.err);
+}
+
+#[test]
 fn a_byte_order_mark_is_taken() {
     let ended = hep(&["run"], "\u{FEFF}hep input\r\nschedule\r\n1\r\n");
     assert_eq!((ended.code, ended.out.as_str()), (0, "E0 W0 T0 I1 CF0\n"));

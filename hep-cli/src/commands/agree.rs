@@ -14,7 +14,7 @@ pub const COMMAND: Command = Command {
     summary: "whether the isolation promise covers a task in two runs, premise by premise",
     about: "Holds the premises of the isolation promise (docs/PROMISES.md, demand 3) to a task in two runs; `!` marks each\n\
             that does not hold, with the first place where it fails. Exit status 1 if the promise does not cover the\n\
-            task. The runs are the proved library's; the comparison is hep-tools', not proved.",
+            task, or neither file lists it. The runs are the proved library's; the comparison is hep-tools', not proved.",
     options: &[SCHEDULE, OUTPUT, INPUT, IMAGE],
     run,
 };
@@ -31,9 +31,11 @@ fn run(arguments: &Arguments) -> Result<Status, Failure> {
         [files::load_to_run(a, arguments)?.source, files::load_to_run(b, arguments)?.source];
     let after = [runs::after(a, &inputs[0])?, runs::after(b, &inputs[1])?];
     let agreement = agree(&tasks, inputs.each_ref(), after.each_ref());
-    let verdict = match agreement.covered {
-        true => COVERED,
-        false => "not covered by the isolation promise\n",
+    let listed = inputs.iter().any(|i| i.draft.tasks.iter().any(|row| row.number == tasks[0]));
+    let verdict = match (agreement.covered, listed) {
+        (true, true) => COVERED,
+        (true, false) => "neither file lists the task: nothing of it is there to be covered\n",
+        (false, _) => "not covered by the isolation promise\n",
     };
     let equal = if agreement.equal { "equal" } else { "not equal" };
     let head = format!("task {} in {} and {}\n", tasks[0], files::name(a), files::name(b));
@@ -42,7 +44,8 @@ fn run(arguments: &Arguments) -> Result<Status, Failure> {
         format!("{head}{}{verdict}after both runs they are {equal}\n", agreement.lines),
     )?;
     match (agreement.covered, agreement.equal) {
-        (true, true) => Ok(Status::Done),
+        (true, true) if listed => Ok(Status::Done),
+        (true, true) => Ok(Status::Refused),
         (false, _) => Ok(Status::Refused),
         (true, false) => Err(Failure::differs(
             files::name(a),

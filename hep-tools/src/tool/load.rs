@@ -143,7 +143,11 @@ pub fn open(bytes: &[u8], reading: Option<Reading>) -> Result<Loaded, Trouble> {
     if not_of_this_machine(bytes).is_some() || bytes.iter().take(3).any(|byte| *byte < 9) {
         return from_bytes(bytes, reading);
     }
-    let Ok(text) = std::str::from_utf8(bytes) else { return from_bytes(bytes, reading) };
+    let text = match std::str::from_utf8(bytes) {
+        Ok(text) => text,
+        Err(_) if bytes.iter().any(|byte| *byte < 9) => return from_bytes(bytes, reading),
+        Err(error) => return Err(other_letters(bytes, error.valid_up_to())),
+    };
     let text = text.strip_prefix('\u{FEFF}').unwrap_or(text);
     match hex::read(text) {
         Some(Ok(bytes)) => from_bytes(&bytes, reading),
@@ -153,6 +157,19 @@ pub fn open(bytes: &[u8], reading: Option<Reading>) -> Result<Loaded, Trouble> {
             Err(errors) => Err(Trouble::Text { text: text.to_string(), errors }),
         },
     }
+}
+
+/// A text whose letters at this place are not in UTF-8.
+fn other_letters(bytes: &[u8], place: usize) -> Trouble {
+    let before = String::from_utf8_lossy(&bytes[..place]);
+    let line = before.split('\n').last().unwrap_or_default();
+    let error = Error {
+        line: before.matches('\n').count() + 1,
+        column: line.chars().count() + 1,
+        width: 1,
+        reason: format!("byte 0x{:02X} is no letter in UTF-8", bytes[place]),
+    };
+    Trouble::Text { text: String::from_utf8_lossy(bytes).into_owned(), errors: vec![error] }
 }
 
 /// An input if the bytes are one, else an image, unless it is said which.
