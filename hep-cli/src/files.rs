@@ -5,10 +5,10 @@ use crate::closed;
 use crate::status::Failure;
 use hep_tools::tool::load::{self, Loaded, Reading, Trouble};
 use hep_tools::tool::text::assemble;
-use std::fs::{self, File};
+use std::fs::{self, File, Metadata};
 use std::io::{self, IsTerminal, Read};
 use std::os::fd::AsFd;
-use std::path::PathBuf;
+use std::os::unix::fs::MetadataExt;
 use std::sync::Mutex;
 
 pub const INPUT: Opt = flag("input", "bytes and hex digits are a batch input");
@@ -22,12 +22,30 @@ pub const SCHEDULE: Opt = valued(
 /// The name of standard input in messages.
 const STANDARD: &str = "<stdin>";
 
-/// The files that were read: none of them is written over.
-static READ: Mutex<Vec<PathBuf>> = Mutex::new(Vec::new());
+/// A file on the disk whatever its name is: its device and its inode, which hard links have in common.
+type Identity = (u64, u64);
 
-/// Whether this file was read.
-pub fn was_read(file: &str) -> bool {
-    fs::canonicalize(file).is_ok_and(|path| READ.lock().is_ok_and(|read| read.contains(&path)))
+/// The files that were read: none of them is written over.
+static READ: Mutex<Vec<Identity>> = Mutex::new(Vec::new());
+
+/// Of a pipe or a device there is none.
+fn identity(file: io::Result<Metadata>) -> Option<Identity> {
+    file.ok().filter(Metadata::is_file).map(|file| (file.dev(), file.ino()))
+}
+
+/// The identity of a file that is to be read; `-` is standard input.
+fn identity_read(file: &str) -> Option<Identity> {
+    match file {
+        "-" => identity(standard().and_then(|input| input.metadata())),
+        _ => identity(fs::metadata(file)),
+    }
+}
+
+/// Whether what is to be written is a file that was read, or one of those that will be.
+pub fn is_read(written: &str, to_read: &[String]) -> bool {
+    let Some(written) = identity(fs::metadata(written)) else { return false };
+    let was_read = READ.lock().is_ok_and(|read| read.contains(&written));
+    was_read || to_read.iter().any(|file| identity_read(file) == Some(written))
 }
 
 /// What a file is called in messages.
@@ -58,17 +76,21 @@ pub fn read(file: &str) -> Result<Vec<u8>, Failure> {
         "-" => read_standard(),
         _ => fs::read(file),
     };
-    if let (Ok(path), Ok(mut read)) = (fs::canonicalize(file), READ.lock()) {
-        read.push(path);
+    if let (Some(identity), Ok(mut read)) = (identity_read(file), READ.lock()) {
+        read.push(identity);
     }
     let name = if file == "-" { "standard input" } else { file };
     read.map_err(|error| Failure::broken(name, error))
 }
 
 /// Standard input through a descriptor of its own: the library's handle takes one that can't be read for an empty file.
+fn standard() -> io::Result<File> {
+    Ok(File::from(io::stdin().as_fd().try_clone_to_owned()?))
+}
+
 fn read_standard() -> io::Result<Vec<u8>> {
     let mut bytes = Vec::new();
-    File::from(io::stdin().as_fd().try_clone_to_owned()?).read_to_end(&mut bytes)?;
+    standard()?.read_to_end(&mut bytes)?;
     Ok(bytes)
 }
 

@@ -35,9 +35,7 @@ impl Sink {
     }
 
     pub fn file(name: &str) -> Result<Sink, Failure> {
-        if files::was_read(name) {
-            return Err(Failure::broken(name, "it was read, and is not written over"));
-        }
+        not_read(name, &[])?;
         let file = File::create(name).map_err(|error| Failure::broken(name, error))?;
         Ok(Sink { name: name.to_string(), to: BufWriter::new(file) })
     }
@@ -57,6 +55,14 @@ impl Sink {
             ErrorKind::BrokenPipe => Failure::reader_gone(),
             _ => Failure::broken(&self.name, error),
         })
+    }
+}
+
+/// That a file that is to be written was not read, and is none of those that will be.
+pub fn not_read(name: &str, to_read: &[String]) -> Result<(), Failure> {
+    match files::is_read(name, to_read) {
+        true => Err(Failure::broken(name, "it is a file that is read, and is not written over")),
+        false => Ok(()),
     }
 }
 

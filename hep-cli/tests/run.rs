@@ -225,15 +225,32 @@ fn what_cannot_be_read_or_written() {
 }
 
 #[test]
-fn a_file_that_was_read_is_not_written_over() {
+fn a_file_that_is_read_is_not_written_over() {
     let folder = Folder::new("written-over");
-    let file = folder.file("own.hep", TEXT);
-    for command in ["run", "timeline", "dump", "asm"] {
-        let ended = hep(&[command, "-o", &file, &file], b"");
-        let words = format!("hep: {file}: it was read, and is not written over\n");
-        assert_eq!((ended.code, ended.err), (2, words), "{command}");
-        assert_eq!(fs::read(&file).unwrap(), TEXT.as_bytes());
+    let (file, other) = (folder.file("own.hep", TEXT), folder.file("other.hep", TEXT));
+    let (hard, soft) = (folder.path("hard.hep"), folder.path("soft.hep"));
+    fs::hard_link(&file, &hard).unwrap();
+    std::os::unix::fs::symlink(&file, &soft).unwrap();
+    for to in [&file, &hard, &soft] {
+        let lines = [
+            format!("$HEP run -o {to} {file}"),
+            format!("$HEP run -o {to} < {file}"),
+            format!("$HEP run --log {to} {file}"),
+            format!("$HEP run --log {to} {other} {file}"),
+            format!("$HEP run --log {to} < {file}"),
+            format!("$HEP timeline -o {to} {file}"),
+            format!("$HEP dump -o {to} {file}"),
+            format!("$HEP asm -o {to} {file}"),
+        ];
+        for line in lines {
+            let ended = shell(&line);
+            let words = format!("hep: {to}: it is a file that is read, and is not written over\n");
+            assert_eq!((ended.code, ended.err, ended.out), (2, words, String::new()), "{line}");
+            assert_eq!(fs::read(&file).unwrap(), TEXT.as_bytes(), "{line}");
+        }
     }
+    assert_eq!(shell("$HEP run -o /dev/null --log /dev/null --image < /dev/null").code, 1);
+    assert_eq!(hep(&["run", "--log", &other, &file], b"").code, 0);
 }
 
 #[test]

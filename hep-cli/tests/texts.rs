@@ -35,6 +35,9 @@ fn help_and_version() {
         assert_eq!(hep(&["help", &command], b""), help);
         assert!(help.out.lines().all(|line| line.chars().count() <= 170), "{}", help.out);
     }
+    let run = hep(&["run", "--help"], b"").out;
+    assert!(run.lines().next().unwrap().ends_with(" [FILE..]"), "{run}");
+    assert!(run.contains("Without FILE it\nreads standard input."), "{run}");
     let version = hep(&["--version"], b"");
     let number = fs::read_to_string(concat!(env!("CARGO_MANIFEST_DIR"), "/../VERSION")).unwrap();
     let level: u32 = number.split('.').nth(1).unwrap().parse().unwrap();

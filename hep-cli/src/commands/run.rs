@@ -13,11 +13,12 @@ mod log;
 
 pub const COMMAND: Command = Command {
     name: "run",
-    operands: "FILE..",
+    operands: "[FILE..]",
     summary: "run each file by the proved library, and report",
     about: "Runs each file's schedule by the proved library and writes the report, of one file the very bytes that\n\
             hep_batch writes, of several a line each: name, `accepted` or the refusal, counts. An image may have any\n\
-            size, a schedule any length: over 65,535 items it is run in slices, and the counts add up.",
+            size, a schedule any length: over 65,535 items it is run in slices, and the counts add up. Without FILE it\n\
+            reads standard input.",
     options: &[
         INPUT,
         IMAGE,
@@ -43,7 +44,7 @@ fn run(arguments: &Arguments) -> Result<Status, Failure> {
         _ => {}
     }
     let mut sink = Sink::standard()?;
-    let mut log = log::Log::new(arguments.value("log"), files.len())?;
+    let mut log = log::Log::new(arguments.value("log"), files)?;
     let mut worst = Status::Done;
     for file in files {
         let done = one(file, arguments);

@@ -34,16 +34,18 @@ pub struct Log {
 }
 
 impl Log {
-    pub fn new(name: Option<&str>, files: usize) -> Result<Self, Failure> {
+    pub fn new(name: Option<&str>, files: &[String]) -> Result<Self, Failure> {
         let file = match name {
             None => None,
             Some(name) => {
+                output::not_read(name, files)?;
                 let opened = OpenOptions::new().append(true).create(true).open(name);
                 Some((name.to_string(), opened.map_err(|error| Failure::broken(name, error))?))
             }
         };
-        let shown = files > 1 && io::stderr().is_terminal();
-        Ok(Log { file, shown, start: Instant::now(), files, done: 0, failed: 0 })
+        let shown = files.len() > 1 && io::stderr().is_terminal();
+        let start = Instant::now();
+        Ok(Log { file, shown, start, files: files.len(), done: 0, failed: 0 })
     }
 
     /// A file is done, with this line.
