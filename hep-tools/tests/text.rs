@@ -126,7 +126,7 @@ fn names_labels_and_repetitions() {
 }
 
 /// Bad text as lines behind `hep input`, with the line, column and reason.
-const BAD: [(&str, usize, usize, &str); 61] = [
+const BAD: [(&str, usize, usize, &str); 62] = [
     ("task", 2, 5, "a number should stand here"),
     ("task 0 cb=0", 2, 6, "the task must be from 1 to 7"),
     ("task 8 cb=0", 2, 6, "the task must be from 1 to 7"),
@@ -164,7 +164,8 @@ const BAD: [(&str, usize, usize, &str); 61] = [
     ),
     ("task 1 cb=0 rb=1 rx=0", 2, 18, "`rx` is no field here (did you mean `rb` or `rl`?)"),
     ("task 1 cb=0 rb=1", 2, 17, "rl, pb, pl, db, dl are missing"),
-    ("registrs", 2, 1, "`task`, `process` or a section should stand here (did you mean `registers`?)"),
+    ("registrs", 2, 1, "`registrs` is no section (did you mean `registers`?)"),
+    ("taks 1 cb=0", 2, 1, "`task`, `process` or a section should stand here (did you mean `task`?)"),
     ("constants\n7 qualty=5", 3, 3, "`qualty` is no field here (did you mean `quality`?)"),
     ("program\nstart: NOP\nB strat, c0, c0", 4, 3, "`strat` is unknown (did you mean `start`?)"),
     ("program\nMOVE r0, r1", 3, 1, "`MOVE` is no instruction (did you mean `MOV`?)"),
@@ -232,6 +233,51 @@ fn bad_text() {
     }
     let errors = assemble("hep image\nschedule\n").expect_err("an image has none");
     assert_eq!(errors[0].to_string(), "line 2, column 1: only `hep input` has a schedule");
+}
+
+/// A misspelt section is one error: its lines are read as those of the section that it means, or passed over.
+#[test]
+fn a_misspelt_section_is_one_error() {
+    let text = "hep input
+        task 1 cb=0 rb=0 rl=0 pb=0 pl=0 db=1 dl=0
+        process 0 task=1 pc=start
+        constants
+          7
+        registers
+          full 0 * 2
+        program
+        start:
+          ADD r0, r0, c0
+          B start, c1, c1
+          NOP * 14
+        data at 0
+          empty 0 * 32
+        schedule
+          1 * 4";
+    assert!(assemble(text).is_ok());
+    let told = |text: &str| -> Vec<String> {
+        assemble(text).unwrap_err().iter().map(ToString::to_string).collect()
+    };
+    for (word, wrong, line) in [
+        ("constants", "constnats", 4),
+        ("registers", "register", 6),
+        ("program", "Program", 8),
+        ("program", "progam at 0", 8),
+        ("data at", "dta at", 13),
+        ("schedule", "shedule", 15),
+    ] {
+        let (written, meant) = (wrong.split(' ').next().unwrap(), word.split(' ').next().unwrap());
+        let reason = format!("`{written}` is no section (did you mean `{meant}`?)");
+        let expected = format!("line {line}, column 9: {reason}");
+        assert_eq!(told(&text.replacen(word, wrong, 1)), [expected], "{wrong}");
+    }
+    let unknown = text.replacen("constants", "memory", 1);
+    let reason = "line 4, column 9: `task`, `process` or a section should stand here";
+    assert_eq!(told(&unknown), [reason]);
+    let both = text.replacen("registers", "registrs", 1).replacen("full 0 * 2", "fll 0 * 2", 1);
+    assert_eq!(told(&both)[1], "line 7, column 11: `full` or `empty` should stand here");
+    let named = text.replacen("constants", "name datum = 5\n        constants\n          datum", 1);
+    assert_eq!(assemble(&named).unwrap().draft.constants[0], (0, 5));
 }
 
 #[test]

@@ -4,7 +4,7 @@
 use super::instruction;
 use super::line::{Error, Line};
 use super::names::{no_field, plain_operand, Meaning, Names, KEYWORDS};
-use super::nearest::hint;
+use super::nearest::{hint, nearest};
 use super::symbols::Symbols;
 use super::Source;
 use crate::emulator::draft::{Draft, Process, Task};
@@ -30,11 +30,35 @@ const ROW: [(&str, u64); 7] = [
 enum Section {
     Start,
     Rows,
+    /// Behind a line that was told as no row and no section: the lines below it are passed over.
+    Unknown,
     Constants,
     Registers,
     Program,
     Data,
     Schedule,
+}
+
+/// The words that open a section.
+const SECTIONS: [(&str, Section); 5] = [
+    ("constants", Section::Constants),
+    ("registers", Section::Registers),
+    ("program", Section::Program),
+    ("data", Section::Data),
+    ("schedule", Section::Schedule),
+];
+
+/// The section that this word opens.
+fn section_named(word: &str) -> Option<Section> {
+    SECTIONS.iter().find(|(name, _)| *name == word).map(|(_, section)| *section)
+}
+
+/// The section that a misspelt head means, if there is one that is nearest.
+fn section_meant(head: &str) -> Option<Section> {
+    match nearest(head, KEYWORDS)[..] {
+        [near] => section_named(near),
+        _ => None,
+    }
 }
 
 /// A reading of the text.
@@ -79,18 +103,24 @@ pub fn assemble_named(text: &str) -> Result<(Source, Symbols), Vec<Error>> {
         let _ = first.line(&mut Line::new(i + 1, line));
     }
     names.complete = true;
-    let mut second = Reading::new(&mut names);
+    // Labels below a misspelt section are known once it has been told, so what is wrong is read again.
+    complete_reading(text, &mut names).or_else(|_| complete_reading(text, &mut names))
+}
+
+/// The reading in which every name is known.
+fn complete_reading(text: &str, names: &mut Names) -> Result<(Source, Symbols), Vec<Error>> {
+    let mut reading = Reading::new(names);
     let mut errors = Vec::new();
     for (i, line) in text.lines().enumerate() {
-        errors.extend(second.line(&mut Line::new(i + 1, line)).err());
-        if errors.len() == MOST_ERRORS || second.section == Section::Start && !errors.is_empty() {
+        errors.extend(reading.line(&mut Line::new(i + 1, line)).err());
+        if errors.len() == MOST_ERRORS || reading.section == Section::Start && !errors.is_empty() {
             break;
         }
     }
     if !errors.is_empty() {
         return Err(errors);
     }
-    second.finish(text.lines().count().max(1))
+    reading.finish(text.lines().count().max(1))
 }
 
 impl Reading<'_> {
@@ -106,14 +136,31 @@ impl Reading<'_> {
             "flag" => self.flag(line)?,
             "process" => self.process(line)?,
             "name" => self.name(line)?,
-            "constants" => self.open(line, Section::Constants)?,
-            "registers" => self.open(line, Section::Registers)?,
-            "program" => self.open(line, Section::Program)?,
-            "data" => self.open(line, Section::Data)?,
-            "schedule" => self.open_schedule(line)?,
-            _ => self.cell(line)?,
+            word => match section_named(word) {
+                Some(section) => self.open(line, section)?,
+                None if self.section == Section::Unknown => return Ok(()),
+                None => self.cell_or_head(line)?,
+            },
         }
         line.end()
+    }
+
+    /// A line of the open section. If it is wrong and looks like the head of another, that one is opened, so that its lines are not
+    /// told as wrong too.
+    fn cell_or_head(&mut self, line: &mut Line) -> Result<(), Error> {
+        let (start, head) = (line.mark(), line.head());
+        let Err(error) = self.cell(line) else { return Ok(()) };
+        line.back_to(start);
+        if let Some((head, section)) = head.and_then(|head| Some((head, section_meant(head)?))) {
+            // What is wrong behind the word shows when the word is right.
+            let _ = self.open(line, section);
+            let hint = hint(head, KEYWORDS);
+            return Err(line.error_at(start, format!("`{head}` is no section{hint}")));
+        }
+        if self.section == Section::Rows && nearest(line.peek(), KEYWORDS).is_empty() {
+            self.section = Section::Unknown;
+        }
+        Err(error)
     }
 
     fn header(&mut self, line: &mut Line) -> Result<(), Error> {
@@ -227,10 +274,21 @@ impl Reading<'_> {
         self.names.give(line, name, place, meaning)
     }
 
-    /// Opens a memory, with `at N` at that real address; the cells between are zero.
+    /// Opens a section.
     fn open(&mut self, line: &mut Line, section: Section) -> Result<(), Error> {
+        if section == Section::Schedule && self.schedule.is_none() {
+            return Err(line.error("only `hep input` has a schedule"));
+        }
         line.word();
         self.section = section;
+        if section == Section::Schedule {
+            return Ok(());
+        }
+        self.open_at(line, section)
+    }
+
+    /// `at N` behind a memory: it goes on at that real address; the cells between are zero.
+    fn open_at(&mut self, line: &mut Line, section: Section) -> Result<(), Error> {
         if !line.keyword("at") {
             return Ok(());
         }
@@ -249,19 +307,10 @@ impl Reading<'_> {
         Ok(())
     }
 
-    fn open_schedule(&mut self, line: &mut Line) -> Result<(), Error> {
-        if self.schedule.is_none() {
-            return Err(line.error("only `hep input` has a schedule"));
-        }
-        line.word();
-        self.section = Section::Schedule;
-        Ok(())
-    }
-
     /// The most cells of the open section.
     fn most(&self) -> usize {
         match self.section {
-            Section::Start | Section::Rows => 0,
+            Section::Start | Section::Rows | Section::Unknown => 0,
             Section::Constants => MOST_CONSTANTS,
             Section::Registers => REGISTERS,
             Section::Program | Section::Data => MOST_WORDS,
@@ -272,7 +321,7 @@ impl Reading<'_> {
     /// The cells of the open section so far.
     fn length(&self) -> usize {
         match self.section {
-            Section::Start | Section::Rows => 0,
+            Section::Start | Section::Rows | Section::Unknown => 0,
             Section::Constants => self.draft.constants.len(),
             Section::Registers => self.draft.registers.len(),
             Section::Program => self.draft.program.len(),
@@ -289,7 +338,7 @@ impl Reading<'_> {
             Section::Registers => draft.registers.extend(vec![(tag, word); times]),
             Section::Program => draft.program.extend(vec![word; times]),
             Section::Data => draft.data.extend(vec![(tag, word); times]),
-            Section::Start | Section::Rows | Section::Schedule => {}
+            Section::Start | Section::Rows | Section::Unknown | Section::Schedule => {}
         }
     }
 
@@ -298,7 +347,7 @@ impl Reading<'_> {
         let start = line.mark();
         let (mut word, mut tag, mut items, mut written) = (0, 0, Vec::new(), String::new());
         match self.section {
-            Section::Start | Section::Rows => {
+            Section::Start | Section::Rows | Section::Unknown => {
                 let hint = hint(line.peek(), KEYWORDS);
                 let reason = format!("`task`, `process` or a section should stand here{hint}");
                 return Err(line.error(reason));

@@ -66,6 +66,11 @@ impl<'a> Line<'a> {
         self.place
     }
 
+    /// Reads again from a place.
+    pub fn back_to(&mut self, place: usize) {
+        self.place = place;
+    }
+
     pub fn error_at(&self, place: usize, reason: impl Into<String>) -> Error {
         let column = self.text[..place].chars().count() + 1;
         let width = word_of(&self.text[place..]).len().max(1);
@@ -109,6 +114,14 @@ impl<'a> Line<'a> {
     /// The next word of letters, digits and underscores; it may be empty.
     pub fn peek(&mut self) -> &'a str {
         word_of(self.rest())
+    }
+
+    /// The next word, if it stands alone or before `at`, as the head of a section does.
+    pub fn head(&mut self) -> Option<&'a str> {
+        let word = self.peek();
+        let behind = word_of(self.rest()[word.len()..].trim_start());
+        let alone = self.rest().trim_end().len() == word.len();
+        (!word.is_empty() && (alone || behind == "at")).then_some(word)
     }
 
     /// Whether the next word stands before a `=`.

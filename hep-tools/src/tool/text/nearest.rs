@@ -1,10 +1,10 @@
 //! The known words nearest to one that is not known.
 
-/// ` (did you mean ..?)`, or nothing where no known word is near.
-pub fn hint<'a>(word: &str, known: impl IntoIterator<Item = &'a str>) -> String {
+/// The known words that are nearest, of which there is none where none is near.
+pub fn nearest<'a>(word: &str, known: impl IntoIterator<Item = &'a str>) -> Vec<&'a str> {
     let word = word.to_ascii_lowercase();
     let most = match word.len() {
-        0 | 1 => return String::new(),
+        0 | 1 => return Vec::new(),
         2..=3 => 1,
         4..=7 => 2,
         _ => 3,
@@ -14,12 +14,18 @@ pub fn hint<'a>(word: &str, known: impl IntoIterator<Item = &'a str>) -> String 
     near.sort();
     near.dedup();
     let least = near.first().map_or(usize::MAX, |first| first.0);
-    if least > most {
-        return String::new();
+    let best = near.into_iter().filter(|(distance, _)| *distance == least && least <= most);
+    best.map(|(_, word)| word).collect()
+}
+
+/// ` (did you mean ..?)`, or nothing where no known word is near.
+pub fn hint<'a>(word: &str, known: impl IntoIterator<Item = &'a str>) -> String {
+    let best: Vec<String> =
+        nearest(word, known).iter().take(3).map(|word| format!("`{word}`")).collect();
+    match best.is_empty() {
+        true => String::new(),
+        false => format!(" (did you mean {}?)", best.join(" or ")),
     }
-    let best = near.iter().take_while(|(distance, _)| *distance == least).take(3);
-    let best: Vec<String> = best.map(|(_, word)| format!("`{word}`")).collect();
-    format!(" (did you mean {}?)", best.join(" or "))
 }
 
 /// How many letters must be put in, left out, changed or exchanged with a neighbour.
