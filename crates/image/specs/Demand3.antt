@@ -22,7 +22,7 @@ pub record WholeRun (bytes schedule : List ℕ) (i : Image) : Type 0 where
   -- neither 9 nor 10 applies to the schedule
   pub scheduled : scheduleSound schedule ≡ true
   -- the flag is down at the end of the run
-  pub down : run schedule (stateOf i) .state .table .flag ≡ 0
+  pub down : run schedule (stateOf i) .state .table .users .flag ≡ 0
 
 -- two whole runs that agree on task t
 pub record Agreed (t : ℕ) (schedule schedule′ : List ℕ) (i i′ : Image) : Type 0 where

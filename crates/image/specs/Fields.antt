@@ -7,12 +7,11 @@ use lib.ListN.{length, drop}
 use lib.Dec.{eqb}
 use Rattle.window.specs.Memories.{Memory}
 use Rattle.step.specs.declared.Queue.{Queue}
-use Rattle.step.specs.Queues.{places, ptCount}
+use Rattle.step.specs.Queues.{places, queueCount, ptCount}
 use Rattle.step.specs.State.{State}
 use Rattle.step.specs.Soundness.{every}
 use Rattle.image.specs.Codec.{Bytes}
 use Rattle.image.specs.Image.{Image, good, stateOf, imageOf, decode}
-use Rattle.window.specs.Limits.{tasks}
 
 -- a state is the fields of its image; storage beyond them isn't compared, nor are the live counts, which the fields give
 unfoldable pub SameFields : State → State → Type 0
@@ -30,11 +29,11 @@ pub record SomeImageReads (s : State) : Type 0 where
 unfoldable pub paired : Memory → Bool
 paired m = eqb (length (m .tags)) (length (m .words))
 
--- the lengths of the arrays, which no image shows: 64 PSWs, 7 queues of 64 places, as many tags as words
+-- the lengths of the arrays, which no image shows: 64 PSWs, 16 queues of 64 places, as many tags as words
 unfoldable pub shaped : State → Bool
 shaped s =
-    (eqb (length (s .table .psw)) ptCount
-    && (eqb (length (s .table .queues)) tasks && every (λ n. eqb n places) (map (λ (q : Queue). length (q .pts)) (s .table .queues))))
+    (eqb (length (s .table .users .psw)) ptCount
+    && (eqb (length (s .table .users .queues)) queueCount && every (λ n. eqb n places) (map (λ (q : Queue). length (q .pts)) (s .table .users .queues))))
     && (paired (s .constants) && (paired (s .registers) && paired (s .dataWords)))
 
 -- a lent buffer with elements in its first places; beyond them it isn't touched

@@ -1,15 +1,15 @@
 -- The image: sections in fixed order, each after its count; what its fields are as a state; reading and writing.
-use Prim.Native.Nat.{ℕ, zero, suc, _-_}
+use Prim.Native.Nat.{ℕ, zero, suc, _+_, _-_, _*_, _/_, _%_}
 use mathlib.Core.Bool.{Bool, true, cond, not, _&&_}
 use mathlib.Core.List.{List, [], _∷_, _++_, map}
 use lib.ListN.{length, getD, set, replicate}
-use lib.Dec.{leb, eqb}
+use lib.Dec.{leb, ltb, eqb}
 use Rattle.word.specs.Fields.{pswSound}
 use Rattle.window.specs.declared.Row.{Row}
 use Rattle.window.specs.declared.Cell.{Cell}
 use Rattle.window.specs.Memories.{Memory, memory, cell, tagOf, wordOf}
 use Rattle.step.specs.declared.Queue.{Queue}
-use Rattle.step.specs.Queues.{places, listOf, ptCount}
+use Rattle.step.specs.Queues.{places, queueCount, listOf, ptCount}
 use Rattle.step.specs.State.{State}
 use Rattle.step.specs.Act.{tableOf}
 use Rattle.window.specs.Sound.{bits, qualitySound, tagSound, stateSound}
@@ -75,20 +75,34 @@ toProcess fields = let (pt, (task, psw)) = fields in record { pt = pt; task = ta
 abbrev pub fromProcess : Process → ProcessFields
 fromProcess p = (p .pt, (p .task, p .psw))
 
--- a process of a listed task, after one of task `before`
+-- the number of the queue that a task byte names, and the byte that names a queue: the task, and hex 10 more for its SFU queue
+unfoldable pub queueOfByte : (b : ℕ) → ℕ
+queueOfByte b = 2 * (b % 16) + b / 16
+
+unfoldable pub byteOfQueue : (k : ℕ) → ℕ
+byteOfQueue k = k / 2 + 16 * (k % 2)
+
+-- a task byte: a listed task, and no SFU queue
+unfoldable pub byteSound : List Row → (b : ℕ) → Bool
+byteSound rows b = ltb b 16 && hasRow (b % 16) rows
+
+-- a process of a listed task, after one of the queue with number `before`
 unfoldable pub processCodec : List Row → (before : ℕ) → Codec Process
 processCodec rows before =
     via toProcess fromProcess
     (seq (num 1 ProcessField ptSound) (λ pt.
-    seq (num 1 ProcessField (λ t. leb before t && hasRow t rows)) (λ task.
+    seq (num 1 ProcessField (λ b. leb before (queueOfByte b) && byteSound rows b)) (λ task.
     num 8 ProcessField pswSound)))
 
-abbrev pub processTask : ℕ → Process → ℕ
-processTask before p = p .task
+abbrev pub processQueue : Process → ℕ
+processQueue p = queueOfByte (p .task)
+
+abbrev pub queueAfter : (before : ℕ) → Process → ℕ
+queueAfter before p = processQueue p
 
 -- the flag, and the processes
 unfoldable pub processesCodec : List Row → Codec (ℕ × List Process)
-processesCodec rows = section (num 1 ProcessField flagSound) (processCodec rows) processTask 1 ptCount 0
+processesCodec rows = section (num 1 ProcessField flagSound) (processCodec rows) queueAfter 1 ptCount 0
 
 -- ---- constants: count 2 (to 4,096); quality 1, word. Registers: count 2 (to 2,048); tag 1, word. Program: count 4 (to 2^20), words. Data:
 -- count 4 (to 2^20); state 1, word. Words are 8 bytes
@@ -172,19 +186,19 @@ processLength = 10
 abbrev pub ptOf : Process → ℕ
 ptOf p = p .pt
 
--- the PTs of task t, in their order
-unfoldable pub ptsOf : (t : ℕ) → List Process → List ℕ
-ptsOf t [] = []
-ptsOf t (p ∷ ps) = cond (eqb (p .task) t) (p .pt ∷ ptsOf t ps) (ptsOf t ps)
+-- the PTs of the queue with number k, in their order
+unfoldable pub ptsOf : (k : ℕ) → List Process → List ℕ
+ptsOf k [] = []
+ptsOf k (p ∷ ps) = cond (eqb (processQueue p) k) (p .pt ∷ ptsOf k ps) (ptsOf k ps)
 
 -- a queue of these PTs from the start of its array
 unfoldable pub queueOf : List ℕ → Queue
 queueOf pts = record { pts = pts ++ replicate (places - length pts) 0; head = 0; len = length pts }
 
--- the queues of n tasks from task t on
-unfoldable pub queuesOf : (n t : ℕ) → List Process → List Queue
-queuesOf zero t ps = []
-queuesOf (suc n) t ps = queueOf (ptsOf t ps) ∷ queuesOf n (suc t) ps
+-- n queues from number k on
+unfoldable pub queuesOf : (n k : ℕ) → List Process → List Queue
+queuesOf zero k ps = []
+queuesOf (suc n) k ps = queueOf (ptsOf k ps) ∷ queuesOf n (suc k) ps
 
 -- each process's PSW at its PT
 unfoldable pub pswTable : List Process → List ℕ
@@ -198,7 +212,7 @@ memoryOf cells = memory (map tagOf cells) (map wordOf cells)
 unfoldable pub stateOf : Image → State
 stateOf i = record {
   rows = i .rows;
-  table = tableOf (pswTable (i .processes)) (queuesOf tasks 1 (i .processes)) (i .flag);
+  table = tableOf (pswTable (i .processes)) (queuesOf queueCount 0 (i .processes)) (i .flag);
   constants = memoryOf (i .constants);
   registers = memoryOf (i .registers);
   program = i .program;
@@ -207,15 +221,15 @@ stateOf i = record {
 
 -- ---- the fields of a state
 
--- the processes of task t in queue order
-unfoldable pub processesIn : (psw : List ℕ) → (t : ℕ) → (pts : List ℕ) → List Process
-processesIn psw t [] = []
-processesIn psw t (p ∷ pts) = record { pt = p; task = t; psw = getD psw p 0 } ∷ processesIn psw t pts
+-- the processes of the queue with number k in its order
+unfoldable pub processesIn : (psw : List ℕ) → (k : ℕ) → (pts : List ℕ) → List Process
+processesIn psw k [] = []
+processesIn psw k (p ∷ pts) = record { pt = p; task = byteOfQueue k; psw = getD psw p 0 } ∷ processesIn psw k pts
 
--- the processes of the tasks from t on
-unfoldable pub processesFrom : (psw : List ℕ) → (t : ℕ) → List Queue → List Process
-processesFrom psw t [] = []
-processesFrom psw t (q ∷ qs) = processesIn psw t (listOf q) ++ processesFrom psw (suc t) qs
+-- the processes of the queues from number k on
+unfoldable pub processesFrom : (psw : List ℕ) → (k : ℕ) → List Queue → List Process
+processesFrom psw k [] = []
+processesFrom psw k (q ∷ qs) = processesIn psw k (listOf q) ++ processesFrom psw (suc k) qs
 
 unfoldable pub cellsOf : (tags words : List ℕ) → List Cell
 cellsOf [] words = []
@@ -226,8 +240,8 @@ cellsOf (t ∷ tags) (w ∷ words) = cell t w ∷ cellsOf tags words
 unfoldable pub imageOf : State → Image
 imageOf s = record {
   rows = s .rows;
-  flag = s .table .flag;
-  processes = processesFrom (s .table .psw) 1 (s .table .queues);
+  flag = s .table .users .flag;
+  processes = processesFrom (s .table .users .psw) 0 (s .table .users .queues);
   constants = cellsOf (s .constants .tags) (s .constants .words);
   registers = cellsOf (s .registers .tags) (s .registers .words);
   program = s .program;

@@ -36,8 +36,8 @@ reads-only-sound b hb i h = decode-sound b hb i h
 
 -- a state is sound exactly if its arrays have the machine's lengths, its live counts are those found by counting, and some accepted image
 -- reads as it
-pub sound-iff : (s : State) → (sound s ≡ true) ↔ ((shaped s ≡ true) × (Counted (s .table) × SomeImageReads s))
+pub sound-iff : (s : State) → (sound s ≡ true) ↔ ((shaped s ≡ true) × (Counted (s .table .users) × SomeImageReads s))
 sound-iff s = (
   (λ e. (shape-shaped s (shape-of s e), (sound-counted s e, image-of-sound s e))),
-  (λ p. sound-of-image s (p .0) (counted-passes (s .table) (p .1 .0 .counts) (p .1 .0 .total)) (p .1 .1)),
+  (λ p. sound-of-image s (p .0) (counted-passes (s .table .users) (p .1 .0 .counts) (p .1 .0 .total)) (p .1 .1)),
 )

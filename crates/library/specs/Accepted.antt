@@ -31,7 +31,7 @@ accepted-by-any-room room bytes i d f = read-unrefused room bytes i d f
 pub record SomeImageHeld (n : Sizes) (b : Buffers) : Type 0 where
   pub fitting : fits n (roomOf b) ≡ true
   pub lengths : shaped (fieldsIn n b) ≡ true
-  pub counted : Counted (b .table)
+  pub counted : Counted (b .table .users)
   pub read : SomeImageReads (fieldsIn n b)
 
 -- a state in buffers is accepted exactly then

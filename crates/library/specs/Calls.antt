@@ -9,7 +9,7 @@ use lib.ListN.{length}
 use Rattle.refusal.specs.declared.Refusal.{Refusal}
 use Rattle.refusal.specs.declared.Refusal.the-variants.{ShortBuffer, UnsoundState, ItemOutOfRange}
 use Rattle.step.specs.declared.Ending.{Ending}
-use Rattle.step.specs.Step.{step}
+use Rattle.step.specs.Step.{item}
 use Rattle.step.specs.Soundness.{sound}
 use Rattle.run.specs.declared.Counts.{Counts}
 use Rattle.run.specs.Schedule.{itemSound, scheduleRefusal}
@@ -99,10 +99,10 @@ unfoldable pub stepRefusal : Sizes → Buffers → (t : ℕ) → Option Refusal
 stepRefusal n b t = orElse (stateRefusal n b) (taskRefusal t)
 
 unfoldable pub stepAnswer : Sizes → Buffers → (t : ℕ) → Answer Ending
-stepAnswer n b t = unless (stepRefusal n b t) (step t (fieldsIn n b) .ending)
+stepAnswer n b t = unless (stepRefusal n b t) (item t (fieldsIn n b) .ending)
 
 unfoldable pub stepLeaves : Sizes → Buffers → (t : ℕ) → Buffers
-stepLeaves n b t = leaving (stepAnswer n b t) b (holding (step t (fieldsIn n b) .state) b)
+stepLeaves n b t = leaving (stepAnswer n b t) b (holding (item t (fieldsIn n b) .state) b)
 
 -- ---- writing into a buffer of bytes: 8, then 7. Its answer is the length of the image
 

@@ -6,7 +6,7 @@ use Rattle.window.specs.Limits.{tasks}
 use Rattle.step.specs.declared.Queue.{Queue}
 use Rattle.step.specs.declared.ProcessTable.{ProcessTable}
 use Rattle.step.specs.Act.{tableOf}
-use Rattle.step.specs.Queues.{places, ptCount}
+use Rattle.step.specs.Queues.{places, queueCount, ptCount}
 use Rattle.step.specs.Step.{noTrap}
 
 -- a row of no task
@@ -21,6 +21,6 @@ noRows = replicate tasks emptyRow
 unfoldable pub emptyQueue : Queue
 emptyQueue = record { pts = replicate places 0; head = 0; len = 0 }
 
--- the process table of seven such queues; the create fault flag is down
+-- the process table of such queues; the create fault flag is down
 unfoldable pub noProcesses : ProcessTable
-noProcesses = tableOf (replicate ptCount 0) (replicate tasks emptyQueue) 0
+noProcesses = tableOf (replicate ptCount 0) (replicate queueCount emptyQueue) 0

@@ -3,7 +3,7 @@ use Prim.Native.Nat.{ℕ}
 use mathlib.Core.Path.{_≡_, ap, _∙_}
 use mathlib.Core.Option.{none}
 use mathlib.Core.List.{List}
-use Rattle.step.specs.Step.{step}
+use Rattle.step.specs.Step.{item}
 use Rattle.run.specs.Run.{run}
 use Rattle.image.specs.Image.{Image, stateOf, good, decode}
 use Rattle.library.specs.declared.Sizes.{Sizes}
@@ -37,10 +37,10 @@ run-touches-no-more n b schedule e =
     rw e (holding-spare n (run schedule (fieldsIn n b) .state) b (run-sized n b schedule (run-parts n b schedule e .0)))
 
 -- after a step that isn't refused they are, by the same counts, the state after the step
-pub step-in-place : (n : Sizes) (b : Buffers) (t : ℕ) → stepRefusal n b t ≡ none → fieldsIn n (stepLeaves n b t) ≡ step t (fieldsIn n b) .state
+pub step-in-place : (n : Sizes) (b : Buffers) (t : ℕ) → stepRefusal n b t ≡ none → fieldsIn n (stepLeaves n b t) ≡ item t (fieldsIn n b) .state
 unfolding stepLeaves stepAnswer unless leaving
-step-in-place n b t e = rw e (holding-fields n (step t (fieldsIn n b) .state) b (step-sized n b t (step-parts n b t e .0)))
+step-in-place n b t e = rw e (holding-fields n (item t (fieldsIn n b) .state) b (step-sized n b t (step-parts n b t e .0)))
 
 pub step-touches-no-more : (n : Sizes) (b : Buffers) (t : ℕ) → stepRefusal n b t ≡ none → spareIn n (stepLeaves n b t) ≡ spareIn n b
 unfolding stepLeaves stepAnswer unless leaving
-step-touches-no-more n b t e = rw e (holding-spare n (step t (fieldsIn n b) .state) b (step-sized n b t (step-parts n b t e .0)))
+step-touches-no-more n b t e = rw e (holding-spare n (item t (fieldsIn n b) .state) b (step-sized n b t (step-parts n b t e .0)))

@@ -8,7 +8,7 @@ use lib.ListN.{length, take, drop}
 use lib.Seq.{take-append-seam}
 use Rattle.step.specs.declared.Ending.{Ending}
 use Rattle.step.specs.State.{State}
-use Rattle.step.specs.Step.{step}
+use Rattle.step.specs.Step.{item}
 use Rattle.step.specs.Soundness.{sound}
 use Rattle.run.specs.declared.Counts.{Counts}
 use Rattle.run.specs.Schedule.{scheduleSound}
@@ -103,8 +103,8 @@ pub record StepThenRun (n : Sizes) (b : Buffers) (t : ℕ) (ts : List ℕ) : Typ
 
 pub step-then-run : (n : Sizes) (b : Buffers) (t : ℕ) (ts : List ℕ) → runRefusal n b (t ∷ ts) ≡ none → StepThenRun n b t ts
 step-then-run n b t ts e = record {
-  ending = step t (fieldsIn n b) .ending;
-  others = run ts (step t (fieldsIn n b) .state) .counts;
+  ending = item t (fieldsIn n b) .ending;
+  others = run ts (item t (fieldsIn n b) .state) .counts;
   stepped = step-answers n b t ts e;
   ran = others-answer n b t ts e;
   answer = all-answers n b t ts e;

@@ -11,6 +11,7 @@ use Rattle.step.specs.declared.ProcessTable.{ProcessTable}
 use Rattle.step.specs.Act.{tableOf}
 use Rattle.step.specs.Step.{noTrap}
 use Rattle.step.specs.declared.Ending.the-variants.{Executed, Idle}
+use Rattle.step.specs.declared.Queue.{Queue}
 use Rattle.image.specs.Image.{Image, imageCodec, queueOf, stateOf}
 use Rattle.library.specs.declared.Sizes.{Sizes}
 use Rattle.library.specs.Buffers.{Buffers, Room, spareIn, holding}
@@ -124,16 +125,20 @@ withTable table = withParts table (3 ∷ [])
 unfoldable pub withQuality : ℕ → Buffers
 withQuality q = withParts (stateOf trialImage .table) (q ∷ [])
 
+-- all queues empty but the one with number k
+unfoldable pub oneQueue : (k : ℕ) → Queue → List Queue
+oneQueue k q = replicate k (queueOf []) ++ (q ∷ replicate (15 - k) (queueOf []))
+
 -- tables that no image gives: a PT twice; a process of a task that has no row
 unfoldable pub ptTwice : ProcessTable
-ptTwice = tableOf (replicate 64 0) (queueOf [] ∷ queueOf (4 ∷ 4 ∷ []) ∷ replicate 5 (queueOf [])) 0
+ptTwice = tableOf (replicate 64 0) (oneQueue 4 (queueOf (4 ∷ 4 ∷ []))) 0
 
 unfoldable pub unlisted : ProcessTable
-unlisted = tableOf (replicate 64 0) (queueOf (4 ∷ []) ∷ replicate 6 (queueOf [])) 0
+unlisted = tableOf (replicate 64 0) (oneQueue 2 (queueOf (4 ∷ []))) 0
 
 -- task 2 has its process, and these live counts are stored
 unfoldable pub withLive : (live : List ℕ) → (processes : ℕ) → Buffers
-withLive live n = withTable (record { psw = replicate 64 0; queues = queueOf [] ∷ queueOf (4 ∷ []) ∷ replicate 5 (queueOf []); flag = 0; live = live; processes = n })
+withLive live n = withTable (record { users = record { psw = replicate 64 0; queues = oneQueue 4 (queueOf (4 ∷ [])); flag = 0; live = live; count = n } })
 
 -- ---- the trials
 
@@ -181,12 +186,12 @@ pub record RunTrials : Type 0 where
   pub quality : numbered (runRefusal trialSizes (withQuality 7) (0 ∷ [])) ≡ 8
   pub stray : numbered (runRefusal trialSizes (withTable unlisted) (2 ∷ [])) ≡ 8
   -- the live counts that its queues have; one more and one less of task 2 and in all, and one of a task without processes: 8
-  pub counted : numbered (runRefusal trialSizes (withLive (0 ∷ 1 ∷ replicate 5 0) 1) (2 ∷ [])) ≡ 0
-  pub countUp : numbered (runRefusal trialSizes (withLive (0 ∷ 2 ∷ replicate 5 0) 1) (2 ∷ [])) ≡ 8
-  pub countDown : numbered (runRefusal trialSizes (withLive (replicate 7 0) 1) (2 ∷ [])) ≡ 8
-  pub countAside : numbered (runRefusal trialSizes (withLive (1 ∷ 0 ∷ replicate 5 0) 1) (2 ∷ [])) ≡ 8
-  pub totalUp : numbered (runRefusal trialSizes (withLive (0 ∷ 1 ∷ replicate 5 0) 2) (2 ∷ [])) ≡ 8
-  pub totalDown : numbered (runRefusal trialSizes (withLive (0 ∷ 1 ∷ replicate 5 0) 0) (2 ∷ [])) ≡ 8
+  pub counted : numbered (runRefusal trialSizes (withLive (0 ∷ 0 ∷ 1 ∷ replicate 5 0) 1) (2 ∷ [])) ≡ 0
+  pub countUp : numbered (runRefusal trialSizes (withLive (0 ∷ 0 ∷ 2 ∷ replicate 5 0) 1) (2 ∷ [])) ≡ 8
+  pub countDown : numbered (runRefusal trialSizes (withLive (replicate 8 0) 1) (2 ∷ [])) ≡ 8
+  pub countAside : numbered (runRefusal trialSizes (withLive (0 ∷ 1 ∷ 0 ∷ replicate 5 0) 1) (2 ∷ [])) ≡ 8
+  pub totalUp : numbered (runRefusal trialSizes (withLive (0 ∷ 0 ∷ 1 ∷ replicate 5 0) 2) (2 ∷ [])) ≡ 8
+  pub totalDown : numbered (runRefusal trialSizes (withLive (0 ∷ 0 ∷ 1 ∷ replicate 5 0) 0) (2 ∷ [])) ≡ 8
   -- a state that is one, and a list that is refused: 9, 10
   pub long : numbered (runRefusal trialSizes (buffersOf exact) (replicate 65536 2)) ≡ 9
   pub item : numbered (runRefusal trialSizes (buffersOf exact) (2 ∷ 0 ∷ [])) ≡ 10
@@ -196,14 +201,14 @@ pub record RunTrials : Type 0 where
 pub record StepTrials : Type 0 where
   -- a state that no image reads as: 8, before 10; a state that is one, and a task that isn't: 10
   pub first : numbered (stepRefusal trialSizes (withTable ptTwice) 0) ≡ 8
-  pub counted : numbered (stepRefusal trialSizes (withLive (0 ∷ 2 ∷ replicate 5 0) 1) 2) ≡ 8
+  pub counted : numbered (stepRefusal trialSizes (withLive (0 ∷ 0 ∷ 2 ∷ replicate 5 0) 1) 2) ≡ 8
   pub low : numbered (stepRefusal trialSizes (buffersOf exact) 0) ≡ 10
   pub high : numbered (stepRefusal trialSizes (buffersOf exact) 8) ≡ 10
   -- refused: nothing is touched
   pub left : stepLeaves trialSizes (buffersOf exact) 8 ≡ buffersOf exact
   -- the task's NOP: executed, and its process goes on at PC 1
   pub executed : stepAnswer trialSizes (buffersOf exact) 2 ≡ answers Executed
-  pub next : getD (stepLeaves trialSizes (buffersOf exact) 2 .table .psw) 4 0 ≡ 1
+  pub next : getD (stepLeaves trialSizes (buffersOf exact) 2 .table .users .psw) 4 0 ≡ 1
   -- an unlisted task: idle, and nothing is touched
   pub idle : stepAnswer trialSizes (buffersOf exact) 3 ≡ answers Idle
   pub still : stepLeaves trialSizes (buffersOf exact) 3 ≡ buffersOf exact
@@ -215,11 +220,11 @@ pub record WriteTrials : Type 0 where
   -- 8 comes before 7
   pub first : numbered (writeRefusal trialSizes (withTable ptTwice) 0) ≡ 8
   -- live counts as its queues have them; one more and one less of task 2 and in all: 8
-  pub counted : numbered (writeRefusal trialSizes (withLive (0 ∷ 1 ∷ replicate 5 0) 1) 1000) ≡ 0
-  pub countUp : numbered (writeRefusal trialSizes (withLive (0 ∷ 2 ∷ replicate 5 0) 1) 1000) ≡ 8
-  pub countDown : numbered (writeRefusal trialSizes (withLive (replicate 7 0) 1) 1000) ≡ 8
-  pub totalUp : numbered (writeRefusal trialSizes (withLive (0 ∷ 1 ∷ replicate 5 0) 2) 1000) ≡ 8
-  pub totalDown : numbered (writeRefusal trialSizes (withLive (0 ∷ 1 ∷ replicate 5 0) 0) 1000) ≡ 8
+  pub counted : numbered (writeRefusal trialSizes (withLive (0 ∷ 0 ∷ 1 ∷ replicate 5 0) 1) 1000) ≡ 0
+  pub countUp : numbered (writeRefusal trialSizes (withLive (0 ∷ 0 ∷ 2 ∷ replicate 5 0) 1) 1000) ≡ 8
+  pub countDown : numbered (writeRefusal trialSizes (withLive (replicate 8 0) 1) 1000) ≡ 8
+  pub totalUp : numbered (writeRefusal trialSizes (withLive (0 ∷ 0 ∷ 1 ∷ replicate 5 0) 2) 1000) ≡ 8
+  pub totalDown : numbered (writeRefusal trialSizes (withLive (0 ∷ 0 ∷ 1 ∷ replicate 5 0) 0) 1000) ≡ 8
   -- the answer is the length; the bytes are those that were read, and beyond them nothing is touched
   pub answer : writeAnswer trialSizes (buffersOf exact) 1000 ≡ answers (length trialBytes)
   pub bytes : writeLeaves trialSizes (buffersOf exact) (replicate 300 9) ≡ trialBytes ++ drop (length trialBytes) (replicate 300 9)
@@ -227,7 +232,7 @@ pub record WriteTrials : Type 0 where
 
 -- naming this opens what the trials use
 unfoldable pub trialled : ℕ
-unfolding opened spareIn numbered trialImage trialBytes trialSizes roomLess longer noBuffers buffersOf withParts withTable withQuality ptTwice unlisted withLive
+unfolding opened spareIn numbered trialImage trialBytes trialSizes roomLess longer noBuffers buffersOf withParts withTable withQuality oneQueue ptTwice unlisted withLive
 trialled = 0
 
 pub read-trials : ReadTrials

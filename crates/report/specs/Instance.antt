@@ -182,7 +182,7 @@ pub record Instance : Type 0 where
   pub registers : cut (registerWindow (instanceRow 1 0)) (ranA .state .registers .words) ≡ 42 ∷ 142 ∷ 0 ∷ 142 ∷ []
   pub datum : cellAt (ranA .state .dataWords) 0 ≡ cell 0 142
   -- the process that it created waits at the LODI; the creator is two instructions further
-  pub processes : processesOf (ranA .state .table) 1 ≡ 4 ∷ 6 ∷ []
+  pub processes : processesOf (ranA .state .table .users) 1 ≡ 4 ∷ 6 ∷ []
   pub countsA : ranA .counts ≡ counts 12 1 0 0
   -- task 2 filled two registers and its first data word
   pub registersA : cut (registerWindow (instanceRow 2 1)) (ranA .state .registers .words) ≡ (2 ^ 64 - 1) ∷ (2 ^ 64 - 1) ∷ 0 ∷ 0 ∷ []
@@ -190,7 +190,7 @@ pub record Instance : Type 0 where
   -- task 3 stored and loaded 100; one of its processes left, the other trapped with kind 16 at PC 8, and its last item was idle
   pub registersB : cut (registerWindow (instanceRow 3 1)) (ranB .state .registers .words) ≡ 300 ∷ 100 ∷ 0 ∷ 0 ∷ []
   pub datumB : cellAt (ranB .state .dataWords) 32 ≡ cell 1 100
-  pub trapB : own 3 (ranB .state) ≡ some (owner (trappedRow (instanceRow 3 1) PrivilegedInstruction 8) (8 ∷ []))
+  pub trapB : own 3 (ranB .state) ≡ some (owner (trappedRow (instanceRow 3 1) PrivilegedInstruction 8) (8 ∷ []) [])
   pub countsB : ranB .counts ≡ counts 13 1 1 1
   -- by demand 3 of the report; the line of task 1
   pub reported : SameLine 1 (ranA .state) (ranB .state) (outputOf (inputOf scheduleA bytesA)) (outputOf (inputOf scheduleB bytesB))

@@ -61,7 +61,7 @@ pcText kind psw = cond (eqb kind noTrap) (45 ∷ 45 ∷ 45 ∷ 45 ∷ 45 ∷ [])
 unfoldable pub rowLine : ProcessTable → Row → List ℕ
 rowLine table r =
     decimal (r .task)
-    ++ (space ++ decimal (liveCount table (r .task)))
+    ++ (space ++ decimal (liveCount (table .users) (r .task)))
     ++ (space ++ kindText (r .kind))
     ++ (space ++ pcText (r .kind) (r .psw))
     ++ newline
@@ -81,7 +81,7 @@ countsLine c flag =
     ++ newline
 
 unfoldable pub reportOf : Ran → List ℕ
-reportOf r = rowLines (r .state .table) (r .state .rows) ++ countsLine (r .counts) (r .state .table .flag)
+reportOf r = rowLines (r .state .table) (r .state .rows) ++ countsLine (r .counts) (r .state .table .users .flag)
 
 -- refused: one line such as `R3`
 unfoldable pub refusalLine : Refusal → List ℕ

@@ -15,7 +15,7 @@ use Rattle.operation.specs.Exclusions.{instructionWord, Excluded, excluded}
 use Rattle.step.specs.declared.Ending.the-variants.{Executed, Trapped}
 use Rattle.step.specs.State.{State}
 use Rattle.step.specs.Act.{tableOf, Stepped}
-use Rattle.step.specs.Step.{noTrap, step}
+use Rattle.step.specs.Step.{noTrap, item}
 use Rattle.image.specs.Image.{queueOf}
 use Rattle.run.specs.Run.{run}
 use Rattle.report.specs.Report.{reportOf, outputOf}
@@ -35,7 +35,7 @@ upTo (suc n) = upTo n ++ (n ∷ [])
 unfoldable pub machine : (live w s1 s2 : ℕ) → State
 machine live w s1 s2 = record {
   rows = trialRow ∷ [];
-  table = tableOf (replicate 64 0) (queueOf (upTo live) ∷ replicate 6 (queueOf [])) 0;
+  table = tableOf (replicate 64 0) (replicate 2 (queueOf []) ++ (queueOf (upTo live) ∷ replicate 13 (queueOf []))) 0;
   constants = memory (0 ∷ []) (77 ∷ []);
   registers = memory (replicate 6 0 ++ (5 ∷ 0 ∷ [])) (replicate 6 0 ++ (s2 ∷ s1 ∷ []));
   program = w ∷ replicate 15 0;
@@ -44,7 +44,7 @@ machine live w s1 s2 = record {
 
 -- one step of task 1 over an instruction
 unfoldable pub stepped : (w s1 s2 : ℕ) → Stepped
-stepped w s1 s2 = step 1 (machine 1 w s1 s2)
+stepped w s1 s2 = item 1 (machine 1 w s1 s2)
 
 -- D after a step, register 6: its tag and its word
 unfoldable pub registerD : Stepped → Cell
@@ -56,7 +56,7 @@ resultD code s1 s2 = registerD (stepped (instructionWord code 0 1 0) s1 s2)
 
 -- the PSW of the process after B to 9 by test C on S2, S1 being zero
 unfoldable pub branchOn : (c s2 : ℕ) → ℕ
-branchOn c s2 = getD (stepped (instructionWord (0x3800 + c * 16) 9 0x4000 0) 0 s2 .state .table .psw) 0 0
+branchOn c s2 = getD (stepped (instructionWord (0x3800 + c * 16) 9 0x4000 0) 0 s2 .state .table .users .psw) 0 0
 
 -- CREATE always, ACT 0, S1 and S2 constants
 unfoldable pub create : ℕ
@@ -86,10 +86,10 @@ pub record Starred : Type 0 where
   pub even-0 : branchOn 0xE 0 ≡ 9
   pub odd-0 : branchOn 0xF 0 ≡ 1
   -- create at 62 live: no fault, at 63: fault
-  pub create-62 : step 1 (machine 62 create 0 0) .ending ≡ Executed
-  pub create-62-flag : step 1 (machine 62 create 0 0) .state .table .flag ≡ 0
-  pub create-63 : step 1 (machine 63 create 0 0) .ending ≡ Trapped CreateFault 1
-  pub create-63-flag : step 1 (machine 63 create 0 0) .state .table .flag ≡ 1
+  pub create-62 : item 1 (machine 62 create 0 0) .ending ≡ Executed
+  pub create-62-flag : item 1 (machine 62 create 0 0) .state .table .users .flag ≡ 0
+  pub create-63 : item 1 (machine 63 create 0 0) .ending ≡ Trapped CreateFault 1
+  pub create-63-flag : item 1 (machine 63 create 0 0) .state .table .users .flag ≡ 1
   -- RI 2047 and displacement 1 never mean register 0
   pub index : lookupOf Source (record { task = 1; cb = 0; rb = 0; rl = 1023; pb = 0; pl = 0; db = 0; dl = 0; kind = noTrap; psw = 0 }) (pswOf 0 2047 0 0) 0x8001 ≡ Violation
 

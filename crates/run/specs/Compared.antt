@@ -22,7 +22,8 @@ memoryIn w m = memory (cut w (m .tags)) (cut w (m .words))
 
 -- two states are equal on task t
 pub record Compared (t : ℕ) (s s′ : State) : Type 0 where
-  -- both list it, or neither does: CB and windows, the trap record as kind and PSW, the processes as PSWs from head to tail
+  -- both list it, or neither does: CB and windows, the trap record as kind and PSW, the processes as PSWs from head to tail, those in its
+  -- queue and those in its SFU queue
   pub owned : own t s ≡ own t s′
   -- registers with word, state and quality, each at its place in the window
   pub registers : (r : Row) → findRow t (s .rows) ≡ some r → memoryIn (registerWindow r) (s .registers) ≡ memoryIn (registerWindow r) (s′ .registers)

@@ -4,7 +4,7 @@ use mathlib.Core.List.{[], _∷_}
 use lib.ListN.{getD}
 use Rattle.operation.specs.Exclusions.{instructionWord, exclusionRow}
 use Rattle.step.specs.State.{State}
-use Rattle.step.specs.Instances.{trialQueue, besideState, trialState}
+use Rattle.step.specs.Instances.{trialQueue, noTrialQueue, besideState, trialState}
 use Rattle.run.specs.Run.{counts, run}
 use Rattle.run.specs.Laws.Opened.{opened}
 
@@ -21,5 +21,5 @@ pub record ItemTrials : Type 0 where
   pub three-state : getD (run (1 ∷ 3 ∷ 1 ∷ []) counting .state .registers .words) 6 0 ≡ 2
 
 pub item-trials : ItemTrials
-unfolding opened instructionWord exclusionRow trialQueue besideState trialState counting
+unfolding opened instructionWord exclusionRow trialQueue noTrialQueue besideState trialState counting
 item-trials = record { two = refl; two-state = refl; three = refl; three-state = refl }

@@ -8,7 +8,7 @@ use lib.ListN.{length}
 use Rattle.operation.specs.Environment.{Environment}
 use Rattle.operation.specs.declared.Decision.{Decision}
 use Rattle.step.specs.State.{State}
-use Rattle.step.specs.Step.{step}
+use Rattle.step.specs.Step.{item}
 use Rattle.step.specs.LiveCounts.{Counted}
 use Rattle.step.specs.Soundness.{sound}
 use Rattle.run.specs.declared.Counts.{Counts}
@@ -18,7 +18,7 @@ use Rattle.run.specs.Laws.RunSound.{run-sound}
 
 -- one step, then the other items on the state that it left, is the run of all: the same state, and the step's ending counted with theirs
 pub run-is-step-and-run : (t : ℕ) (ts : List ℕ) (s : State)
-    → run (t ∷ ts) s ≡ record { state = run ts (step t s .state) .state; counts = counted (step t s .ending) (run ts (step t s .state) .counts) }
+    → run (t ∷ ts) s ≡ record { state = run ts (item t s .state) .state; counts = counted (item t s .ending) (run ts (item t s .state) .counts) }
 run-is-step-and-run t ts s =
     ap₂ {A = State} {B = Counts} {C = Ran} (λ x c. record { state = x; counts = c }) (run-first-state t ts s) (run-first-counts t ts s)
 
@@ -28,17 +28,17 @@ pub counts-add-up : (schedule : List ℕ) (s : State)
 counts-add-up schedule s = run-counts schedule s
 
 -- where the flag is down at the end of a run, it was down at its start
-pub flag-never-falls : (schedule : List ℕ) (s : State) → run schedule s .state .table .flag ≡ 0 → s .table .flag ≡ 0
+pub flag-never-falls : (schedule : List ℕ) (s : State) → run schedule s .state .table .users .flag ≡ 0 → s .table .users .flag ≡ 0
 flag-never-falls schedule s z = run-flag schedule s z
 
 -- once up, it is up after any run
-pub flag-stays-up : (schedule : List ℕ) (s : State) → s .table .flag ≡ 1 → run schedule s .state .table .flag ≡ 1
+pub flag-stays-up : (schedule : List ℕ) (s : State) → s .table .users .flag ≡ 1 → run schedule s .state .table .users .flag ≡ 1
 flag-stays-up schedule s u = run-flag-up schedule s u
 
 -- the live counts that are stored stay those found by counting, over any instruction set
-pub run-keeps-counted : (instructions : Environment → Decision) (schedule : List ℕ) (s : State) (c : Counts) → Counted (s .table)
-    → Counted (runBy instructions schedule s c .state .table)
-run-keeps-counted instructions schedule s c k = subst (λ (x : State). Counted (x .table)) (sym (run-after instructions schedule s c)) (after-counted instructions schedule s k)
+pub run-keeps-counted : (instructions : Environment → Decision) (schedule : List ℕ) (s : State) (c : Counts) → Counted (s .table .users)
+    → Counted (runBy instructions schedule s c .state .table .users)
+run-keeps-counted instructions schedule s c k = subst (λ (x : State). Counted (x .table .users)) (sym (run-after instructions schedule s c)) (after-counted instructions schedule s k)
 
 -- what was read and run can always be written
 pub run-keeps-sound : (schedule : List ℕ) (s : State) → sound s ≡ true → sound (run schedule s .state) ≡ true

@@ -8,7 +8,7 @@ use Rattle.step.specs.declared.Ending.{Ending}
 use Rattle.step.specs.declared.Ending.the-variants.{Executed, Waved, Trapped, Idle}
 use Rattle.step.specs.State.{State}
 use Rattle.step.specs.Act.{Stepped}
-use Rattle.step.specs.Step.{stepBy}
+use Rattle.step.specs.Step.{itemBy}
 use Rattle.run.specs.declared.Counts.{Counts}
 
 abbrev pub counts : (executed waved trapped idle : ℕ) → Counts
@@ -32,7 +32,7 @@ pub record Ran : Type 0 where
 unfoldable pub runBy : (Environment → Decision) → List ℕ → State → Counts → Ran
 runBy instructions [] s c = record { state = s; counts = c }
 runBy instructions (t ∷ ts) s c =
-    let r : Stepped = stepBy instructions t s in
+    let r : Stepped = itemBy instructions t s in
     runBy instructions ts (r .state) (counted (r .ending) c)
 
 -- a run under the instruction set of document 01

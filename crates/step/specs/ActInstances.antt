@@ -13,13 +13,13 @@ use Rattle.step.specs.declared.Ending.the-variants.{Executed, Trapped}
 use Rattle.step.specs.Queues.{listOf}
 use Rattle.step.specs.State.{taskQueue}
 use Rattle.step.specs.Act.{Stepped, trappedRow}
-use Rattle.step.specs.Step.{step}
-use Rattle.step.specs.Instances.{trialQueue, besideState}
+use Rattle.step.specs.Step.{item}
+use Rattle.step.specs.Instances.{trialQueue, noTrialQueue, besideState}
 use Rattle.step.specs.Laws.Opened.{opened}
 
 -- a step of task 1 over an instruction, where task 2 has so many processes
 unfoldable pub steps : (beside w : ℕ) → Stepped
-steps n w = step 1 (besideState n 0 (w ∷ 0 ∷ []))
+steps n w = item 1 (besideState n 0 (w ∷ 0 ∷ []))
 
 -- all PSWs zero but that of this process
 unfoldable pub pswAt : (pt psw : ℕ) → List ℕ
@@ -29,8 +29,8 @@ pswAt pt psw = set (replicate 64 0) pt psw
 pub record After (x : Stepped) (e : Ending) (r : Row) (pts words : List ℕ) : Type 0 where
   pub ending : x .ending ≡ e
   pub rows : x .state .rows ≡ r ∷ []
-  pub processes : listOf (taskQueue (x .state .table) 1) ≡ pts
-  pub psws : x .state .table .psw ≡ words
+  pub processes : listOf (taskQueue (x .state .table .users) 1) ≡ pts
+  pub psws : x .state .table .users .psw ≡ words
 
 -- MOV of register 7 to itself, S1 under access code 2; STOI of register 7 at byte 0
 unfoldable pub moved : Cell
@@ -55,7 +55,7 @@ pub record ActTrials : Type 0 where
   pub store : stored ≡ cell 1 0xF8
 
 pub act-trials : ActTrials
-unfolding opened instructionWord exclusionRow trialQueue besideState steps pswAt moved stored
+unfolding opened instructionWord exclusionRow trialQueue noTrialQueue besideState steps pswAt moved stored
 act-trials = record {
   nop = record { ending = refl; rows = refl; processes = refl; psws = refl };
   illegal = record { ending = refl; rows = refl; processes = refl; psws = refl };

@@ -1,4 +1,4 @@
--- No step of one task changes any register or data word outside its windows.
+-- No item of one task changes any register or data word outside its windows.
 use mathlib.Core.Path.{_≡_}
 use mathlib.Core.Bool.{false}
 use mathlib.Core.Option.{some}
@@ -10,8 +10,9 @@ use Rattle.window.specs.declared.Window.{Window}
 use Rattle.window.specs.Windows.{inside, registerWindow, dataWordWindow}
 use Rattle.window.specs.Memories.{Memory}
 use Rattle.step.specs.State.{State, findRow}
-use Rattle.step.specs.Step.{step}
-use Rattle.step.specs.Laws.Step.{registerTags, registerWords, dataTags, dataValues, step-outside}
+use Rattle.step.specs.Step.{item}
+use Rattle.step.specs.Laws.Step.{registerTags, registerWords, dataTags, dataValues}
+use Rattle.step.specs.Laws.Item.{item-outside}
 
 -- the real address a lies outside a window of task t; an unlisted task has no window
 abbrev pub Outside : (Row → Window) → (t : ℕ) → State → (a : ℕ) → Type 0
@@ -22,10 +23,10 @@ pub record SameAt (a : ℕ) (m m′ : Memory) : Type 0 where
   pub tag : getElem? (m .tags) a ≡ getElem? (m′ .tags) a
   pub word : getElem? (m .words) a ≡ getElem? (m′ .words) a
 
-pub step-keeps-registers : (t : ℕ) (s : State) (a : ℕ) → Outside registerWindow t s a → SameAt a (step t s .state .registers) (s .registers)
-unfolding step
-step-keeps-registers t s a h = record { tag = step-outside decide registerTags t s a h; word = step-outside decide registerWords t s a h }
+pub item-keeps-registers : (t : ℕ) (s : State) (a : ℕ) → Outside registerWindow t s a → SameAt a (item t s .state .registers) (s .registers)
+unfolding item
+item-keeps-registers t s a h = record { tag = item-outside decide registerTags t s a h; word = item-outside decide registerWords t s a h }
 
-pub step-keeps-data : (t : ℕ) (s : State) (a : ℕ) → Outside dataWordWindow t s a → SameAt a (step t s .state .dataWords) (s .dataWords)
-unfolding step
-step-keeps-data t s a h = record { tag = step-outside decide dataTags t s a h; word = step-outside decide dataValues t s a h }
+pub item-keeps-data : (t : ℕ) (s : State) (a : ℕ) → Outside dataWordWindow t s a → SameAt a (item t s .state .dataWords) (s .dataWords)
+unfolding item
+item-keeps-data t s a h = record { tag = item-outside decide dataTags t s a h; word = item-outside decide dataValues t s a h }

@@ -11,19 +11,22 @@ use Rattle.step.specs.declared.Ending.the-variants.{Waved}
 use Rattle.step.specs.Queues.{listOf}
 use Rattle.step.specs.State.{State, taskQueue}
 use Rattle.step.specs.Act.{tableOf}
-use Rattle.step.specs.Step.{step}
+use Rattle.step.specs.Step.{item}
 use Rattle.step.specs.Laws.Opened.{opened}
 
 -- the queue of task 1 with these PTs from the start of its array
 unfoldable pub trialQueue : List ℕ → ℕ → Queue
 trialQueue pts n = record { pts = pts ++ replicate 62 0; head = 0; len = n }
 
+unfoldable pub noTrialQueue : Queue
+noTrialQueue = trialQueue (0 ∷ 0 ∷ []) 0
+
 -- task 1 with the processes 3 and 5 at PC 0, registers 6 and 7, data words 32 to 63, all of them empty; register 7 has the word hex F8. Task 2 has
 -- n processes
 unfoldable pub besideState : (n flag : ℕ) → (program : List ℕ) → State
 besideState n flag program = record {
   rows = exclusionRow ∷ [];
-  table = tableOf (replicate 64 0) (trialQueue (3 ∷ 5 ∷ []) 2 ∷ trialQueue (0 ∷ 0 ∷ []) n ∷ replicate 5 (trialQueue (0 ∷ 0 ∷ []) 0)) flag;
+  table = tableOf (replicate 64 0) (replicate 2 noTrialQueue ++ (trialQueue (3 ∷ 5 ∷ []) 2 ∷ noTrialQueue ∷ trialQueue (0 ∷ 0 ∷ []) n ∷ replicate 11 noTrialQueue)) flag;
   constants = memory [] [];
   registers = memory (replicate 8 0) (replicate 7 0 ++ (0xF8 ∷ []));
   program = program ++ replicate 14 0;
@@ -36,14 +39,14 @@ trialState flag program = besideState 0 flag program
 
 -- ending waved; rows, registers, data words, PSWs and flag as before; the head at the tail
 pub record WavedOnly (s : State) : Type 0 where
-  pub ending : step 1 s .ending ≡ Waved
-  pub rows : step 1 s .state .rows ≡ s .rows
-  pub registers : step 1 s .state .registers ≡ s .registers
-  pub dataWords : step 1 s .state .dataWords ≡ s .dataWords
-  pub psws : step 1 s .state .table .psw ≡ s .table .psw
-  pub flag : step 1 s .state .table .flag ≡ s .table .flag
-  pub before : listOf (taskQueue (s .table) 1) ≡ 3 ∷ 5 ∷ []
-  pub after : listOf (taskQueue (step 1 s .state .table) 1) ≡ 5 ∷ 3 ∷ []
+  pub ending : item 1 s .ending ≡ Waved
+  pub rows : item 1 s .state .rows ≡ s .rows
+  pub registers : item 1 s .state .registers ≡ s .registers
+  pub dataWords : item 1 s .state .dataWords ≡ s .dataWords
+  pub psws : item 1 s .state .table .users .psw ≡ s .table .users .psw
+  pub flag : item 1 s .state .table .users .flag ≡ s .table .users .flag
+  pub before : listOf (taskQueue (s .table .users) 1) ≡ 3 ∷ 5 ∷ []
+  pub after : listOf (taskQueue (item 1 s .state .table .users) 1) ≡ 5 ∷ 3 ∷ []
 
 pub record WavedTrials : Type 0 where
   -- an access test unmet: MOV waits for an empty D
@@ -54,7 +57,7 @@ pub record WavedTrials : Type 0 where
   pub create : WavedOnly (trialState 1 (instructionWord 0x3970 0 0x1001 0x4000 ∷ 0 ∷ []))
 
 pub waved-trials : WavedTrials
-unfolding opened instructionWord exclusionRow trialQueue besideState trialState
+unfolding opened instructionWord exclusionRow trialQueue noTrialQueue besideState trialState
 waved-trials = record {
   access = record { ending = refl; rows = refl; registers = refl; dataWords = refl; psws = refl; flag = refl; before = refl; after = refl };
   datum = record { ending = refl; rows = refl; registers = refl; dataWords = refl; psws = refl; flag = refl; before = refl; after = refl };

@@ -8,23 +8,23 @@ use Rattle.operation.specs.Exclusions.{exclusionRow, instructionWord}
 use Rattle.step.specs.declared.Ending.{Ending}
 use Rattle.step.specs.declared.Ending.the-variants.{Executed, Trapped}
 use Rattle.step.specs.Act.{Stepped}
-use Rattle.step.specs.Step.{step}
-use Rattle.step.specs.Instances.{trialQueue, besideState}
+use Rattle.step.specs.Step.{item}
+use Rattle.step.specs.Instances.{trialQueue, noTrialQueue, besideState}
 use Rattle.step.specs.Laws.Opened.{opened}
 
 -- QT always, CREATE always
 unfoldable pub quitting : (beside : ℕ) → Stepped
-quitting n = step 1 (besideState n 0 (instructionWord 0x1970 0 0 0x4000 ∷ 0 ∷ []))
+quitting n = item 1 (besideState n 0 (instructionWord 0x1970 0 0 0x4000 ∷ 0 ∷ []))
 
 unfoldable pub creating : (beside : ℕ) → Stepped
-creating n = step 1 (besideState n 0 (instructionWord 0x3970 0 0x4000 0x4000 ∷ 0 ∷ []))
+creating n = item 1 (besideState n 0 (instructionWord 0x3970 0 0x4000 0x4000 ∷ 0 ∷ []))
 
 -- the ending, the counts of tasks 1 and 2, the total and the flag after a step
 pub record LiveAfter (x : Stepped) (e : Ending) (mine beside total up : ℕ) : Type 0 where
   pub ending : x .ending ≡ e
-  pub live : x .state .table .live ≡ mine ∷ beside ∷ replicate 5 0
-  pub processes : x .state .table .processes ≡ total
-  pub flag : x .state .table .flag ≡ up
+  pub live : x .state .table .users .live ≡ 0 ∷ mine ∷ beside ∷ replicate 5 0
+  pub count : x .state .table .users .count ≡ total
+  pub flag : x .state .table .users .flag ≡ up
 
 pub record LiveTrials : Type 0 where
   -- a process leaves: one fewer of its task and in all
@@ -35,10 +35,10 @@ pub record LiveTrials : Type 0 where
   pub fault : LiveAfter (creating 61) (Trapped CreateFault 1) 3 61 64 1
 
 pub live-trials : LiveTrials
-unfolding opened instructionWord exclusionRow trialQueue besideState quitting creating
+unfolding opened instructionWord exclusionRow trialQueue noTrialQueue besideState quitting creating
 live-trials = record {
-  quit = record { ending = refl; live = refl; processes = refl; flag = refl };
-  created = record { ending = refl; live = refl; processes = refl; flag = refl };
-  last = record { ending = refl; live = refl; processes = refl; flag = refl };
-  fault = record { ending = refl; live = refl; processes = refl; flag = refl };
+  quit = record { ending = refl; live = refl; count = refl; flag = refl };
+  created = record { ending = refl; live = refl; count = refl; flag = refl };
+  last = record { ending = refl; live = refl; count = refl; flag = refl };
+  fault = record { ending = refl; live = refl; count = refl; flag = refl };
 }

@@ -1,7 +1,6 @@
 // One step of a task: queues, the process table, and how a step ends.
 use operation::Decision;
 use operation::Trap;
-use window::TASKS;
 
 // The places of a queue.
 pub const PLACES: usize = 64;
@@ -22,13 +21,30 @@ pub struct Queue {
     pub len: usize,
 }
 
-// The PSW of each PT, the queue of each task (of task t at t - 1), the create fault flag, and how many processes live: of each task, and in all.
-pub struct ProcessTable {
+// The task numbers of one kind, of which each has its place; user tasks are 0 to 7, and 0 is never listed.
+pub const NUMBERS: usize = 8;
+
+// The queues of one kind of tasks: of the task at place i the queues with the numbers 2 * i and 2 * i + 1, the second without processes.
+pub const QUEUES: usize = 16;
+
+// The processes of one kind of tasks: the PSW of each PT, the queues, the create fault flag, and how many processes live: of each task, and in all.
+pub struct Processes {
     pub psw: [u64; PTS],
-    pub queues: [Queue; TASKS],
+    pub queues: [Queue; QUEUES],
     pub flag: u8,
-    pub live: [usize; TASKS],
-    pub processes: usize,
+    pub live: [usize; NUMBERS],
+    pub count: usize,
+}
+
+// The processes of the user tasks.
+pub struct ProcessTable {
+    pub users: Processes,
+}
+
+// Which process of a task acts: in a step the head of the task's queue, in a try the head of its SFU queue.
+pub enum Attempt {
+    Step,
+    Try,
 }
 
 // How a step ends. A trap carries its kind and the PSW that is stored.
@@ -45,20 +61,24 @@ pub enum Decided {
     Decides(Decision),
 }
 
-// What becomes of a task's queue.
+// What becomes of a task's queues: of the one whose head acts, and of the other. A created PT joins the task's queue.
 pub enum Motion {
     Stays,
     // head to tail
     Turns,
     // the head leaves
     Leaves,
-    // head to tail, and a created PT behind it
+    // the head goes to the tail of the other queue
+    Passes,
+    // head to tail, and a created PT joins
     TurnsAndJoins(u8),
-    // a created PT at the tail, the head staying head
+    // the head goes to the tail of the other queue, and a created PT joins
+    PassesAndJoins(u8),
+    // a created PT joins, the head staying head
     Joins(u8),
 }
 
-// How a step ends, and what becomes of the queue.
+// How a step ends, and what becomes of the queues.
 pub struct StepResult {
     pub ending: Ending,
     pub motion: Motion,

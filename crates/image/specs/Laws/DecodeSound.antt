@@ -33,8 +33,8 @@ state-shape : (i : Image) → length (i .processes) ≤ 64 → Shape (stateOf i)
 unfolding stateOf memoryOf
 state-shape i few = record {
   wide = length-pswTable (i .processes);
-  seven = length-queuesOf 7 1 (i .processes);
-  full = queues-full 7 1 (i .processes) few;
+  sixteen = length-queuesOf 16 0 (i .processes);
+  full = queues-full 16 0 (i .processes) few;
   counted = made-live _ _ _;
   constants = pairs (i .constants);
   registers = pairs (i .registers);

@@ -9,7 +9,7 @@ use Rattle.window.specs.Sound.{bits, qualitySound, tagSound, stateSound}
 use Rattle.step.specs.Soundness.{taskSound, kindSound, recordSound, ptSound, flagSound}
 use Rattle.refusal.specs.declared.Refusal.{Refusal}
 use Rattle.image.specs.Laws.Codec.{Lawful, num-lawful, seq-lawful, via-lawful, section-lawful, listSection-lawful, uniform-lawful}
-use Rattle.image.specs.Image.{rowCodec, toRow, fromRow, rowTask, tasksCodec, processCodec, toProcess, fromProcess, processTask, processesCodec}
+use Rattle.image.specs.Image.{rowCodec, toRow, fromRow, rowTask, tasksCodec, processCodec, toProcess, fromProcess, queueAfter, processesCodec}
 use Rattle.image.specs.Image.{wordCodec, wordsCodec, cellCodec, toCell, fromCell, cellsCodec, imageCodec, toImage, fromImage}
 
 pub row-lawful : (before : ℕ) → Lawful (rowCodec before)
@@ -57,7 +57,7 @@ tasks-lawful = listSection-lawful rowTask row-lawful 1 7 0
 
 processes-lawful : (rows : List Row) → Lawful (processesCodec rows)
 unfolding processesCodec
-processes-lawful rows = section-lawful processTask (process-lawful rows) (num-lawful 1 _ flagSound) 1 64 0
+processes-lawful rows = section-lawful queueAfter (process-lawful rows) (num-lawful 1 _ flagSound) 1 64 0
 
 pub image-lawful : Lawful imageCodec
 unfolding imageCodec

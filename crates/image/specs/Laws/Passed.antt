@@ -1,5 +1,5 @@
 -- The values of the image's format, field by field: the test of each format is that of its fields.
-use Prim.Native.Nat.{ℕ, _^_, _+_, _≤_, _<_}
+use Prim.Native.Nat.{ℕ, _^_, _+_, _%_, _≤_, _<_}
 use mathlib.Core.Path.{_≡_, refl, sym, ap, ap₂, _∙_}
 use mathlib.Core.Bool.{Bool, true, false, cond, _&&_, _||_, false≢true}
 use mathlib.Core.List.{List, [], _∷_, map}
@@ -18,13 +18,12 @@ use Rattle.step.specs.Step.{noTrap}
 use Rattle.operation.specs.Environment.{kindOf}
 use Rattle.step.specs.Soundness.{every, member, taskSound, kinds, kindSound, recordSound, basesSound, rowSound, rowsSound, ptSound, flagSound, hasRow, wordsSound}
 use Rattle.step.specs.Soundness.{memorySound}
-use Rattle.step.specs.Laws.Sound.{hasRow-range}
 use Rattle.step.specs.Laws.Every.{every-parts}
 use Rattle.refusal.specs.declared.Refusal.{Refusal}
 use Rattle.refusal.specs.declared.Refusal.the-variants.{CountOverLimit, ConstantField, CellField}
 use Rattle.image.specs.declared.Process.{Process}
 use Rattle.image.specs.Codec.{Codec, num, count, seq, via, okMany, section, noHeader, listSection, noState, uniformSection}
-use Rattle.image.specs.Image.{Image, rowCodec, rowTask, tasksCodec, processCodec, processTask, processesCodec, wordCodec}
+use Rattle.image.specs.Image.{Image, rowCodec, rowTask, tasksCodec, queueOfByte, byteSound, processCodec, processQueue, queueAfter, processesCodec, wordCodec}
 use Rattle.image.specs.Image.{wordsCodec, cellCodec, cellsCodec, imageCodec, ptOf, memoryOf}
 use Rattle.image.specs.Laws.Conjoined.{and-implied, and-true, and-turn, and-cross}
 
@@ -109,20 +108,24 @@ module _ (e : Refusal) (tag : ℕ → Bool) (fits : (t : ℕ) → tag t ≡ true
   unfolding cellCodec via seq
   cell-ok c = ap₂ _&&_ (num-ok 1 _ tag fits (c .tag)) (word-ok (c .word))
 
--- the tasks of the processes ascend from task `before` on
+-- the queues of the processes ascend from number `before` on
 unfoldable pub ascends : (before : ℕ) → List ℕ → Bool
 ascends before [] = true
-ascends before (t ∷ ts) = leb before t && ascends t ts
+ascends before (k ∷ ks) = leb before k && ascends k ks
 
-module _ (rows : List Row) (ordered : rowsSound 0 rows ≡ true) where
+byte-fits : (rows : List Row) (b : ℕ) → byteSound rows b ≡ true → b < 256 ^ 1
+unfolding byteSound
+byte-fits rows b g = omega (arith, ltb-true b 16 (and-left (ltb b 16) (hasRow (b % 16) rows) g))
+
+module _ (rows : List Row) where
   process-ok : (before : ℕ) (p : Process)
-      → processCodec rows before .ok p ≡ ptSound (p .pt) && ((leb before (p .task) && hasRow (p .task) rows) && pswSound (p .psw))
+      → processCodec rows before .ok p ≡ ptSound (p .pt) && ((leb before (processQueue p) && byteSound rows (p .task)) && pswSound (p .psw))
   unfolding processCodec via seq ptSound
   process-ok before p =
       ap₂ _&&_ (num-ok 1 _ ptSound (λ v g. omega (arith, ltb-true v 64 g)) (p .pt))
       (ap₂ _&&_
-      (num-ok 1 _ (λ t. leb before t && hasRow t rows)
-      (λ t g. omega (arith, hasRow-range 0 t rows ordered (and-right (leb before t) (hasRow t rows) g) .1)) (p .task))
+      (num-ok 1 _ (λ b. leb before (queueOfByte b) && byteSound rows b)
+      (λ b g. byte-fits rows b (and-right (leb before (queueOfByte b)) (byteSound rows b) g)) (p .task))
       (num-ok 8 _ pswSound psw-fits (p .psw)))
 
 -- ---- sections
@@ -195,31 +198,31 @@ pub record PassedAll (rows : List Row) (f : ℕ) (ps : List Process) : Type 0 wh
   pub few : length ps ≤ 64
   pub flag : flagSound f ≡ true
   pub pts : every ptSound (map ptOf ps) ≡ true
-  pub ascending : ascends 0 (map taskOf ps) ≡ true
-  pub tasks : every (λ t. hasRow t rows) (map taskOf ps) ≡ true
+  pub ascending : ascends 0 (map processQueue ps) ≡ true
+  pub tasks : every (byteSound rows) (map taskOf ps) ≡ true
   pub psws : every pswSound (map pswOf ps) ≡ true
 
-module _ (rows : List Row) (ordered : rowsSound 0 rows ≡ true) where
+module _ (rows : List Row) where
   many-processes : (before : ℕ) (ps : List Process)
-      → okMany (processCodec rows) processTask before ps
-      ≡ every ptSound (map ptOf ps) && ((ascends before (map taskOf ps) && every (λ t. hasRow t rows) (map taskOf ps)) && every pswSound (map pswOf ps))
+      → okMany (processCodec rows) queueAfter before ps
+      ≡ every ptSound (map ptOf ps) && ((ascends before (map processQueue ps) && every (byteSound rows) (map taskOf ps)) && every pswSound (map pswOf ps))
   unfolding okMany every ascends
   many-processes before [] = refl
   many-processes before (p ∷ ps) =
-      ap₂ _&&_ (process-ok rows ordered before p) (many-processes (p .task) ps)
+      ap₂ _&&_ (process-ok rows before p) (many-processes (processQueue p) ps)
       ∙ and-cross (ptSound (p .pt)) _ (every ptSound (map ptOf ps)) _
       ∙ ap (λ (b : Bool). (ptSound (p .pt) && every ptSound (map ptOf ps)) && b)
-      (and-cross (leb before (p .task) && hasRow (p .task) rows) (pswSound (p .psw)) _ (every pswSound (map pswOf ps))
+      (and-cross (leb before (processQueue p) && byteSound rows (p .task)) (pswSound (p .psw)) _ (every pswSound (map pswOf ps))
       ∙ ap (λ (b : Bool). b && (pswSound (p .psw) && every pswSound (map pswOf ps)))
-      (and-cross (leb before (p .task)) (hasRow (p .task) rows) (ascends (p .task) (map taskOf ps)) (every (λ t. hasRow t rows) (map taskOf ps))))
+      (and-cross (leb before (processQueue p)) (byteSound rows (p .task)) (ascends (processQueue p) (map processQueue ps)) (every (byteSound rows) (map taskOf ps))))
 
   processes-ok : (flag : ℕ) (ps : List Process)
       → processesCodec rows .ok (flag, ps)
       ≡ leb (length ps) 64 && (flagSound flag && (every ptSound (map ptOf ps)
-      && ((ascends 0 (map taskOf ps) && every (λ t. hasRow t rows) (map taskOf ps)) && every pswSound (map pswOf ps))))
+      && ((ascends 0 (map processQueue ps) && every (byteSound rows) (map taskOf ps)) && every pswSound (map pswOf ps))))
   unfolding processesCodec flagSound
   processes-ok flag ps =
-      section-ok (num 1 _ flagSound) (processCodec rows) processTask 1 64 (omega arith) 0 flag ps
+      section-ok (num 1 _ flagSound) (processCodec rows) queueAfter 1 64 (omega arith) 0 flag ps
       ∙ ap (λ (b : Bool). leb (length ps) 64 && b)
       (ap₂ _&&_ (num-ok 1 _ flagSound (λ f g. omega (arith, leb-true f 1 g)) flag) (many-processes 0 ps))
 
@@ -267,7 +270,7 @@ image-passes i h =
     (both (λ e. sym (program-ok (i .program)) ∙ e) (λ e. sym (dataWords-ok (i .dataWords)) ∙ e))))) h in
     record {
       rows = u .0;
-      processes = processes-pass (i .rows) (u .0) (i .flag) (i .processes) (u .1 .0);
+      processes = processes-pass (i .rows) (i .flag) (i .processes) (u .1 .0);
       constants = u .1 .1 .0;
       registers = u .1 .1 .1 .0;
       program = u .1 .1 .1 .1 .0;
@@ -278,7 +281,7 @@ pub passes-image : (i : Image) → PassedImage i → imageCodec .ok i ≡ true
 unfolding imageCodec via seq
 passes-image i p =
     also (tasks-ok (i .rows) ∙ p .rows)
-    (also (pass-processes (i .rows) (p .rows) (i .flag) (i .processes) (p .processes))
+    (also (pass-processes (i .rows) (i .flag) (i .processes) (p .processes))
     (also (constants-ok (i .constants) ∙ p .constants)
     (also (registers-ok (i .registers) ∙ p .registers)
     (also (program-ok (i .program) ∙ p .program) (dataWords-ok (i .dataWords) ∙ p .dataWords)))))

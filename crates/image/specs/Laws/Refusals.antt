@@ -12,7 +12,7 @@ use Rattle.refusal.specs.declared.Refusal.{Refusal}
 use Rattle.refusal.specs.declared.Refusal.the-variants.{InputEnds, CountOverLimit, TaskField, ProcessField, CellField}
 use Rattle.refusal.specs.Numbers.{numberOf}
 use Rattle.image.specs.Codec.{Result, refused, accepted, bind, field, Codec, num, count, seq, via, decMany, section, noHeader, listSection, noState, uniformSection}
-use Rattle.image.specs.Image.{toRow, fromRow, rowCodec, rowTask, tasksCodec, toProcess, fromProcess, processCodec, processTask, processesCodec}
+use Rattle.image.specs.Image.{toRow, fromRow, rowCodec, rowTask, tasksCodec, toProcess, fromProcess, processCodec, queueAfter, processesCodec}
 use Rattle.image.specs.Image.{wordCodec, wordsCodec, toCell, fromCell, cellCodec, cellsCodec}
 use Rattle.window.specs.Limits.{tasks}
 use Rattle.step.specs.Queues.{ptCount}
@@ -132,7 +132,7 @@ pub processes-refuse : (rows : List Row) → Refuses (Only ProcessField) (proces
 unfolding processesCodec processCodec
 processes-refuse rows =
     let f = fielded ProcessField in
-    section-refuses processTask 1 ptCount 0 (input-ends ProcessField) (count-over ProcessField) (f 1 _) λ _.
+    section-refuses queueAfter 1 ptCount 0 (input-ends ProcessField) (count-over ProcessField) (f 1 _) λ _.
     via-refuses toProcess fromProcess (seq-refuses (f 1 _) λ _. seq-refuses (f 1 _) λ _. f 8 _)
 
 -- words are never refused for their value

@@ -35,24 +35,24 @@ same-again s e = fields-again (imageOf s) (sound-accepted s e)
 pub shape-shaped : (s : State) → Shape s → shaped s ≡ true
 unfolding shaped paired
 shape-shaped s h =
-    also (also (eq-eqb (length (s .table .psw)) 64 (h .wide)) (also (eq-eqb (length (s .table .queues)) 7 (h .seven)) (h .full)))
+    also (also (eq-eqb (length (s .table .users .psw)) 64 (h .wide)) (also (eq-eqb (length (s .table .users .queues)) 16 (h .sixteen)) (h .full)))
     (also (eq-eqb (length (s .constants .tags)) (length (s .constants .words)) (h .constants))
     (also (eq-eqb (length (s .registers .tags)) (length (s .registers .words)) (h .registers))
     (eq-eqb (length (s .dataWords .tags)) (length (s .dataWords .words)) (h .dataWords))))
 
-shaped-shape : (s : State) → shaped s ≡ true → liveSound (s .table) ≡ true → Shape s
+shaped-shape : (s : State) → shaped s ≡ true → liveSound (s .table .users) ≡ true → Shape s
 unfolding shaped paired
 shaped-shape s e c =
     let u =
-    both (both (eqb-true (length (s .table .psw)) 64) (both (eqb-true (length (s .table .queues)) 7) (λ k. k)))
+    both (both (eqb-true (length (s .table .users .psw)) 64) (both (eqb-true (length (s .table .users .queues)) 16) (λ k. k)))
     (both (eqb-true (length (s .constants .tags)) (length (s .constants .words)))
     (both (eqb-true (length (s .registers .tags)) (length (s .registers .words))) (eqb-true (length (s .dataWords .tags)) (length (s .dataWords .words))))) e in
-    record { wide = u .0 .0; seven = u .0 .1 .0; full = u .0 .1 .1; counted = c; constants = u .1 .0; registers = u .1 .1 .0; dataWords = u .1 .1 .1 }
+    record { wide = u .0 .0; sixteen = u .0 .1 .0; full = u .0 .1 .1; counted = c; constants = u .1 .0; registers = u .1 .1 .0; dataWords = u .1 .1 .1 }
 
 pub image-of-sound : (s : State) → sound s ≡ true → SomeImageReads s
 image-of-sound s e = record { bytes = encode s; string = written-bytes s; image = imageOf s; accepted = read-again s e; same = same-again s e }
 
-pub sound-of-image : (s : State) → shaped s ≡ true → liveSound (s .table) ≡ true → SomeImageReads s → sound s ≡ true
+pub sound-of-image : (s : State) → shaped s ≡ true → liveSound (s .table .users) ≡ true → SomeImageReads s → sound s ≡ true
 unfolding SameFields
 sound-of-image s h c r =
     let a = decode-accepted (r .bytes) (r .string) (r .image) (r .accepted) .0 in

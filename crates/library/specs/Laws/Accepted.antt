@@ -15,7 +15,7 @@ use Rattle.refusal.specs.declared.Refusal.the-variants.{ShortBuffer, UnsoundSta
 use Rattle.refusal.specs.Numbers.{numberOf}
 use Rattle.step.specs.Soundness.{sound, every}
 use Rattle.step.specs.Laws.Rows.{none-some}
-use Rattle.step.specs.Step.{step}
+use Rattle.step.specs.Step.{item}
 use Rattle.run.specs.Schedule.{mostItems, itemSound, scheduleRefusal}
 use Rattle.run.specs.Run.{run}
 use Rattle.image.specs.Image.{Image, stateOf, Decoded, bad, good, decode, encode}
@@ -120,7 +120,7 @@ run-refused-8 n b schedule P k =
 pub step-refused-8 : (n : Sizes) (b : Buffers) (t : ℕ) (P : Type 0) → (stateRefusal n b ≡ none) ↔ P → (numberAnswered (stepAnswer n b t) ≡ 8) ↔ (¬ P)
 unfolding stepAnswer stepRefusal
 step-refused-8 n b t P k =
-    let x = step t (fieldsIn n b) .ending in
+    let x = item t (fieldsIn n b) .ending in
     refused-8 n b (taskRefusal t) x P k (task-number t x)
 
 pub write-refused-8 : (n : Sizes) (b : Buffers) (room : ℕ) (P : Type 0) → (stateRefusal n b ≡ none) ↔ P → (numberAnswered (writeAnswer n b room) ≡ 8) ↔ (¬ P)

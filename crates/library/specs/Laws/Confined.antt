@@ -11,8 +11,8 @@ use Rattle.refusal.specs.declared.Refusal.{Refusal}
 use Rattle.window.specs.Windows.{registerWindow, dataWordWindow}
 use Rattle.window.specs.Memories.{Memory, memory}
 use Rattle.step.specs.State.{State}
-use Rattle.step.specs.Step.{step}
-use Rattle.step.specs.Confined.{Outside, SameAt, step-keeps-registers, step-keeps-data}
+use Rattle.step.specs.Step.{item}
+use Rattle.step.specs.Confined.{Outside, SameAt, item-keeps-registers, item-keeps-data}
 use Rattle.image.specs.Fields.{over}
 use Rattle.library.specs.declared.Sizes.{Sizes}
 use Rattle.library.specs.Buffers.{Buffers, roomOf, fits, fieldsIn, holding}
@@ -41,9 +41,9 @@ module _ (n : Sizes) (b : Buffers) (t a size : ℕ) (tags words : Buffers → Li
     (roomy : fits n (roomOf b) ≡ true → (size ≤ length (tags b)) × (size ≤ length (words b)))
     (sized : (s : State) → Sized n s → (length (part s .tags) ≡ size) × (length (part s .words) ≡ size))
     (held : (s : State) → (tags (holding s b) ≡ over (part s .tags) (tags b)) × (words (holding s b) ≡ over (part s .words) (words b)))
-    (same : SameAt a (part (step t (fieldsIn n b) .state)) (memory (take size (tags b)) (take size (words b)))) where
+    (same : SameAt a (part (item t (fieldsIn n b) .state)) (memory (take size (tags b)) (take size (words b)))) where
   abbrev after : State
-  after = step t (fieldsIn n b) .state
+  after = item t (fieldsIn n b) .state
 
   kept-there : stepRefusal n b t ≡ none → SameAt a (memory (tags (holding after b)) (words (holding after b))) (memory (tags b) (words b))
   kept-there q =
@@ -61,7 +61,7 @@ module _ (n : Sizes) (b : Buffers) (t a size : ℕ) (tags words : Buffers → Li
   kept = go (stepRefusal n b t) refl
     where
       left : Option Refusal → Buffers
-      left o = leaving (unless o (step t (fieldsIn n b) .ending)) b (holding after b)
+      left o = leaving (unless o (item t (fieldsIn n b) .ending)) b (holding after b)
 
       go : (o : Option Refusal) → stepRefusal n b t ≡ o → SameAt a (memory (tags (left o)) (words (left o))) (memory (tags b) (words b))
       go none q = kept-there q
@@ -73,7 +73,7 @@ unfolding holding fieldsIn roomOf
 registers-kept n b t a h =
     kept n b t a (n .registers) (λ x. x .registerTags) (λ x. x .registerWords) (λ s. s .registers)
     (λ f. let g = fitting n (roomOf b) f in (g .registerTags, g .registerWords)) (λ s z. (z .registerTags, z .registerWords)) (λ s. (refl, refl))
-    (step-keeps-registers t (fieldsIn n b) a h)
+    (item-keeps-registers t (fieldsIn n b) a h)
 
 pub data-kept : (n : Sizes) (b : Buffers) (t a : ℕ) → Outside dataWordWindow t (fieldsIn n b) a
     → SameAt a (memory (stepLeaves n b t .dataTags) (stepLeaves n b t .dataWords)) (memory (b .dataTags) (b .dataWords))
@@ -81,4 +81,4 @@ unfolding holding fieldsIn roomOf
 data-kept n b t a h =
     kept n b t a (n .data_words) (λ x. x .dataTags) (λ x. x .dataWords) (λ s. s .dataWords)
     (λ f. let g = fitting n (roomOf b) f in (g .dataTags, g .dataWords)) (λ s z. (z .dataTags, z .dataWords)) (λ s. (refl, refl))
-    (step-keeps-data t (fieldsIn n b) a h)
+    (item-keeps-data t (fieldsIn n b) a h)

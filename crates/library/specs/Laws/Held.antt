@@ -40,6 +40,6 @@ accepted n b e = go (fits n (roomOf b)) (sound (fieldsIn n b)) e
     go false s q = let z : _≡_ {A = ℕ} 0 1 = cc in absurd (omega arith)
 
 -- its live counts are those of its queues
-pub accepted-live : (n : Sizes) (b : Buffers) → stateRefused n b ≡ false → liveSound (b .table) ≡ true
+pub accepted-live : (n : Sizes) (b : Buffers) → stateRefused n b ≡ false → liveSound (b .table .users) ≡ true
 unfolding fieldsIn
 accepted-live n b e = sound-parts (fieldsIn n b) (accepted n b e .1) .table .counted

@@ -10,8 +10,9 @@ use Rattle.refusal.specs.declared.Refusal.{Refusal}
 use Rattle.window.specs.Memories.{tagOf, wordOf}
 use Rattle.step.specs.State.{State}
 use Rattle.operation.specs.Decide.{decide}
-use Rattle.step.specs.Step.{stepBy, step}
-use Rattle.step.specs.Laws.Lengths.{SameLengths, step-lengths}
+use Rattle.step.specs.Step.{itemBy, item}
+use Rattle.step.specs.Laws.Lengths.{SameLengths}
+use Rattle.step.specs.Laws.Item.{item-lengths}
 use Rattle.run.specs.Run.{run}
 use Rattle.run.specs.Laws.Run.{run-lengths}
 use Rattle.image.specs.Image.{Image, memoryOf, stateOf, good, decode}
@@ -134,9 +135,9 @@ read-sized i = record {
 pub run-sized : (n : Sizes) (b : Buffers) (schedule : List ℕ) → fits n (roomOf b) ≡ true → Sized n (run schedule (fieldsIn n b) .state)
 run-sized n b schedule e = lengths-sized n (fieldsIn n b) (run schedule (fieldsIn n b) .state) (fields-sized n b e) (run-lengths schedule (fieldsIn n b))
 
-pub step-sized : (n : Sizes) (b : Buffers) (t : ℕ) → fits n (roomOf b) ≡ true → Sized n (step t (fieldsIn n b) .state)
-unfolding step
-step-sized n b t e = lengths-sized n (fieldsIn n b) (stepBy decide t (fieldsIn n b) .state) (fields-sized n b e) (step-lengths decide t (fieldsIn n b))
+pub step-sized : (n : Sizes) (b : Buffers) (t : ℕ) → fits n (roomOf b) ≡ true → Sized n (item t (fieldsIn n b) .state)
+unfolding item
+step-sized n b t e = lengths-sized n (fieldsIn n b) (itemBy decide t (fieldsIn n b) .state) (fields-sized n b e) (item-lengths decide t (fieldsIn n b))
 
 -- a reading that isn't refused leaves the buffers holding the state that its image is
 pub held-by-read : (b : Buffers) (bytes : List ℕ) (i : Image) → decode bytes ≡ good i → readRefusal (roomOf b) bytes ≡ none

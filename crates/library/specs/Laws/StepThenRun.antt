@@ -12,9 +12,9 @@ use Rattle.refusal.specs.declared.Refusal.{Refusal}
 use Rattle.refusal.specs.declared.Refusal.the-variants.{ListTooLong, ItemOutOfRange}
 use Rattle.step.specs.State.{State}
 use Rattle.step.specs.Soundness.{every}
-use Rattle.step.specs.Step.{step}
+use Rattle.step.specs.Step.{item}
 use Rattle.step.specs.Laws.Rows.{none-some}
-use Rattle.step.specs.Laws.SoundKept.{step-sound}
+use Rattle.step.specs.Laws.Item.{item-sound}
 use Rattle.run.specs.declared.Counts.{Counts}
 use Rattle.run.specs.Schedule.{mostItems, itemSound, scheduleRefusal}
 use Rattle.run.specs.Run.{counted, run}
@@ -55,7 +55,7 @@ module _ (n : Sizes) (b : Buffers) (t : ℕ) (ts : List ℕ) (e : runRefusal n b
   s = fieldsIn n b
 
   abbrev s′ : State
-  s′ = step t s .state
+  s′ = item t s .state
 
   state : stateRefusal n b ≡ none
   unfolding runRefusal
@@ -69,7 +69,7 @@ module _ (n : Sizes) (b : Buffers) (t : ℕ) (ts : List ℕ) (e : runRefusal n b
   unfolding stepRefusal
   step-unrefused = orElse-both (stateRefusal n b) (taskRefusal t) state (items .0)
 
-  pub step-answers : stepAnswer n b t ≡ answers (step t s .ending)
+  pub step-answers : stepAnswer n b t ≡ answers (item t s .ending)
   unfolding stepAnswer unless
   step-answers = rw step-unrefused
 
@@ -87,7 +87,7 @@ module _ (n : Sizes) (b : Buffers) (t : ℕ) (ts : List ℕ) (e : runRefusal n b
   unfolding runRefusal
   others-unrefused =
       orElse-both (stateRefusal n (stepLeaves n b t)) (scheduleRefusal ts)
-      (ap (stateRefusal n) step-leaves ∙ held-unrefused n s′ b sized fit (step-sound t s (run-parts n b (t ∷ ts) e .1))) (items .1)
+      (ap (stateRefusal n) step-leaves ∙ held-unrefused n s′ b sized fit (item-sound t s (run-parts n b (t ∷ ts) e .1))) (items .1)
 
   -- the second call finds the state that the first left
   found : fieldsIn n (stepLeaves n b t) ≡ s′
@@ -96,7 +96,7 @@ module _ (n : Sizes) (b : Buffers) (t : ℕ) (ts : List ℕ) (e : runRefusal n b
   pub others-answer : runAnswer n (stepLeaves n b t) ts ≡ answers (run ts s′ .counts)
   others-answer = run-answers n (stepLeaves n b t) ts others-unrefused ∙ ap (λ (x : State). answers (run ts x .counts)) found
 
-  pub all-answers : runAnswer n b (t ∷ ts) ≡ answers (counted (step t s .ending) (run ts s′ .counts))
+  pub all-answers : runAnswer n b (t ∷ ts) ≡ answers (counted (item t s .ending) (run ts s′ .counts))
   all-answers = run-answers n b (t ∷ ts) e ∙ ap (λ (c : Counts). answers c) (run-first-counts t ts s)
 
   after : run ts (fieldsIn n (stepLeaves n b t)) .state ≡ run (t ∷ ts) s .state

@@ -1,15 +1,16 @@
 -- The line of a task in a report: where it stands, and that it goes by what the task owns.
-use Prim.Native.Nat.{ℕ}
-use mathlib.Core.Path.{_≡_, refl, sym, ap, _∙_, subst}
+use Prim.Native.Nat.{ℕ, _+_}
+use mathlib.Core.Path.{_≡_, refl, sym, ap, ap₂, _∙_, subst}
 use mathlib.Core.Bool.{true}
 use mathlib.Core.Option.{Option, none, some}
 use mathlib.Core.List.{List, [], _∷_, _++_, append-assoc}
 use lib.ListN.{length}
 use borrow.Author.Tests.{le-ltb}
 use Rattle.window.specs.declared.Row.{Row}
+use Rattle.step.specs.declared.Processes.{Processes}
 use Rattle.step.specs.declared.ProcessTable.{ProcessTable}
-use Rattle.step.specs.State.{State, findRow, liveCount, processesOf}
-use Rattle.step.specs.Owned.{Own, owner, ownIn, own}
+use Rattle.step.specs.State.{State, findRow, liveCount, processesOf, waitingOf}
+use Rattle.step.specs.Owned.{Own, ownOf, ownIn, own}
 use Rattle.step.specs.LiveCounts.{Counted, sound-counted, stored-live}
 use Rattle.step.specs.Laws.Rows.{none-some, some-inj, here, there, found, find-task}
 use Rattle.run.specs.Schedule.{scheduleSound}
@@ -55,27 +56,28 @@ line-printed t x line e = go (findRow t (x .state .rows)) refl e
 
 -- ---- it goes by what the task owns
 
-same-count : (table table′ : ProcessTable) (t : ℕ) → Counted table → Counted table′ → processesOf table t ≡ processesOf table′ t → liveCount table t ≡ liveCount table′ t
-same-count table table′ t c c′ e = stored-live table t c ∙ ap length e ∙ sym (stored-live table′ t c′)
+same-count : (table table′ : Processes) (t : ℕ) → Counted table → Counted table′ → processesOf table t ≡ processesOf table′ t → waitingOf table t ≡ waitingOf table′ t
+    → liveCount table t ≡ liveCount table′ t
+same-count table table′ t c c′ e f = stored-live table t c ∙ ap₂ _+_ (ap length e) (ap length f) ∙ sym (stored-live table′ t c′)
 
-line-counted : (table table′ : ProcessTable) (r : Row) → liveCount table (r .task) ≡ liveCount table′ (r .task) → rowLine table r ≡ rowLine table′ r
+line-counted : (table table′ : ProcessTable) (r : Row) → liveCount (table .users) (r .task) ≡ liveCount (table′ .users) (r .task) → rowLine table r ≡ rowLine table′ r
 unfolding rowLine
 line-counted table table′ r e =
     ap (λ (n : ℕ). decimal (r .task) ++ (space ++ decimal n) ++ (space ++ kindText (r .kind)) ++ (space ++ pcText (r .kind) (r .psw)) ++ newline) e
 
-pub line-same : (t : ℕ) (s s′ : State) → Counted (s .table) → Counted (s′ .table) → own t s ≡ own t s′ → taskLine t s ≡ taskLine t s′
+pub line-same : (t : ℕ) (s s′ : State) → Counted (s .table .users) → Counted (s′ .table .users) → own t s ≡ own t s′ → taskLine t s ≡ taskLine t s′
 unfolding own taskLine lineOf
 line-same t s s′ c c′ e = go (findRow t (s .rows)) (findRow t (s′ .rows)) refl e
   where
-    go : (o o′ : Option Row) → findRow t (s .rows) ≡ o → ownIn (s .table) t o ≡ ownIn (s′ .table) t o′ → lineOf (s .table) o ≡ lineOf (s′ .table) o′
+    go : (o o′ : Option Row) → findRow t (s .rows) ≡ o → ownIn (s .table .users) t o ≡ ownIn (s′ .table .users) t o′ → lineOf (s .table) o ≡ lineOf (s′ .table) o′
     go none none q k = refl
-    go none (some r) q k = absurd (none-some (owner r (processesOf (s′ .table) t)) k)
-    go (some r) none q k = absurd (none-some (owner r (processesOf (s .table) t)) (sym k))
+    go none (some r) q k = absurd (none-some (ownOf r t (s′ .table .users .psw) (s′ .table .users .queues)) k)
+    go (some r) none q k = absurd (none-some (ownOf r t (s .table .users .psw) (s .table .users .queues)) (sym k))
     go (some r) (some r′) q k =
-        let u = some-inj (owner r (processesOf (s .table) t)) (owner r′ (processesOf (s′ .table) t)) k in
+        let u = some-inj (ownOf r t (s .table .users .psw) (s .table .users .queues)) (ownOf r′ t (s′ .table .users .psw) (s′ .table .users .queues)) k in
         let task : r .task ≡ t = find-task t (s .rows) r q in
-        let live : liveCount (s .table) (r .task) ≡ liveCount (s′ .table) (r .task) =
-        rw task (same-count (s .table) (s′ .table) t c c′ (ap (λ (o : Own). o .processes) u)) in
+        let live : liveCount (s .table .users) (r .task) ≡ liveCount (s′ .table .users) (r .task) =
+        rw task (same-count (s .table .users) (s′ .table .users) t c c′ (ap (λ (o : Own). o .processes) u) (ap (λ (o : Own). o .waiting) u)) in
         ap (λ (x : List ℕ). some x) (line-counted (s .table) (s′ .table) r live ∙ ap (λ (o : Own). rowLine (s′ .table) (o .row)) u)
 
 -- ---- the output of a whole input
@@ -90,5 +92,5 @@ pub output-printed : (t : ℕ) (input schedule bytes : List ℕ) (i : Image) →
 output-printed t input schedule bytes i w d ok line e =
     subst (StandsIn (run schedule (stateOf i) .state .table) line) (sym (output-report input schedule bytes i w d ok)) (line-printed t (run schedule (stateOf i)) line e)
 
-pub run-counted : (bytes schedule : List ℕ) (i : Image) → Bytes bytes → decode bytes ≡ good i → Counted (run schedule (stateOf i) .state .table)
+pub run-counted : (bytes schedule : List ℕ) (i : Image) → Bytes bytes → decode bytes ≡ good i → Counted (run schedule (stateOf i) .state .table .users)
 run-counted bytes schedule i hb d = sound-counted (run schedule (stateOf i) .state) (run-keeps-sound schedule (stateOf i) (reads-only-sound bytes hb i d))

@@ -21,10 +21,9 @@ use Rattle.operation.specs.Decide.{decide}
 use Rattle.step.specs.Queues.{occ, hit}
 use Rattle.step.specs.Laws.Occurrences.{occ-nil, occ-cons, hit-same, hit-differ}
 use Rattle.step.specs.State.{State, findRow}
-use Rattle.step.specs.Owned.{ownIn, own}
 use Rattle.step.specs.Laws.Rows.{some-inj, none-some}
-use Rattle.step.specs.Laws.Act.{fixed, Inv}
-use Rattle.step.specs.Laws.Step.{Part, registerTags, registerWords, dataTags, dataValues, listIn, windowIn, window-fixed, fixedOf, fixedAt}
+use Rattle.step.specs.Laws.Act.{fixed, fixedOf, fixedAt, Inv}
+use Rattle.step.specs.Laws.Step.{Part, registerTags, registerWords, dataTags, dataValues, listIn, windowIn, window-fixed}
 use Rattle.step.specs.Laws.Agreement.{Agree}
 use Rattle.step.specs.Laws.Agreement as agreement
 use Rattle.run.specs.declared.Counts.{Counts}
@@ -90,16 +89,16 @@ cut-of-cells w k l h =
 -- ---- the row of a task and its fixed part
 
 row-of : (t : ℕ) (s : State) (c : Row) → fixedAt t s ≡ some c → (r : Row) × (findRow t (s .rows) ≡ some r) × (fixed r ≡ c)
-unfolding fixedAt own
+unfolding fixedAt
 row-of t s c e = go (findRow t (s .rows)) refl e
   where
-    go : (o : Option Row) → findRow t (s .rows) ≡ o → fixedOf (ownIn (s .table) t o) ≡ some c → (r : Row) × (findRow t (s .rows) ≡ some r) × (fixed r ≡ c)
+    go : (o : Option Row) → findRow t (s .rows) ≡ o → fixedOf o ≡ some c → (r : Row) × (findRow t (s .rows) ≡ some r) × (fixed r ≡ c)
     go none f k = absurd (none-some c k)
     go (some r) f k = (r, f, some-inj (fixed r) c k)
 
 fixed-of : (t : ℕ) (s : State) (r : Row) → findRow t (s .rows) ≡ some r → fixedAt t s ≡ some (fixed r)
-unfolding fixedAt own
-fixed-of t s r e = ap (λ (o : Option Row). fixedOf (ownIn (s .table) t o)) e
+unfolding fixedAt
+fixed-of t s r e = ap fixedOf e
 
 -- the windows of two rows with one fixed part are the same
 window-of : (m : Part) (r c : Row) → fixed r ≡ c → windowIn m c ≡ windowIn m r
@@ -182,14 +181,14 @@ pub isolation-of-set : (instructions : Environment → Decision) (A : ℕ → Bo
     → Inv s → Inv s′ → Apart A s → Apart A s′
     → ((t : ℕ) → A t ≡ true → Compared t s s′) → ((t : ℕ) → A t ≡ true → SameProgram t s s′) → SameConstants s s′
     → only A ts ≡ only A us
-    → runBy instructions ts s c .state .table .flag ≡ 0 → runBy instructions us s′ c′ .state .table .flag ≡ 0
+    → runBy instructions ts s c .state .table .users .flag ≡ 0 → runBy instructions us s′ c′ .state .table .users .flag ≡ 0
     → (t : ℕ) → A t ≡ true → Compared t (runBy instructions ts s c .state) (runBy instructions us s′ c′ .state)
 isolation-of-set instructions A ts us s s′ c c′ inv inv′ apart apart′ h p k e z z′ t m =
     subst₂ (Compared t) (sym (run-after instructions ts s c)) (sym (run-after instructions us s′ c′))
     (compared-of A (after instructions ts s) (after instructions us s′)
     (runs-agree instructions A ts us s s′ e
-    (record { inv = inv; apart = apart-of A s apart; down = ap (λ (x : State). x .table .flag) (sym (run-after instructions ts s c)) ∙ z })
-    (record { inv = inv′; apart = apart-of A s′ apart′; down = ap (λ (x : State). x .table .flag) (sym (run-after instructions us s′ c′)) ∙ z′ })
+    (record { inv = inv; apart = apart-of A s apart; down = ap (λ (x : State). x .table .users .flag) (sym (run-after instructions ts s c)) ∙ z })
+    (record { inv = inv′; apart = apart-of A s′ apart′; down = ap (λ (x : State). x .table .users .flag) (sym (run-after instructions us s′ c′)) ∙ z′ })
     (agree-of A s s′ h p k)) t m)
 
 -- ---- one task
@@ -216,7 +215,7 @@ apart-of-alone t s k v u m n = subst (λ (y : ℕ). Clear y u s) (sym (eqb-true 
 -- the set with one member
 pub isolation : (t : ℕ) (ts us : List ℕ) (s s′ : State) → Inv s → Inv s′ → Alone t s → Alone t s′
     → Compared t s s′ → SameProgram t s s′ → SameConstants s s′ → occ t ts ≡ occ t us
-    → run ts s .state .table .flag ≡ 0 → run us s′ .state .table .flag ≡ 0
+    → run ts s .state .table .users .flag ≡ 0 → run us s′ .state .table .users .flag ≡ 0
     → Compared t (run ts s .state) (run us s′ .state)
 unfolding run
 isolation t ts us s s′ inv inv′ alone alone′ h p k n z z′ =

@@ -13,10 +13,10 @@ use Rattle.operation.specs.Decide.{decide}
 use Rattle.step.specs.declared.Ending.{Ending}
 use Rattle.step.specs.declared.Ending.the-variants.{Executed, Waved, Trapped, Idle}
 use Rattle.step.specs.State.{State}
-use Rattle.step.specs.Step.{stepBy, step}
-use Rattle.step.specs.LiveCounts.{Counted, step-keeps-counted}
-use Rattle.step.specs.Laws.Step.{flag-kept}
-use Rattle.step.specs.Laws.Lengths.{SameLengths, same-lengths, lengths-join, step-lengths}
+use Rattle.step.specs.Step.{itemBy, item}
+use Rattle.step.specs.LiveCounts.{Counted, item-keeps-counted}
+use Rattle.step.specs.Laws.Item.{item-flag-kept, item-lengths}
+use Rattle.step.specs.Laws.Lengths.{SameLengths, same-lengths, lengths-join}
 use Rattle.run.specs.declared.Counts.{Counts}
 use Rattle.run.specs.Schedule.{scheduleRefusal, accepts, scheduleSound}
 use Rattle.run.specs.Run.{counted, noCounts, runBy, run}
@@ -65,58 +65,58 @@ module _ (instructions : Environment → Decision) where
   -- the state after a schedule
   unfoldable pub after : List ℕ → State → State
   after [] s = s
-  after (t ∷ ts) s = after ts (stepBy instructions t s .state)
+  after (t ∷ ts) s = after ts (itemBy instructions t s .state)
 
   pub run-after : (ts : List ℕ) (s : State) (c : Counts) → runBy instructions ts s c .state ≡ after ts s
   unfolding runBy after
   run-after [] s c = refl
-  run-after (t ∷ ts) s c = run-after ts (stepBy instructions t s .state) (counted (stepBy instructions t s .ending) c)
+  run-after (t ∷ ts) s c = run-after ts (itemBy instructions t s .state) (counted (itemBy instructions t s .ending) c)
 
   -- an ending counted before a run is counted behind it
   run-counted : (e : Ending) (ts : List ℕ) (s : State) (c : Counts) → runBy instructions ts s (counted e c) .counts ≡ counted e (runBy instructions ts s c .counts)
   unfolding runBy
   run-counted e [] s c = refl
   run-counted e (t ∷ ts) s c =
-      let x = stepBy instructions t s in
+      let x = itemBy instructions t s in
       ap (λ (d : Counts). runBy instructions ts (x .state) d .counts) (counted-turned (x .ending) e c) ∙ run-counted e ts (x .state) (counted (x .ending) c)
 
   sum-run : (ts : List ℕ) (s : State) (c : Counts) → sum (runBy instructions ts s c .counts) ≡ length ts + sum c
   unfolding runBy
   sum-run [] s c = omega arith
   sum-run (t ∷ ts) s c =
-      sum-run ts (stepBy instructions t s .state) (counted (stepBy instructions t s .ending) c) ∙ omega (arith, sum-counted (stepBy instructions t s .ending) c)
+      sum-run ts (itemBy instructions t s .state) (counted (itemBy instructions t s .ending) c) ∙ omega (arith, sum-counted (itemBy instructions t s .ending) c)
 
   -- the flag stays or goes up
-  pub after-kept : (P : ℕ → Type 0) → P 1 → (ts : List ℕ) (s : State) → P (s .table .flag) → P (after ts s .table .flag)
+  pub after-kept : (P : ℕ → Type 0) → P 1 → (ts : List ℕ) (s : State) → P (s .table .users .flag) → P (after ts s .table .users .flag)
   unfolding after
   after-kept P up [] s k = k
-  after-kept P up (t ∷ ts) s k = after-kept P up ts (stepBy instructions t s .state) (flag-kept instructions P up t s k)
+  after-kept P up (t ∷ ts) s k = after-kept P up ts (itemBy instructions t s .state) (item-flag-kept instructions P up t s k)
 
   -- the flag is down at the end: it was down throughout
-  pub after-flag : (ts : List ℕ) (s : State) → after ts s .table .flag ≡ 0 → s .table .flag ≡ 0
-  after-flag ts s = after-kept (λ (x : ℕ). x ≡ 0 → s .table .flag ≡ 0) (λ e. absurd (omega arith)) ts s (λ z. z)
+  pub after-flag : (ts : List ℕ) (s : State) → after ts s .table .users .flag ≡ 0 → s .table .users .flag ≡ 0
+  after-flag ts s = after-kept (λ (x : ℕ). x ≡ 0 → s .table .users .flag ≡ 0) (λ e. absurd (omega arith)) ts s (λ z. z)
 
   -- the live counts stay those found by counting
-  pub after-counted : (ts : List ℕ) (s : State) → Counted (s .table) → Counted (after ts s .table)
+  pub after-counted : (ts : List ℕ) (s : State) → Counted (s .table .users) → Counted (after ts s .table .users)
   unfolding after
   after-counted [] s k = k
-  after-counted (t ∷ ts) s k = after-counted ts (stepBy instructions t s .state) (step-keeps-counted instructions t s k)
+  after-counted (t ∷ ts) s k = after-counted ts (itemBy instructions t s .state) (item-keeps-counted instructions t s k)
 
   after-lengths : (ts : List ℕ) (s : State) → SameLengths (after ts s) s
   unfolding after
   after-lengths [] s = same-lengths s
-  after-lengths (t ∷ ts) s = lengths-join (after-lengths ts (stepBy instructions t s .state)) (step-lengths instructions t s)
+  after-lengths (t ∷ ts) s = lengths-join (after-lengths ts (itemBy instructions t s .state)) (item-lengths instructions t s)
 
 -- a run of a list is a step of its first item and a run of the others
-pub run-first-state : (t : ℕ) (ts : List ℕ) (s : State) → run (t ∷ ts) s .state ≡ run ts (step t s .state) .state
-unfolding run step runBy
+pub run-first-state : (t : ℕ) (ts : List ℕ) (s : State) → run (t ∷ ts) s .state ≡ run ts (item t s .state) .state
+unfolding run item runBy
 run-first-state t ts s =
-    let x = stepBy decide t s in
+    let x = itemBy decide t s in
     run-after decide ts (x .state) (counted (x .ending) noCounts) ∙ sym (run-after decide ts (x .state) noCounts)
 
-pub run-first-counts : (t : ℕ) (ts : List ℕ) (s : State) → run (t ∷ ts) s .counts ≡ counted (step t s .ending) (run ts (step t s .state) .counts)
-unfolding run step runBy
-run-first-counts t ts s = let x = stepBy decide t s in run-counted decide (x .ending) ts (x .state) noCounts
+pub run-first-counts : (t : ℕ) (ts : List ℕ) (s : State) → run (t ∷ ts) s .counts ≡ counted (item t s .ending) (run ts (item t s .state) .counts)
+unfolding run item runBy
+run-first-counts t ts s = let x = itemBy decide t s in run-counted decide (x .ending) ts (x .state) noCounts
 
 -- a run changes the length of no memory, and not how many rows there are
 pub run-lengths : (schedule : List ℕ) (s : State) → SameLengths (run schedule s .state) s
@@ -129,10 +129,10 @@ unfolding run
 run-counts schedule s = sum-run decide schedule s noCounts ∙ omega arith
 
 -- a run never lowers the flag: down at the end, it was down at the start; up at the start, it is up at the end
-pub run-flag : (schedule : List ℕ) (s : State) → run schedule s .state .table .flag ≡ 0 → s .table .flag ≡ 0
+pub run-flag : (schedule : List ℕ) (s : State) → run schedule s .state .table .users .flag ≡ 0 → s .table .users .flag ≡ 0
 unfolding run
-run-flag schedule s z = after-flag decide schedule s (ap (λ (x : State). x .table .flag) (sym (run-after decide schedule s noCounts)) ∙ z)
+run-flag schedule s z = after-flag decide schedule s (ap (λ (x : State). x .table .users .flag) (sym (run-after decide schedule s noCounts)) ∙ z)
 
-pub run-flag-up : (schedule : List ℕ) (s : State) → s .table .flag ≡ 1 → run schedule s .state .table .flag ≡ 1
+pub run-flag-up : (schedule : List ℕ) (s : State) → s .table .users .flag ≡ 1 → run schedule s .state .table .users .flag ≡ 1
 unfolding run
-run-flag-up schedule s u = ap (λ (x : State). x .table .flag) (run-after decide schedule s noCounts) ∙ after-kept decide (λ (x : ℕ). x ≡ 1) refl schedule s u
+run-flag-up schedule s u = ap (λ (x : State). x .table .users .flag) (run-after decide schedule s noCounts) ∙ after-kept decide (λ (x : ℕ). x ≡ 1) refl schedule s u

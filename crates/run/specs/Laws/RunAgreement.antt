@@ -6,10 +6,10 @@ use Prim.Native.Nat.{ℕ}
 use Rattle.operation.specs.Environment.{Environment}
 use Rattle.operation.specs.declared.Decision.{Decision}
 use Rattle.step.specs.State.{State}
-use Rattle.step.specs.Step.{stepBy}
+use Rattle.step.specs.Step.{itemBy}
 use Rattle.step.specs.Laws.Act.{Inv}
-use Rattle.step.specs.Laws.Step.{step-flag, step-inv}
-use Rattle.step.specs.Laws.Agreement.{Agree, Apart, agree-refl, agree-sym, agree-trans, apart-step, step-outside, step-inside}
+use Rattle.step.specs.Laws.Item.{item-flag, item-inv, item-apart, item-outside-set, item-inside}
+use Rattle.step.specs.Laws.Agreement.{Agree, Apart, agree-refl, agree-sym, agree-trans}
 use Rattle.run.specs.Laws.Run.{after, after-flag}
 
 -- the items of the tasks of A
@@ -35,40 +35,40 @@ module _ (instructions : Environment → Decision) (A : ℕ → Bool) where
   pub record Ready (ts : List ℕ) (s : State) : Type 0 where
     pub inv : Inv s
     pub apart : Apart A s
-    pub down : after instructions ts s .table .flag ≡ 0
+    pub down : after instructions ts s .table .users .flag ≡ 0
 
-  down-first : (t : ℕ) (ts : List ℕ) (s : State) → Ready (t ∷ ts) s → stepBy instructions t s .state .table .flag ≡ 0
+  down-first : (t : ℕ) (ts : List ℕ) (s : State) → Ready (t ∷ ts) s → itemBy instructions t s .state .table .users .flag ≡ 0
   unfolding after
-  down-first t ts s r = after-flag instructions ts (stepBy instructions t s .state) (r .down)
+  down-first t ts s r = after-flag instructions ts (itemBy instructions t s .state) (r .down)
 
-  ready-next : (t : ℕ) (ts : List ℕ) (s : State) → Ready (t ∷ ts) s → Ready ts (stepBy instructions t s .state)
+  ready-next : (t : ℕ) (ts : List ℕ) (s : State) → Ready (t ∷ ts) s → Ready ts (itemBy instructions t s .state)
   unfolding after
   ready-next t ts s r = record {
-    inv = step-inv instructions t s (r .inv) (down-first t ts s r);
-    apart = apart-step instructions A t s (r .inv) (down-first t ts s r) (r .apart);
+    inv = item-inv instructions t s (r .inv) (down-first t ts s r);
+    apart = item-apart instructions A t s (r .apart);
     down = r .down;
   }
 
-  outside : (t : ℕ) (ts : List ℕ) (s : State) → A t ≡ false → Ready (t ∷ ts) s → Agree A s (stepBy instructions t s .state)
-  outside t ts s out r = step-outside instructions A t s out (r .inv) (r .apart) (down-first t ts s r)
+  outside : (t : ℕ) (ts : List ℕ) (s : State) → A t ≡ false → Ready (t ∷ ts) s → Agree A s (itemBy instructions t s .state)
+  outside t ts s out r = item-outside-set instructions A t s out (r .inv) (r .apart) (down-first t ts s r)
 
   inside : (t : ℕ) (ts us : List ℕ) (s s′ : State) → A t ≡ true → Agree A s s′ → Ready (t ∷ ts) s → Ready (t ∷ us) s′
-      → Agree A (stepBy instructions t s .state) (stepBy instructions t s′ .state)
+      → Agree A (itemBy instructions t s .state) (itemBy instructions t s′ .state)
   inside t ts us s s′ m g r r′ =
-      step-inside instructions A s s′ g (step-flag instructions t s (down-first t ts s r) ∙ sym (step-flag instructions t s′ (down-first t us s′ r′))) t m
+      item-inside instructions A s s′ g (item-flag instructions t s (down-first t ts s r) ∙ sym (item-flag instructions t s′ (down-first t us s′ r′))) t m
       (r .inv) (r′ .inv) (down-first t ts s r) (down-first t us s′ r′)
 
   -- nothing of A in the schedule
   all-outside : (us : List ℕ) (s : State) → only A us ≡ [] → Ready us s → Agree A s (after instructions us s)
   unfolding after
   all-outside [] s e r = agree-refl A s
-  all-outside (u ∷ us) s e r = go (A u) refl (λ k. all-outside us (stepBy instructions u s .state) k (ready-next u us s r))
+  all-outside (u ∷ us) s e r = go (A u) refl (λ k. all-outside us (itemBy instructions u s .state) k (ready-next u us s r))
     where
-      go : (b : Bool) → A u ≡ b → (only A us ≡ [] → Agree A (stepBy instructions u s .state) (after instructions us (stepBy instructions u s .state)))
-          → Agree A s (after instructions us (stepBy instructions u s .state))
+      go : (b : Bool) → A u ≡ b → (only A us ≡ [] → Agree A (itemBy instructions u s .state) (after instructions us (itemBy instructions u s .state)))
+          → Agree A s (after instructions us (itemBy instructions u s .state))
       go true m ih = absurd (cons≢nil (sym (only-in A u us m) ∙ e))
       go false m ih =
-          agree-trans A s (stepBy instructions u s .state) (after instructions us (stepBy instructions u s .state)) (outside u us s m r) (ih (sym (only-out A u us m) ∙ e))
+          agree-trans A s (itemBy instructions u s .state) (after instructions us (itemBy instructions u s .state)) (outside u us s m r) (ih (sym (only-out A u us m) ∙ e))
 
   -- the schedule up to the first item of A, which is x
   record Reaches (us : List ℕ) (s : State) (x : ℕ) (xs : List ℕ) : Type 0 where
@@ -82,9 +82,9 @@ module _ (instructions : Environment → Decision) (A : ℕ → Bool) where
   reaches : (us : List ℕ) (s : State) (x : ℕ) (xs : List ℕ) → only A us ≡ x ∷ xs → Ready us s → Reaches us s x xs
   unfolding after
   reaches [] s x xs e r = absurd (nil≢cons (sym (only-nil A) ∙ e))
-  reaches (u ∷ us) s x xs e r = go (A u) refl (λ k. reaches us (stepBy instructions u s .state) x xs k (ready-next u us s r))
+  reaches (u ∷ us) s x xs e r = go (A u) refl (λ k. reaches us (itemBy instructions u s .state) x xs k (ready-next u us s r))
     where
-      go : (b : Bool) → A u ≡ b → (only A us ≡ x ∷ xs → Reaches us (stepBy instructions u s .state) x xs) → Reaches (u ∷ us) s x xs
+      go : (b : Bool) → A u ≡ b → (only A us ≡ x ∷ xs → Reaches us (itemBy instructions u s .state) x xs) → Reaches (u ∷ us) s x xs
       go true m ih =
           let q : u ∷ only A us ≡ x ∷ xs = sym (only-in A u us m) ∙ e in
           let h : u ≡ x = head-eq-of-cons-eq q in
@@ -94,14 +94,14 @@ module _ (instructions : Environment → Decision) (A : ℕ → Bool) where
             sees = agree-refl A s;
             ready = subst (λ (y : ℕ). Ready (y ∷ us) s) h r;
             left = tail-eq-of-cons-eq q;
-            ends = ap (λ (y : ℕ). after instructions us (stepBy instructions y s .state)) h;
+            ends = ap (λ (y : ℕ). after instructions us (itemBy instructions y s .state)) h;
           }
       go false m ih =
-          let k : Reaches us (stepBy instructions u s .state) x xs = ih (sym (only-out A u us m) ∙ e) in
+          let k : Reaches us (itemBy instructions u s .state) x xs = ih (sym (only-out A u us m) ∙ e) in
           record {
             us₁ = k .us₁;
             s₁ = k .s₁;
-            sees = agree-trans A s (stepBy instructions u s .state) (k .s₁) (outside u us s m r) (k .sees);
+            sees = agree-trans A s (itemBy instructions u s .state) (k .s₁) (outside u us s m r) (k .sees);
             ready = k .ready;
             left = k .left;
             ends = k .ends;
@@ -112,17 +112,17 @@ module _ (instructions : Environment → Decision) (A : ℕ → Bool) where
   unfolding after
   runs-agree [] us s s′ e r r′ g = agree-trans A s s′ (after instructions us s′) g (all-outside us s′ (sym e ∙ only-nil A) r′)
   runs-agree (t ∷ ts) us s s′ e r r′ g =
-      go (A t) refl (λ us₂ s₂ k q h. runs-agree ts us₂ (stepBy instructions t s .state) s₂ k (ready-next t ts s r) q h)
+      go (A t) refl (λ us₂ s₂ k q h. runs-agree ts us₂ (itemBy instructions t s .state) s₂ k (ready-next t ts s r) q h)
     where
       go : (b : Bool) → A t ≡ b
-          → ((us₂ : List ℕ) (s₂ : State) → only A ts ≡ only A us₂ → Ready us₂ s₂ → Agree A (stepBy instructions t s .state) s₂
-          → Agree A (after instructions ts (stepBy instructions t s .state)) (after instructions us₂ s₂))
-          → Agree A (after instructions ts (stepBy instructions t s .state)) (after instructions us s′)
+          → ((us₂ : List ℕ) (s₂ : State) → only A ts ≡ only A us₂ → Ready us₂ s₂ → Agree A (itemBy instructions t s .state) s₂
+          → Agree A (after instructions ts (itemBy instructions t s .state)) (after instructions us₂ s₂))
+          → Agree A (after instructions ts (itemBy instructions t s .state)) (after instructions us s′)
       go true m ih =
           let k : Reaches us s′ t (only A ts) = reaches us s′ t (only A ts) (sym e ∙ only-in A t ts m) r′ in
-          subst (Agree A (after instructions ts (stepBy instructions t s .state))) (sym (k .ends))
-          (ih (k .us₁) (stepBy instructions t (k .s₁) .state) (sym (k .left)) (ready-next t (k .us₁) (k .s₁) (k .ready))
+          subst (Agree A (after instructions ts (itemBy instructions t s .state))) (sym (k .ends))
+          (ih (k .us₁) (itemBy instructions t (k .s₁) .state) (sym (k .left)) (ready-next t (k .us₁) (k .s₁) (k .ready))
           (inside t ts (k .us₁) s (k .s₁) m (agree-trans A s s′ (k .s₁) g (k .sees)) r (k .ready)))
       go false m ih =
           ih us s′ (sym (only-out A t ts m) ∙ e) r′
-          (agree-trans A (stepBy instructions t s .state) s s′ (agree-sym A s (stepBy instructions t s .state) (outside t ts s m r)) g)
+          (agree-trans A (itemBy instructions t s .state) s s′ (agree-sym A s (itemBy instructions t s .state) (outside t ts s m r)) g)

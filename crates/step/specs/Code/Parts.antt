@@ -1,6 +1,6 @@
--- A step in the parts that code makes one after another: what is decided, how the step ends, and what becomes of the queue, the PSWs, the row
+-- A step or a try in the parts that code makes one after another: what is decided, how it ends, and what becomes of the queues, the PSWs, the row
 -- and the flag. `free` is the lowest free PT, and `below` says that one process more is fewer than the total; only a create looks at them.
--- Document 01 has none of these parts: it names `step` alone, and law step-made (Laws/Parts) says that together they are `step`.
+-- Document 01 has none of these parts: it names steps and tries alone, and law attempt-made (Laws/Parts) says that together they are one.
 use Prim.Native.Nat.{ℕ}
 use mathlib.Core.Path.{_≡_}
 use mathlib.Core.Bool.{Bool, true, false, cond}
@@ -16,6 +16,9 @@ use Rattle.operation.specs.declared.Fate.{Fate}
 use Rattle.operation.specs.declared.Fate.the-variants.{Continues, Quits, Creates}
 use Rattle.operation.specs.declared.Decision.{Decision}
 use Rattle.operation.specs.declared.Decision.the-variants.{Waits, Traps, Executes}
+use Rattle.operation.specs.declared.Wait.{Wait}
+use Rattle.step.specs.declared.Attempt.{Attempt}
+use Rattle.step.specs.declared.Attempt.the-variants.{Step, Try}
 use Rattle.step.specs.declared.Queue.{Queue}
 use Rattle.step.specs.declared.Ending.{Ending}
 use Rattle.step.specs.declared.Ending.the-variants.{Executed, Waved, Trapped}
@@ -24,10 +27,10 @@ use Rattle.step.specs.declared.Decided.{Decided}
 use Rattle.step.specs.declared.Decided.the-variants.{Decides}
 use Rattle.step.specs.declared.Decided.the-variants as decided
 use Rattle.step.specs.declared.Motion.{Motion}
-use Rattle.step.specs.declared.Motion.the-variants.{Stays, Turns, Leaves, TurnsAndJoins, Joins}
+use Rattle.step.specs.declared.Motion.the-variants.{Stays, Turns, Leaves, Passes, TurnsAndJoins, PassesAndJoins, Joins}
 use Rattle.step.specs.declared.StepResult.{StepResult}
-use Rattle.step.specs.Queues.{turned, shifted, joined}
-use Rattle.step.specs.Act.{registerWrites, dataWrites, trappedRow}
+use Rattle.step.specs.Queues.{ownNumber, sfuNumber, actingNumber}
+use Rattle.step.specs.Act.{registerWrites, dataWrites, trappedRow, turnedAt, leftAt, joinedAt, passedTo}
 
 -- a decision, or none, as an answer
 unfoldable pub decidedAs : Option Decision → Decided
@@ -49,20 +52,32 @@ creates (Decides (Executes e)) = fateCreates (e .fate)
 abbrev pub result : Ending → Motion → StepResult
 result e m = record { ending = e; motion = m }
 
--- how a step ends, and what becomes of the queue
-unfoldable pub fateResult : (free : ℕ) → (below : Bool) → Fate → StepResult
-fateResult free below (Continues p) = result Executed Turns
-fateResult free below Quits = result Executed Leaves
-fateResult free below (Creates p new) = cond below (result Executed (TurnsAndJoins free)) (result (Trapped CreateFault p) (Joins free))
+-- what becomes of the queues where the process has executed, has created another, and where it waits
+unfoldable pub executedMotion : Attempt → Motion
+executedMotion Step = Turns
+executedMotion Try = Passes
 
-unfoldable pub decisionResult : (free : ℕ) → (below : Bool) → Decision → StepResult
-decisionResult free below (Waits w) = result Waved Turns
-decisionResult free below (Traps k p) = result (Trapped k p) Stays
-decisionResult free below (Executes e) = fateResult free below (e .fate)
+unfoldable pub createdMotion : Attempt → (free : ℕ) → Motion
+createdMotion Step free = TurnsAndJoins free
+createdMotion Try free = PassesAndJoins free
 
-unfoldable pub resultOf : (free : ℕ) → (below : Bool) → Decided → StepResult
-resultOf free below decided.Idle = result ending.Idle Stays
-resultOf free below (Decides d) = decisionResult free below d
+unfoldable pub wavedMotion : Attempt → Wait → Motion
+wavedMotion a w = Turns
+
+-- how it ends, and what becomes of the queues
+unfoldable pub fateResult : Attempt → (free : ℕ) → (below : Bool) → Fate → StepResult
+fateResult a free below (Continues p) = result Executed (executedMotion a)
+fateResult a free below Quits = result Executed Leaves
+fateResult a free below (Creates p new) = cond below (result Executed (createdMotion a free)) (result (Trapped CreateFault p) (Joins free))
+
+unfoldable pub decisionResult : Attempt → (free : ℕ) → (below : Bool) → Decision → StepResult
+decisionResult a free below (Waits w) = result Waved (wavedMotion a w)
+decisionResult a free below (Traps k p) = result (Trapped k p) Stays
+decisionResult a free below (Executes e) = fateResult a free below (e .fate)
+
+unfoldable pub resultOf : Attempt → (free : ℕ) → (below : Bool) → Decided → StepResult
+resultOf a free below decided.Idle = result ending.Idle Stays
+resultOf a free below (Decides d) = decisionResult a free below d
 
 -- the PSWs, the head process having the PT head
 unfoldable pub fatePsws : (head free : ℕ) → Fate → List ℕ → List ℕ
@@ -88,20 +103,29 @@ unfoldable pub dataWritten : Decided → List Write
 dataWritten decided.Idle = []
 dataWritten (Decides d) = dataWrites d
 
--- the queue
-unfoldable pub movedQueue : Motion → Queue → Queue
-movedQueue Stays q = q
-movedQueue Turns q = turned q
-movedQueue Leaves q = shifted q
-movedQueue (TurnsAndJoins p) q = joined (turned q) p
-movedQueue (Joins p) q = joined q p
+-- the queue that is not the one whose head acts
+unfoldable pub otherNumber : Attempt → (t : ℕ) → ℕ
+otherNumber Step t = sfuNumber t
+otherNumber Try t = ownNumber t
+
+-- the queues
+unfoldable pub movedQueues : Motion → Attempt → (t : ℕ) → List Queue → List Queue
+movedQueues Stays a t qs = qs
+movedQueues Turns a t qs = turnedAt qs (actingNumber a t)
+movedQueues Leaves a t qs = leftAt qs (actingNumber a t)
+movedQueues Passes a t qs = passedTo qs (actingNumber a t) (otherNumber a t)
+movedQueues (TurnsAndJoins p) a t qs = joinedAt (turnedAt qs (actingNumber a t)) (ownNumber t) p
+movedQueues (PassesAndJoins p) a t qs = joinedAt (passedTo qs (actingNumber a t) (otherNumber a t)) (ownNumber t) p
+movedQueues (Joins p) a t qs = joinedAt qs (ownNumber t) p
 
 -- the flag: the create that makes the last process raises it
 unfoldable pub flagAfter : Motion → (flag : ℕ) → ℕ
 flagAfter Stays flag = flag
 flagAfter Turns flag = flag
 flagAfter Leaves flag = flag
+flagAfter Passes flag = flag
 flagAfter (TurnsAndJoins p) flag = flag
+flagAfter (PassesAndJoins p) flag = flag
 flagAfter (Joins p) flag = 1
 
 -- the row: only a trap changes it
@@ -112,8 +136,8 @@ rowAfter (Trapped k p) r = trappedRow r k p
 rowAfter ending.Idle r = r
 
 -- what is done about what is decided: the result, and every cell of the PSWs, the registers m and the data words n, before and after
-pub record Acts (r : Row) (d : Decided) (head free : ℕ) (below : Bool) (x : StepResult) (psw psw′ : List ℕ) (m m′ n n′ : Memory) : Type 0 where
-  pub ends : x ≡ resultOf free below d
+pub record Acts (a : Attempt) (r : Row) (d : Decided) (head free : ℕ) (below : Bool) (x : StepResult) (psw psw′ : List ℕ) (m m′ n n′ : Memory) : Type 0 where
+  pub ends : x ≡ resultOf a free below d
   pub psws : psw′ ≡ pswsAfter head free d psw
   pub registers : m′ ≡ written (registerWindow r) (registersWritten d) m
   pub dataWords : n′ ≡ written (dataWordWindow r) (dataWritten d) n

@@ -1,5 +1,5 @@
 -- What an operation that acts at once does about its decision: its course, and every cell of the PSWs, the registers m and the data words n.
--- pt is the PT of the process, fresh the one that a created process gets. Document 01 has no course: it names `step` alone, and law
+-- pt is the PT of the process, fresh the one that a created process gets. Document 01 has no course: it names steps and tries alone, and law
 -- performs-acts (Laws/Performs) says that what is performed is what `Acts` says of the decision.
 use Prim.Native.Nat.{ℕ}
 use mathlib.Core.Path.{_≡_}
@@ -16,11 +16,12 @@ use Rattle.operation.specs.declared.Decision.{Decision}
 use Rattle.operation.specs.declared.Decision.the-variants as decision
 use Rattle.operation.specs.declared.Course.{Course}
 use Rattle.operation.specs.declared.Course.the-variants as go
+use Rattle.step.specs.declared.Attempt.{Attempt}
 use Rattle.step.specs.declared.Ending.the-variants.{Executed, Waved, Trapped}
-use Rattle.step.specs.declared.Motion.the-variants.{Stays, Turns, Leaves, TurnsAndJoins, Joins}
+use Rattle.step.specs.declared.Motion.the-variants.{Stays, Turns, Leaves, Joins}
 use Rattle.step.specs.declared.StepResult.{StepResult}
 use Rattle.step.specs.Act.{registerWrites, dataWrites}
-use Rattle.step.specs.Code.Parts.{result, decisionPsws}
+use Rattle.step.specs.Code.Parts.{result, decisionPsws, executedMotion, createdMotion}
 
 unfoldable pub trapCourse : Trap → Course
 trapCourse trap.CreateFault = go.CreateFault
@@ -47,16 +48,16 @@ pub record Performs (row : Row) (d : Decision) (pt fresh : ℕ) (r : Course) (ps
   pub registers : m′ ≡ written (registerWindow row) (registerWrites d) m
   pub dataWords : n′ ≡ written (dataWordWindow row) (dataWrites d) n
 
--- how a step ends by the course alone, p being the PSW that the process has after it
-unfoldable pub courseResult : (free : ℕ) → (below : Bool) → (p : ℕ) → Course → StepResult
-courseResult free below p go.Continues = result Executed Turns
-courseResult free below p go.Waits = result Waved Turns
-courseResult free below p go.Quits = result Executed Leaves
-courseResult free below p go.Creates = cond below (result Executed (TurnsAndJoins free)) (result (Trapped trap.CreateFault p) (Joins free))
-courseResult free below p go.CreateFault = result (Trapped trap.CreateFault p) Stays
-courseResult free below p go.IllegalInstruction = result (Trapped trap.IllegalInstruction p) Stays
-courseResult free below p go.ProtectionViolation = result (Trapped trap.ProtectionViolation p) Stays
-courseResult free below p go.PrivilegedInstruction = result (Trapped trap.PrivilegedInstruction p) Stays
-courseResult free below p go.SupervisorCall = result (Trapped trap.SupervisorCall p) Stays
-courseResult free below p go.SimulatedInstruction = result (Trapped trap.SimulatedInstruction p) Stays
-courseResult free below p go.DataException = result (Trapped trap.DataException p) Stays
+-- how a step or a try ends by the course alone, p being the PSW that the process has after it
+unfoldable pub courseResult : Attempt → (free : ℕ) → (below : Bool) → (p : ℕ) → Course → StepResult
+courseResult a free below p go.Continues = result Executed (executedMotion a)
+courseResult a free below p go.Waits = result Waved Turns
+courseResult a free below p go.Quits = result Executed Leaves
+courseResult a free below p go.Creates = cond below (result Executed (createdMotion a free)) (result (Trapped trap.CreateFault p) (Joins free))
+courseResult a free below p go.CreateFault = result (Trapped trap.CreateFault p) Stays
+courseResult a free below p go.IllegalInstruction = result (Trapped trap.IllegalInstruction p) Stays
+courseResult a free below p go.ProtectionViolation = result (Trapped trap.ProtectionViolation p) Stays
+courseResult a free below p go.PrivilegedInstruction = result (Trapped trap.PrivilegedInstruction p) Stays
+courseResult a free below p go.SupervisorCall = result (Trapped trap.SupervisorCall p) Stays
+courseResult a free below p go.SimulatedInstruction = result (Trapped trap.SimulatedInstruction p) Stays
+courseResult a free below p go.DataException = result (Trapped trap.DataException p) Stays

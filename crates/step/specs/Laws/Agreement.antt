@@ -1,4 +1,4 @@
--- Two states that agree on a set of tasks, and one step in each. For any instruction set.
+-- Two states that agree on a set of tasks, and one step or try in each. For any instruction set.
 use mathlib.Core.Path.{_≡_, refl, sym, ap, ap₂, _∙_, subst}
 use mathlib.Core.Bool.{Bool, true, false, cond, true≢false}
 use mathlib.Core.Option.{Option, none, some}
@@ -17,11 +17,12 @@ use Rattle.operand.specs.declared.Operand.the-variants.{Register, Constant, Abs
 use Rattle.operand.specs.Access.{visibleCell}
 use Rattle.operation.specs.Environment.{Environment, environmentOf}
 use Rattle.operation.specs.declared.Decision.{Decision}
-use Rattle.step.specs.State.{State, environment}
-use Rattle.step.specs.Step.{noTrap, headDecides, rowDecides, stepBy}
-use Rattle.step.specs.Owned.{Own, own}
-use Rattle.step.specs.Laws.Act.{fixed, Inv}
-use Rattle.step.specs.Laws.Step.{Part, registerTags, registerWords, dataTags, dataValues, listIn, windowIn, fixedOf, fixedAt, decided, localIn, hitsIn, list-step, own-step, own-step-other, fixed-step, constants-step, program-step, step-outside-window}
+use Rattle.step.specs.declared.Attempt.{Attempt}
+use Rattle.step.specs.State.{State, findRow, environment}
+use Rattle.step.specs.Step.{noTrap, headDecides, rowDecides, attemptBy}
+use Rattle.step.specs.Owned.{Own, ownIn, own}
+use Rattle.step.specs.Laws.Act.{fixed, fixedOf, fixedAt, Inv}
+use Rattle.step.specs.Laws.Step.{Part, registerTags, registerWords, dataTags, dataValues, listIn, windowIn, actingOf, decided, localIn, endingIn, hitsIn, list-attempt, own-attempt, attempt-ends, own-attempt-other, fixed-attempt, constants-attempt, program-attempt, attempt-outside}
 
 -- s and s′ agree on the tasks of A, place by place
 pub record Agree (A : ℕ → Bool) (s s′ : State) : Type 0 where
@@ -37,10 +38,22 @@ pub record Apart (A : ℕ → Bool) (s : State) : Type 0 where
   pub windows : (m : Part) (t u : ℕ) → A t ≡ true → A u ≡ false → (r x : Row) → fixedAt t s ≡ some r → fixedAt u s ≡ some x
       → (a : ℕ) → inside (windowIn m r) a ≡ true → inside (windowIn m x) a ≡ false
 
+-- the fixed part of a task's row, by what the task owns
+abbrev fixedOwn : Option Own → Option Row
+fixedOwn none = none
+fixedOwn (some o) = some (fixed (o .row))
+
+own-fixed : (t : ℕ) (s : State) → fixedAt t s ≡ fixedOwn (own t s)
+unfolding fixedAt own
+own-fixed t s = go (findRow t (s .rows))
+  where
+    go : (o : Option Row) → fixedOf o ≡ fixedOwn (ownIn (s .table .users) t o)
+    go none = refl
+    go (some r) = refl
+
 module _ (A : ℕ → Bool) where
   agree-fixed : (s s′ : State) → Agree A s s′ → (t : ℕ) → A t ≡ true → fixedAt t s ≡ fixedAt t s′
-  unfolding fixedAt
-  agree-fixed s s′ g t m = ap fixedOf (g .owns t m)
+  agree-fixed s s′ g t m = own-fixed t s ∙ ap fixedOwn (g .owns t m) ∙ sym (own-fixed t s′)
 
   pub agree-refl : (s : State) → Agree A s s
   agree-refl s = record { owns = λ t m. refl; constants = λ a. refl; cells = λ x t m r e a i. refl; code = λ t m r e a i. refl }
@@ -71,23 +84,23 @@ visible-same w m n c d h k e (Constant a) = e a
 visible-same w m n c d h k e Absent = refl
 
 module _ (instructions : Environment → Decision) where
-  pub apart-step : (A : ℕ → Bool) (t : ℕ) (s : State) → Inv s → stepBy instructions t s .state .table .flag ≡ 0 → Apart A s → Apart A (stepBy instructions t s .state)
-  apart-step A t s inv z k = record {
-    windows = λ m u v i o r x e f. k .windows m u v i o r x (sym (fixed-step instructions t u s inv z) ∙ e) (sym (fixed-step instructions t v s inv z) ∙ f);
+  pub apart-attempt : (A : ℕ → Bool) (a : Attempt) (t : ℕ) (s : State) → Apart A s → Apart A (attemptBy instructions a t s .state)
+  apart-attempt A a t s k = record {
+    windows = λ m u v i o r x e f. k .windows m u v i o r x (sym (fixed-attempt instructions a t u s) ∙ e) (sym (fixed-attempt instructions a t v s) ∙ f);
   }
 
   -- a step of a task outside A changes nothing that A sees
-  pub step-outside : (A : ℕ → Bool) (u : ℕ) (s : State) → A u ≡ false → Inv s → Apart A s → stepBy instructions u s .state .table .flag ≡ 0
-      → Agree A s (stepBy instructions u s .state)
-  step-outside A u s out inv k z = record {
-    owns = λ t m. sym (own-step-other instructions u t s (λ e. true≢false (sym m ∙ ap A (sym e) ∙ out)) inv z);
-    constants = λ a. ap (λ (m : Memory). constantAt m a) (sym (constants-step instructions u s));
-    cells = λ x t m r e a i. sym (step-outside-window instructions x u s a (λ y f. k .windows x t u m out r y e f a i));
-    code = λ t m r e a i. ap (λ (l : List ℕ). getElem? l a) (sym (program-step instructions u s));
+  pub attempt-outside-set : (A : ℕ → Bool) (a : Attempt) (u : ℕ) (s : State) → A u ≡ false → Inv s → Apart A s
+      → attemptBy instructions a u s .state .table .users .flag ≡ 0 → Agree A s (attemptBy instructions a u s .state)
+  attempt-outside-set A a u s out inv k z = record {
+    owns = λ t m. sym (own-attempt-other instructions a u t s (λ e. true≢false (sym m ∙ ap A (sym e) ∙ out)) inv z);
+    constants = λ i. ap (λ (m : Memory). constantAt m i) (sym (constants-attempt instructions a u s));
+    cells = λ x t m r e i h. sym (attempt-outside instructions x a u s i (λ y f. k .windows x t u m out r y e f i h));
+    code = λ t m r e i h. ap (λ (l : List ℕ). getElem? l i) (sym (program-attempt instructions a u s));
   }
 
   -- a step of a task of A, in two states that agree on A
-  module _ (A : ℕ → Bool) (s s′ : State) (g : Agree A s s′) (flags : s .table .flag ≡ s′ .table .flag) (t : ℕ) (m : A t ≡ true) where
+  module _ (A : ℕ → Bool) (s s′ : State) (g : Agree A s s′) (flags : s .table .users .flag ≡ s′ .table .users .flag) (a : Attempt) (t : ℕ) (m : A t ≡ true) where
     environment-same : (r : Row) → fixedAt t s ≡ some (fixed r) → (p : ℕ) → environment s r p ≡ environment s′ r p
     unfolding environment environmentOf cellIn programWindow registerWindow dataWordWindow
     environment-same r e p = λ i. record {
@@ -109,32 +122,39 @@ module _ (instructions : Environment → Decision) where
     head-same r e [] = refl
     head-same r e (p ∷ ps) = ap (λ (x : Environment). some (instructions x)) (environment-same r e p)
 
-    decided-same : decided instructions s (own t s) ≡ decided instructions s′ (own t s′)
-    unfolding fixedAt rowDecides
-    decided-same = go (own t s) refl ∙ ap (decided instructions s′) (g .owns t m)
+    decided-same : decided instructions a s (own t s) ≡ decided instructions a s′ (own t s′)
+    unfolding rowDecides
+    decided-same = go (own t s) refl ∙ ap (decided instructions a s′) (g .owns t m)
       where
-        go : (o : Option Own) → own t s ≡ o → decided instructions s o ≡ decided instructions s′ o
+        go : (o : Option Own) → own t s ≡ o → decided instructions a s o ≡ decided instructions a s′ o
         go none e = refl
-        go (some o) e = ap (λ (x : Option Decision). cond (eqb (o .row .kind) noTrap) x none) (head-same (o .row) (ap fixedOf e) (o .processes))
+        go (some o) e =
+            ap (λ (x : Option Decision). cond (eqb (o .row .kind) noTrap) x none) (head-same (o .row) (own-fixed t s ∙ ap fixedOwn e) (actingOf a o))
 
-    pub step-inside : Inv s → Inv s′ → stepBy instructions t s .state .table .flag ≡ 0 → stepBy instructions t s′ .state .table .flag ≡ 0
-        → Agree A (stepBy instructions t s .state) (stepBy instructions t s′ .state)
-    step-inside inv inv′ z z′ = record {
+    -- the two end alike
+    pub ends-same : Inv s → Inv s′ → attemptBy instructions a t s .state .table .users .flag ≡ 0 → attemptBy instructions a t s′ .state .table .users .flag ≡ 0
+        → attemptBy instructions a t s .ending ≡ attemptBy instructions a t s′ .ending
+    ends-same inv inv′ z z′ = attempt-ends instructions a t s inv z ∙ ap endingIn decided-same ∙ sym (attempt-ends instructions a t s′ inv′ z′)
+
+    pub attempt-inside : Inv s → Inv s′ → attemptBy instructions a t s .state .table .users .flag ≡ 0 → attemptBy instructions a t s′ .state .table .users .flag ≡ 0
+        → Agree A (attemptBy instructions a t s .state) (attemptBy instructions a t s′ .state)
+    attempt-inside inv inv′ z z′ = record {
       owns = λ u n. go u n (eqb t u) (eq? t u);
-      constants = λ a.
-          ap (λ (m : Memory). constantAt m a) (constants-step instructions t s) ∙ g .constants a ∙ sym (ap (λ (m : Memory). constantAt m a) (constants-step instructions t s′));
-      cells = λ x u n r e a i.
-          list-step instructions x t s a
-          ∙ (λ j. hitsIn instructions x (decided-same j) (g .owns t m j) a (g .cells x u n r (sym (fixed-step instructions t u s inv z) ∙ e) a i j))
-          ∙ sym (list-step instructions x t s′ a);
-      code = λ u n r e a i.
-          ap (λ (l : List ℕ). getElem? l a) (program-step instructions t s)
-          ∙ g .code u n r (sym (fixed-step instructions t u s inv z) ∙ e) a i
-          ∙ sym (ap (λ (l : List ℕ). getElem? l a) (program-step instructions t s′));
+      constants = λ i.
+          ap (λ (m : Memory). constantAt m i) (constants-attempt instructions a t s) ∙ g .constants i
+          ∙ sym (ap (λ (m : Memory). constantAt m i) (constants-attempt instructions a t s′));
+      cells = λ x u n r e i h.
+          list-attempt instructions x a t s i
+          ∙ (λ j. hitsIn x (decided-same j) (agree-fixed A s s′ g t m j) i (g .cells x u n r (sym (fixed-attempt instructions a t u s) ∙ e) i h j))
+          ∙ sym (list-attempt instructions x a t s′ i);
+      code = λ u n r e i h.
+          ap (λ (l : List ℕ). getElem? l i) (program-attempt instructions a t s)
+          ∙ g .code u n r (sym (fixed-attempt instructions a t u s) ∙ e) i h
+          ∙ sym (ap (λ (l : List ℕ). getElem? l i) (program-attempt instructions a t s′));
     }
       where
-        go : (u : ℕ) → A u ≡ true → (b : Bool) → Eq? t u b → own u (stepBy instructions t s .state) ≡ own u (stepBy instructions t s′ .state)
+        go : (u : ℕ) → A u ≡ true → (b : Bool) → Eq? t u b → own u (attemptBy instructions a t s .state) ≡ own u (attemptBy instructions a t s′ .state)
         go u n true (same e) =
-            subst (λ (v : ℕ). own v (stepBy instructions t s .state) ≡ own v (stepBy instructions t s′ .state)) e
-            (own-step instructions t s inv z ∙ ap₂ (localIn instructions) decided-same (g .owns t m) ∙ sym (own-step instructions t s′ inv′ z′))
-        go u n false (differ h) = own-step-other instructions t u s h inv z ∙ g .owns u n ∙ sym (own-step-other instructions t u s′ h inv′ z′)
+            subst (λ (v : ℕ). own v (attemptBy instructions a t s .state) ≡ own v (attemptBy instructions a t s′ .state)) e
+            (own-attempt instructions a t s inv z ∙ ap₂ (localIn a) decided-same (g .owns t m) ∙ sym (own-attempt instructions a t s′ inv′ z′))
+        go u n false (differ h) = own-attempt-other instructions a t u s h inv z ∙ g .owns u n ∙ sym (own-attempt-other instructions a t u s′ h inv′ z′)

@@ -11,11 +11,12 @@ use Rattle.operation.specs.declared.Fate.{Fate}
 use Rattle.operation.specs.declared.Fate.the-variants.{Continues, Quits, Creates}
 use Rattle.operation.specs.declared.Decision.{Decision}
 use Rattle.operation.specs.declared.Decision.the-variants.{Waits, Traps, Executes}
+use Rattle.step.specs.declared.Attempt.{Attempt}
 use Rattle.step.specs.declared.Queue.{Queue}
-use Rattle.step.specs.declared.ProcessTable.{ProcessTable}
+use Rattle.step.specs.declared.Processes.{Processes}
 use Rattle.step.specs.Queues.{belowTotal, liveCounts, liveTotal}
 use Rattle.step.specs.State.{State}
-use Rattle.step.specs.Act.{tableOf, Change, createdIn, faultIn, fateIn, changeOf, act}
+use Rattle.step.specs.Act.{withCounts, Change, createdIn, faultIn, fateIn, changeOf, act}
 use Rattle.step.specs.Soundness.{alike, liveSound}
 
 -- ---- the test
@@ -33,39 +34,39 @@ alike-self [] = refl
 alike-self (x ∷ l) = also (eq-eqb x x refl) (alike-self l)
 
 -- counts that pass the test are those of the queues
-pub live-counted : (t : ProcessTable) → liveSound t ≡ true → (t .live ≡ liveCounts (t .queues)) × (t .processes ≡ liveTotal (t .queues))
+pub live-counted : (t : Processes) → liveSound t ≡ true → (t .live ≡ liveCounts (t .queues)) × (t .count ≡ liveTotal (t .queues))
 unfolding liveSound
-live-counted t e = both (alike-same (t .live) (liveCounts (t .queues))) (eqb-true (t .processes) (liveTotal (t .queues))) e
+live-counted t e = both (alike-same (t .live) (liveCounts (t .queues))) (eqb-true (t .count) (liveTotal (t .queues))) e
 
 -- those of the queues pass it
-pub made-live : (psw : List ℕ) (queues : List Queue) (flag : ℕ) → liveSound (tableOf psw queues flag) ≡ true
+pub made-live : (psw : List ℕ) (queues : List Queue) (flag : ℕ) → liveSound (withCounts psw queues flag) ≡ true
 unfolding liveSound
 made-live psw queues flag = also (alike-self (liveCounts queues)) (eq-eqb (liveTotal queues) (liveTotal queues) refl)
 
-pub made-total : (psw : List ℕ) (queues : List Queue) (flag : ℕ) → tableOf psw queues flag .processes ≡ liveTotal queues
+pub made-total : (psw : List ℕ) (queues : List Queue) (flag : ℕ) → withCounts psw queues flag .count ≡ liveTotal queues
 made-total psw queues flag = refl
 
 -- so a table whose counts pass is the one that is made of its PSWs, queues and flag
-pub live-made : (t : ProcessTable) → liveSound t ≡ true → t ≡ tableOf (t .psw) (t .queues) (t .flag)
+pub live-made : (t : Processes) → liveSound t ≡ true → t ≡ withCounts (t .psw) (t .queues) (t .flag)
 live-made t e =
     let u = live-counted t e in
-    ap₂ (λ (l : List ℕ) (n : ℕ). record { psw = t .psw; queues = t .queues; flag = t .flag; live = l; processes = n }) (u .0) (u .1)
+    ap₂ (λ (l : List ℕ) (n : ℕ). record { psw = t .psw; queues = t .queues; flag = t .flag; live = l; count = n }) (u .0) (u .1)
 
 -- ---- an act
 
-fate-live : (table : ProcessTable) (r : Row) (f : Fate) → liveSound (fateIn table r f .table) ≡ true
+fate-live : (table : Processes) (a : Attempt) (r : Row) (f : Fate) → liveSound (fateIn table a r f .table) ≡ true
 unfolding fateIn createdIn faultIn
-fate-live table r (Continues p) = made-live _ _ _
-fate-live table r Quits = made-live _ _ _
-fate-live table r (Creates p new) =
-    either (λ (c : Change). liveSound (c .table) ≡ true) (belowTotal (table .processes)) {x = createdIn table r p new} {y = faultIn table r p new} (made-live _ _ _) (made-live _ _ _)
+fate-live table a r (Continues p) = made-live _ _ _
+fate-live table a r Quits = made-live _ _ _
+fate-live table a r (Creates p new) =
+    either (λ (c : Change). liveSound (c .table) ≡ true) (belowTotal (table .count)) {x = createdIn table a r p new} {y = faultIn table a r p new} (made-live _ _ _) (made-live _ _ _)
 
-change-live : (table : ProcessTable) (r : Row) (d : Decision) → liveSound (changeOf table r d .table) ≡ true
+change-live : (table : Processes) (a : Attempt) (r : Row) (d : Decision) → liveSound (changeOf table a r d .table) ≡ true
 unfolding changeOf
-change-live table r (Waits w) = made-live _ _ _
-change-live table r (Traps k p) = made-live _ _ _
-change-live table r (Executes e) = fate-live table r (e .fate)
+change-live table a r (Waits w) = made-live _ _ _
+change-live table a r (Traps k p) = made-live _ _ _
+change-live table a r (Executes e) = fate-live table a r (e .fate)
 
-pub act-live : (s : State) (r : Row) (d : Decision) → liveSound (act s r d .state .table) ≡ true
+pub act-live : (s : State) (a : Attempt) (r : Row) (d : Decision) → liveSound (act s a r d .state .table .users) ≡ true
 unfolding act
-act-live s r d = change-live (s .table) r d
+act-live s a r d = change-live (s .table .users) a r d

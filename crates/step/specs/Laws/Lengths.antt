@@ -11,10 +11,11 @@ use Rattle.window.specs.Memories.{tagOf, wordOf, written}
 use Rattle.window.specs.Laws.Memories.{length-storedAll}
 use Rattle.operation.specs.Environment.{Environment}
 use Rattle.operation.specs.declared.Decision.{Decision}
+use Rattle.step.specs.declared.Attempt.{Attempt}
 use Rattle.step.specs.State.{State, putRow}
-use Rattle.step.specs.Act.{act, changeOf, registerWrites, dataWrites}
-use Rattle.step.specs.Step.{stepBy}
-use Rattle.step.specs.Laws.Step.{idles, acts, steps}
+use Rattle.step.specs.Act.{Stepped, act, changeOf, registerWrites, dataWrites}
+use Rattle.step.specs.Step.{attemptBy}
+use Rattle.step.specs.Laws.Step.{idles, acts, attempts}
 
 pub record SameLengths (s s′ : State) : Type 0 where
   pub rows : length (s .rows) ≡ length (s′ .rows)
@@ -50,10 +51,10 @@ length-put t x (r ∷ rs) = go (eqb (r .task) t) (length-put t x rs)
     go true e = refl
     go false e = ap suc e
 
-act-lengths : (s : State) (r : Row) (d : Decision) → SameLengths (act s r d .state) s
+act-lengths : (s : State) (a : Attempt) (r : Row) (d : Decision) → SameLengths (act s a r d .state) s
 unfolding act written
-act-lengths s r d = record {
-  rows = length-put (r .task) (changeOf (s .table) r d .row) (s .rows);
+act-lengths s a r d = record {
+  rows = length-put (r .task) (changeOf (s .table .users) a r d .row) (s .rows);
   constantTags = refl;
   constantWords = refl;
   registerTags = length-storedAll tagOf (registerWindow r) (registerWrites d) (s .registers .tags);
@@ -63,9 +64,9 @@ act-lengths s r d = record {
   dataWords = length-storedAll wordOf (dataWordWindow r) (dataWrites d) (s .dataWords .words);
 }
 
-pub step-lengths : (instructions : Environment → Decision) (t : ℕ) (s : State) → SameLengths (stepBy instructions t s .state) s
-step-lengths instructions t s =
-    elim (steps instructions t s) [
-      | idles e n ↦ subst (λ (x : State). SameLengths x s) (sym e) (same-lengths s)
-      | acts r d f q o n e ↦ subst (λ (x : State). SameLengths x s) (sym e) (act-lengths s r d)
+pub attempt-lengths : (instructions : Environment → Decision) (a : Attempt) (t : ℕ) (s : State) → SameLengths (attemptBy instructions a t s .state) s
+attempt-lengths instructions a t s =
+    elim (attempts instructions a t s) [
+      | idles e n ↦ subst (λ (x : Stepped). SameLengths (x .state) s) (sym e) (same-lengths s)
+      | acts r d f q o n e ↦ subst (λ (x : Stepped). SameLengths (x .state) s) (sym e) (act-lengths s a r d)
     ]

@@ -19,11 +19,12 @@ use Rattle.operation.specs.declared.Decision.{Decision}
 use Rattle.operation.specs.declared.Decision.the-variants as decision
 use Rattle.operation.specs.declared.Course.{Course}
 use Rattle.operation.specs.declared.Course.the-variants as go
+use Rattle.step.specs.declared.Attempt.{Attempt}
 use Rattle.step.specs.declared.Ending.the-variants.{Executed, Trapped}
-use Rattle.step.specs.declared.Motion.the-variants.{Stays, TurnsAndJoins, Joins}
+use Rattle.step.specs.declared.Motion.the-variants.{Stays, Joins}
 use Rattle.step.specs.declared.Decided.the-variants.{Decides}
 use Rattle.step.specs.Act.{registerWrites, dataWrites}
-use Rattle.step.specs.Code.Parts.{result, fateResult, decisionResult, resultOf, fatePsws, decisionPsws, pswsAfter, registersWritten, dataWritten, Acts}
+use Rattle.step.specs.Code.Parts.{result, createdMotion, wavedMotion, fateResult, decisionResult, resultOf, fatePsws, decisionPsws, pswsAfter, registersWritten, dataWritten, Acts}
 use Rattle.step.specs.Code.Performs.{trapCourse, fateCourse, courseOf, Performs, courseResult}
 
 pub performs-along : (row : Row) (d d′ : Decision) (pt fresh : ℕ) (r : Course) (psw psw′ : List ℕ) (m m′ n n′ : Memory) → d ≡ d′
@@ -52,8 +53,8 @@ module _ (row : Row) (pt fresh : ℕ) (psw : List ℕ) (m n : Memory) where
   performs-executes e r psw′ m′ n′ c f g h = record { course = c; psws = f; registers = g; dataWords = h }
 
 -- what is performed is what Acts says: the course and the PSWs after it tell the result
-module _ (pt free : ℕ) (room : Bool) (psw : List ℕ) (here : pt < length psw) (other : pt ≢ free) where
-  trap-result : (k : Trap) (p q : ℕ) → q ≡ p → result (Trapped k p) Stays ≡ courseResult free room q (trapCourse k)
+module _ (a : Attempt) (pt free : ℕ) (room : Bool) (psw : List ℕ) (here : pt < length psw) (other : pt ≢ free) where
+  trap-result : (k : Trap) (p q : ℕ) → q ≡ p → result (Trapped k p) Stays ≡ courseResult a free room q (trapCourse k)
   unfolding courseResult trapCourse
   trap-result trap.CreateFault p q e = rw e
   trap-result trap.IllegalInstruction p q e = rw e
@@ -63,22 +64,22 @@ module _ (pt free : ℕ) (room : Bool) (psw : List ℕ) (here : pt < length psw)
   trap-result trap.SimulatedInstruction p q e = rw e
   trap-result trap.DataException p q e = rw e
 
-  fate-result : (f : Fate) → fateResult free room f ≡ courseResult free room (getD (fatePsws pt free f psw) pt 0) (fateCourse f)
+  fate-result : (f : Fate) → fateResult a free room f ≡ courseResult a free room (getD (fatePsws pt free f psw) pt 0) (fateCourse f)
   unfolding fateResult courseResult fatePsws fateCourse
   fate-result (fate.Continues p) = refl
   fate-result fate.Quits = refl
   fate-result (fate.Creates p new) =
       let e : getD (set (set psw pt p) free new) pt 0 ≡ p = getD-set-other (set psw pt p) free pt new 0 other ∙ getD-set-same psw pt p 0 here in
-      ap (λ (q : ℕ). cond room (result Executed (TurnsAndJoins free)) (result (Trapped trap.CreateFault q) (Joins free))) (sym e)
+      ap (λ (q : ℕ). cond room (result Executed (createdMotion a free)) (result (Trapped trap.CreateFault q) (Joins free))) (sym e)
 
-  course-result : (d : Decision) → decisionResult free room d ≡ courseResult free room (getD (decisionPsws pt free d psw) pt 0) (courseOf d)
-  unfolding decisionResult courseResult decisionPsws courseOf
+  course-result : (d : Decision) → decisionResult a free room d ≡ courseResult a free room (getD (decisionPsws pt free d psw) pt 0) (courseOf d)
+  unfolding decisionResult courseResult decisionPsws courseOf wavedMotion
   course-result (decision.Waits w) = refl
   course-result (decision.Traps k p) = trap-result k p _ (getD-set-same psw pt p 0 here)
   course-result (decision.Executes e) = fate-result (e .fate)
 
   pub performs-acts : (row : Row) (d : Decision) (c : Course) (psw′ : List ℕ) (m m′ n n′ : Memory) → Performs row d pt free c psw psw′ m m′ n n′
-      → Acts row (Decides d) pt free room (courseResult free room (getD psw′ pt 0) c) psw psw′ m m′ n n′
+      → Acts a row (Decides d) pt free room (courseResult a free room (getD psw′ pt 0) c) psw psw′ m m′ n n′
   unfolding resultOf pswsAfter registersWritten dataWritten
   performs-acts row d c psw′ m m′ n n′ p = record {
     ends = rw (p .psws, p .course) (sym (course-result d));

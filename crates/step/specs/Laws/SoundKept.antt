@@ -1,4 +1,4 @@
--- A step of a sound state leaves a sound state.
+-- A step or a try of a sound state leaves a sound state.
 use Prim.Native.Nat.{ℕ, _^_}
 use mathlib.Core.Path.{_≡_, refl, sym, ap, _∙_, subst}
 use mathlib.Core.Logic.{_≢_}
@@ -20,13 +20,14 @@ use Rattle.operation.specs.declared.Decision.the-variants.{Waits, Traps, Execut
 use Rattle.operation.specs.Decide.{decide}
 use Rattle.operation.specs.Laws.SoundDecisions.{SoundEnvironment, SoundDecision, decide-sound}
 use Rattle.operation.specs.Environment.{environmentOf}
-use Rattle.step.specs.State.{taskQueue, State, findRow, processesOf, environment}
-use Rattle.step.specs.Act.{changeOf, registerWrites, dataWrites, act}
-use Rattle.step.specs.Step.{noTrap, headDecides, rowDecides, step}
+use Rattle.step.specs.declared.Attempt.{Attempt}
+use Rattle.step.specs.State.{State, findRow, actingQueue, processesActing, environment}
+use Rattle.step.specs.Act.{Stepped, changeOf, registerWrites, dataWrites, act}
+use Rattle.step.specs.Step.{noTrap, headDecides, rowDecides, attemptBy}
 use Rattle.step.specs.Soundness.{every, hasRow, sound}
 use Rattle.step.specs.Laws.Rows.{put-row, find-task, some-inj, none-some}
-use Rattle.step.specs.Laws.Step.{idles, acts, steps, decided}
-use Rattle.step.specs.Laws.Sound.{SoundMemories, Sound, sound-parts, sound-whole, found-hasRow, hasRow-range}
+use Rattle.step.specs.Laws.Step.{idles, acts, attempts, acting-own, decided}
+use Rattle.step.specs.Laws.Sound.{SoundMemories, Sound, sound-parts, sound-whole, found-hasRow, hasRow-range, listed-holds}
 use Rattle.step.specs.Laws.RowsKept.{rows-put, hasRow-put, windows-put}
 use Rattle.step.specs.Laws.MemoriesKept.{words-parts, memory-parts, every-seen, SoundWrites, done, more, written-sound}
 use Rattle.step.specs.Laws.TableKept.{table-rows, Ready, own-sound, change-sound}
@@ -69,15 +70,15 @@ environment-sound s r psw m h =
 
 -- what a task with sound PSWs decides
 pub decided-sound : (s : State) (r : Row) (psws : List ℕ) (d : Decision) → SoundMemories s → every pswSound psws ≡ true → rowDecides decide s r psws ≡ some d
-    → SoundDecision (s .table .flag) d
+    → SoundDecision (s .table .users .flag) d
 unfolding rowDecides headDecides environment environmentOf
 decided-sound s r psws d m h e = go (eqb (r .kind) noTrap) psws h e
   where
-    go : (b : Bool) (psws : List ℕ) → every pswSound psws ≡ true → cond b (headDecides decide s r psws) none ≡ some d → SoundDecision (s .table .flag) d
+    go : (b : Bool) (psws : List ℕ) → every pswSound psws ≡ true → cond b (headDecides decide s r psws) none ≡ some d → SoundDecision (s .table .users .flag) d
     go false psws h e = absurd (none-some d e)
     go true [] h e = absurd (none-some d e)
     go true (psw ∷ psws) h e =
-        subst (SoundDecision (s .table .flag)) (some-inj (decide (environment s r psw)) d e)
+        subst (SoundDecision (s .table .users .flag)) (some-inj (decide (environment s r psw)) d e)
         (decide-sound (environment s r psw) (environment-sound s r psw m (every-parts pswSound psw psws h .0)))
 
 -- ---- what it writes
@@ -96,21 +97,21 @@ data-writes flag (Executes e) h = more (h .datum) done
 
 -- ---- the state
 
-module _ (s : State) (t : ℕ) (r : Row) (before : Sound s) (at : findRow t (s .rows) ≡ some r) (nonempty : taskQueue (s .table) t .len ≢ 0) where
+module _ (s : State) (a : Attempt) (t : ℕ) (r : Row) (before : Sound s) (at : findRow t (s .rows) ≡ some r) (nonempty : actingQueue (s .table .users) a t .len ≢ 0) where
   task-t : r .task ≡ t
   task-t = find-task t (s .rows) r at
 
-  ready : Ready (s .rows) (s .table) t
+  ready : Ready (s .rows) (s .table .users) a t
   ready =
       let lists : hasRow t (s .rows) ≡ true = found-hasRow t (s .rows) r at in
       let range = hasRow-range 0 t (s .rows) (before .rows) lists in
-      record { sound = before .table; low = range .0; high = range .1; lists = lists; nonempty = nonempty }
+      record { sound = before .table; listed = listed-holds (s .rows) t (range .1) lists; nonempty = nonempty }
 
-  pub act-sound : (d : Decision) → SoundDecision (s .table .flag) d → Sound (act s r d .state)
+  pub act-sound : (d : Decision) → SoundDecision (s .table .users .flag) d → Sound (act s a r d .state)
   unfolding act written
   act-sound d h =
-      let c = change-sound r (subst (Ready (s .rows) (s .table)) (sym task-t) ready) d h in
-      let put = put-row (r .task) (s .rows) r (changeOf (s .table) r d .row) (ap (λ (n : ℕ). findRow n (s .rows)) task-t ∙ at) in
+      let c = change-sound r (subst (Ready (s .rows) (s .table .users) a) (sym task-t) ready) d h in
+      let put = put-row (r .task) (s .rows) r (changeOf (s .table .users) a r d .row) (ap (λ (n : ℕ). findRow n (s .rows)) task-t ∙ at) in
       record {
         rows = rows-put r _ (c .row) put 0 (before .rows);
         table = table-rows (s .rows) _ _ (hasRow-put r _ (c .row) put) (c .table);
@@ -118,25 +119,25 @@ module _ (s : State) (t : ℕ) (r : Row) (before : Sound s) (at : findRow t (s .
           constants = before .memories .constants;
           registers =
               written-sound 2048 tagSound (registerWindow r) (registerWrites d) (s .registers)
-              (register-writes (s .table .flag) d h) (before .memories .registers);
+              (register-writes (s .table .users .flag) d h) (before .memories .registers);
           program = before .memories .program;
           dataWords =
               written-sound (2 ^ 20) stateSound (dataWordWindow r) (dataWrites d) (s .dataWords)
-              (data-writes (s .table .flag) d h) (before .memories .dataWords);
+              (data-writes (s .table .users .flag) d h) (before .memories .dataWords);
         };
         windows = windows-put r _ (c .row) put _ _ _ ∙ simp length-storedAll (before .windows);
       }
 
--- a step keeps soundness
-pub step-sound : (t : ℕ) (s : State) → sound s ≡ true → sound (step t s .state) ≡ true
-unfolding step
-step-sound t s e =
+-- a step or a try keeps soundness
+pub attempt-sound : (a : Attempt) (t : ℕ) (s : State) → sound s ≡ true → sound (attemptBy decide a t s .state) ≡ true
+attempt-sound a t s e =
     let p = sound-parts s e in
-    elim (steps decide t s) [
-      | idles q n ↦ ap sound q ∙ e
+    elim (attempts decide a t s) [
+      | idles q n ↦ ap (λ (x : Stepped). sound (x .state)) q ∙ e
       | acts r d f q o n k ↦
-          ap sound k
-          ∙ sound-whole (act s r d .state)
-          (act-sound s t r p f q d
-          (decided-sound s r (processesOf (s .table) t) d (p .memories) (own-sound (ready s t r p f q)) (sym (ap (decided decide s) o) ∙ n)))
+          ap (λ (x : Stepped). sound (x .state)) k
+          ∙ sound-whole (act s a r d .state)
+          (act-sound s a t r p f q d
+          (decided-sound s r (processesActing (s .table .users) a t) d (p .memories) (own-sound (ready s a t r p f q))
+          (ap (rowDecides decide s r) (sym (acting-own a r t (s .table .users .psw) (s .table .users .queues))) ∙ sym (ap (decided decide a s) o) ∙ n)))
     ]

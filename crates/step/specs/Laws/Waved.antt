@@ -1,4 +1,4 @@
--- A step that ends waved is an act of a decision that waits.
+-- A step or a try that ends waved is an act of a decision that waits.
 use mathlib.Core.Path.{_≡_, refl, ap, _∙_}
 use mathlib.Core.Bool.{Bool, true, false, cond}
 use mathlib.Core.Option.{Option, none, some}
@@ -11,47 +11,48 @@ use Rattle.operation.specs.declared.Fate.{Fate}
 use Rattle.operation.specs.declared.Fate.the-variants.{Continues, Quits, Creates}
 use Rattle.operation.specs.declared.Decision.{Decision}
 use Rattle.operation.specs.declared.Decision.the-variants.{Waits, Traps, Executes}
-use Rattle.step.specs.declared.ProcessTable.{ProcessTable}
+use Rattle.step.specs.declared.Attempt.{Attempt}
+use Rattle.step.specs.declared.Processes.{Processes}
 use Rattle.step.specs.declared.Ending.the-variants.{Waved}
 use Rattle.step.specs.Queues.{belowTotal}
-use Rattle.step.specs.State.{State, findRow, processesOf}
+use Rattle.step.specs.State.{State, findRow, processesActing}
 use Rattle.step.specs.Act.{createdIn, faultIn, fateIn, changeOf, act}
-use Rattle.step.specs.Step.{rowDecides, acted, stepRow, stepBy}
+use Rattle.step.specs.Step.{rowDecides, acted, attemptRow, attemptBy}
 
 -- no fate of a process ends waved
-fate-ends : (table : ProcessTable) (r : Row) (f : Fate) → fateIn table r f .ending ≡ Waved → ⊥
+fate-ends : (table : Processes) (a : Attempt) (r : Row) (f : Fate) → fateIn table a r f .ending ≡ Waved → ⊥
 unfolding fateIn createdIn faultIn
-fate-ends table r (Continues p) e = let z : _≡_ {A = ℕ} 0 1 = cc in omega arith
-fate-ends table r Quits e = let z : _≡_ {A = ℕ} 0 1 = cc in omega arith
-fate-ends table r (Creates p new) e = go (belowTotal (table .processes)) e
+fate-ends table a r (Continues p) e = let z : _≡_ {A = ℕ} 0 1 = cc in omega arith
+fate-ends table a r Quits e = let z : _≡_ {A = ℕ} 0 1 = cc in omega arith
+fate-ends table a r (Creates p new) e = go (belowTotal (table .count)) e
   where
-    go : (b : Bool) → cond b (createdIn table r p new) (faultIn table r p new) .ending ≡ Waved → ⊥
+    go : (b : Bool) → cond b (createdIn table a r p new) (faultIn table a r p new) .ending ≡ Waved → ⊥
     go true e = let z : _≡_ {A = ℕ} 0 1 = cc in omega arith
     go false e = let z : _≡_ {A = ℕ} 0 1 = cc in omega arith
 
-module _ (decide : Environment → Decision) (t : ℕ) (s : State) where
-  -- the row of the task, and what its head process waits for
+module _ (decide : Environment → Decision) (a : Attempt) (t : ℕ) (s : State) where
+  -- the row of the task, and what the process that acts waits for
   pub record Waiting : Type 0 where
     pub row : Row
     pub wait : Wait
     pub found : findRow t (s .rows) ≡ some row
-    pub acts : stepBy decide t s ≡ act s row (Waits wait)
+    pub acts : attemptBy decide a t s ≡ act s a row (Waits wait)
 
-  pub waved-acts : stepBy decide t s .ending ≡ Waved → Waiting
-  unfolding stepBy stepRow acted act changeOf
+  pub waved-acts : attemptBy decide a t s .ending ≡ Waved → Waiting
+  unfolding attemptBy attemptRow acted act changeOf
   waved-acts = go (findRow t (s .rows)) refl
     where
-      go : (o : Option Row) → findRow t (s .rows) ≡ o → stepRow decide t s o .ending ≡ Waved → Waiting
+      go : (o : Option Row) → findRow t (s .rows) ≡ o → attemptRow decide a t s o .ending ≡ Waved → Waiting
       go none f e = let z : _≡_ {A = ℕ} 0 1 = cc in absurd (omega arith)
-      go (some r) f e = by (rowDecides decide s r (processesOf (s .table) t)) refl e
+      go (some r) f e = by (rowDecides decide s r (processesActing (s .table .users) a t)) refl e
         where
-          by : (x : Option Decision) → rowDecides decide s r (processesOf (s .table) t) ≡ x → acted decide s r x .ending ≡ Waved → Waiting
+          by : (x : Option Decision) → rowDecides decide s r (processesActing (s .table .users) a t) ≡ x → acted decide s a r x .ending ≡ Waved → Waiting
           by none k e = let z : _≡_ {A = ℕ} 0 1 = cc in absurd (omega arith)
           by (some (Waits w)) k e = record {
             row = r;
             wait = w;
             found = f;
-            acts = ap (stepRow decide t s) f ∙ ap (acted decide s r) k;
+            acts = ap (attemptRow decide a t s) f ∙ ap (acted decide s a r) k;
           }
           by (some (Traps c p)) k e = let z : _≡_ {A = ℕ} 0 1 = cc in absurd (omega arith)
-          by (some (Executes x)) k e = absurd (fate-ends (s .table) r (x .fate) e)
+          by (some (Executes x)) k e = absurd (fate-ends (s .table .users) a r (x .fate) e)
