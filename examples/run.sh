@@ -1,5 +1,6 @@
 #!/usr/bin/env bash
-# Shows the machine: document 01's printed case, then the frame check beside each of two neighbours, with its meaning in words, and a picture.
+# Shows the machine: document 01's printed case, a handover between two processes, then the frame check beside each of two neighbours, with the
+# meaning in words, and a picture.
 # The reports must be those of examples/, and house one's table, taken from the image after the run, the same beside both neighbours.
 #
 #     bash examples/run.sh                by programs that are built without proof, in half a minute
@@ -22,8 +23,8 @@ build_proved() {
 # A report, and each of its lines in words.
 in_words() {
     awk '
-        /^[1-7] / { printf "%-24s task %d: %d live, %s\n", $0, $1, $2, ($3 == "--" ? "not trapped" : "trapped at PC " $4 ", kind " $3 ($3 == "14" ? ", a protection violation" : "")); next }
-        { line = $0; gsub(/[A-Z]/, ""); printf "%-24s %d steps executed, %d waved (had to wait), %d trapped, %d idle; flag %d\n", line, $1, $2, $3, $4, $5 }'
+        /^[1-7] / { printf "%-28s task %d: %d live, %s\n", $0, $1, $2, ($3 == "--" ? "not trapped" : "trapped at PC " $4 ", kind " $3 ($3 == "14" ? ", a protection violation" : "")); next }
+        { line = $0; gsub(/[A-Z]/, ""); printf "%-28s %d items executed, %d waved (had to wait), %d trapped, %d idle; %d tries; flag %d\n", line, $1, $2, $3, $4, $5, $6 }'
 }
 # House one's table: utilisations in units of 10^-16 at 32 to 37, the worst at 40, how many are too much at 41.
 spans() {
@@ -47,6 +48,9 @@ declare -A beside=(
 echo "The printed case of document 01, one step of one task:"
 "$batch" < crates/hep_batch/stdin | tee "$after" | in_words
 diff "$after" crates/hep_batch/stdout
+echo "Two processes hand three numbers over through one data word; who finds it in the other state waits in the SFU queue:"
+"$hep" run examples/handover.hep | tee "$after" | in_words
+diff "$after" examples/handover.out
 for neighbour in a b; do
     text=examples/frame-$neighbour.hep report=examples/frame-$neighbour.out
     echo "House one's frame check, task 1, beside ${beside[$neighbour]}:"

@@ -19,7 +19,7 @@
 #include <stdint.h>
 
 /* Of this header and of the archive that it was installed with: 0.N.0 has the requests L1 to LN. */
-#define HEP_VERSION "0.5.0"
+#define HEP_VERSION "0.6.0"
 
 #ifdef __cplusplus
 extern "C" {
@@ -45,7 +45,7 @@ enum hep_refusal {
 
 /* Lengths that hep_sizes, hep_run and hep_fill ask for. */
 #define HEP_SIZES 5
-#define HEP_COUNTS 6
+#define HEP_COUNTS 7
 #define HEP_FILLING 4
 #define HEP_REPORT_ROOM 512
 #define HEP_OUTPUT_ROOM(image_len) ((image_len) + 640)
@@ -54,7 +54,7 @@ enum hep_refusal {
 enum { HEP_ROWS, HEP_CONSTANTS, HEP_REGISTERS, HEP_PROGRAM, HEP_DATA_WORDS };
 
 /* Places in `counts`. */
-enum { HEP_EXECUTED, HEP_WAVED, HEP_TRAPPED, HEP_IDLE, HEP_IMAGE_LEN, HEP_REPORT_LEN };
+enum { HEP_EXECUTED, HEP_WAVED, HEP_TRAPPED, HEP_IDLE, HEP_SFU_TRIES, HEP_IMAGE_LEN, HEP_REPORT_LEN };
 
 /* Places in `filling`. */
 enum { HEP_CHOICE, HEP_SUM, HEP_TRIES, HEP_CEILING };
@@ -69,15 +69,16 @@ uint32_t hep_check(const uint8_t *image, size_t image_len);
 uint32_t hep_sizes(const uint8_t *image, size_t image_len, uint64_t *sizes, size_t sizes_len);
 
 /*
- * Reads the image, runs the schedule on it, one step of a task for each item, and writes the image after the run.
+ * Reads the image, runs the schedule on it, and writes the image after the run. Each item first tries the head of its task's SFU queue, if
+ * there is one, then steps the head of the task's queue; where that was empty before the try, or the try traps, no step follows.
  *
  * The memories of the state are lent, each at least as long as its count by hep_sizes: tags (qualities) and words of constants have one
  * count, and so have tags and words of registers and those of data words. After the run they hold the state, in as many first places as
  * the counts say; the places beyond stay.
  *
  * `output`, of at least HEP_OUTPUT_ROOM(image_len) bytes, starts with the image after the run. `report`, of at least HEP_REPORT_ROOM bytes,
- * starts with the report of the batch program. `counts`, of at least HEP_COUNTS, starts with how many steps were executed, waved, trapped
- * and idle, then the lengths of that image and of that report. What lies beyond stays.
+ * starts with the report of the batch program. `counts`, of at least HEP_COUNTS, starts with how many items were executed, waved, trapped
+ * and idle, how many tries they made, then the lengths of that image and of that report. What lies beyond stays.
  *
  * Refused: as hep_check, then 7 if a slice is shorter than said, then 9, then 10.
  */

@@ -1,12 +1,12 @@
 #!/usr/bin/env bash
 # The proved library timed beside the emulator of hep-tools and beside a plain copy, all built for release, in one run. What is measured is
-# the archives of the proved crates. It fails where a function that a step is to have inlined is still called: see `inlined`. How much larger each may
-# still grow is told by the compiler's remarks on the same module, built without proof.
+# the archives of the proved crates. It fails where a function that an attempt is to have inlined is still called: see `inlined`. How much larger each
+# may still grow is told by the compiler's remarks on the same module, built without proof.
 #
 #     bash tests/bench.sh [--write]    --write: the tables go to docs/BENCHMARKS.md, below its line "## Measured"
 set -euo pipefail
 cd "$(dirname "$0")/.."
-inlined="operation_decide::decide run_schedule::step_task run_schedule::run_items"
+inlined="operation_decide::decide run_schedule::attempt run_schedule::settle"
 # A function that is inlined at every call has no symbol of its own in the archive.
 check_inlined() {
     local function symbols

@@ -29,9 +29,9 @@ differs() {
     if [ $status != 3 ]; then echo "wrong library: hep ${*:2} ends with status $status under $1"; cat "$folder/log"; exit 1; fi
     differing=$((differing + 1))
 }
-frame=examples/frame-a.hep
+frame=examples/frame-b.hep
 hep none run --check "$frame"
-for fault in rare_bit_of_the_image rare_letter_of_the_report a_step_miscounted; do differs "$fault" run --check "$frame"; done
+for fault in rare_bit_of_the_image rare_letter_of_the_report a_step_miscounted a_try_missed; do differs "$fault" run --check "$frame"; done
 for command in trace why timeline; do differs rare_bit_of_the_image "$command" "$frame"; done
 differs left_over_accepted check --image "$folder/refused/R4.bin"
 differs constant_as_a_cell run --image --schedule 1 "$folder/refused/R14.bin"

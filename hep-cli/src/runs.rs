@@ -46,8 +46,8 @@ pub fn checked(file: &str, source: &Source, outcome: &hep::Outcome) -> Result<()
     let mut machine = tool::machine(source);
     let counts = machine.run(source.schedule.as_deref().unwrap_or(&[]));
     let report = batch::report(&machine, &counts);
-    let Counts { executed, waved, trapped, idle } = counts;
-    let same = outcome.counts == hep::Counts { executed, waved, trapped, idle };
+    let Counts { executed, waved, trapped, idle, tries } = counts;
+    let same = outcome.counts == hep::Counts { executed, waved, trapped, idle, tries };
     if same && image::write(&machine) == outcome.image && report == outcome.report {
         return Ok(());
     }

@@ -12,6 +12,7 @@ fn the_choice_and_its_names() {
     assert_eq!((ended.code, ended.err.as_str()), (0, ""));
     let three = hep(&["fill", "--tries", "2"], jobs);
     assert_eq!(three.out, "choice 001 frame a\nsum 2000\ntries 2\nceiling 2048\n");
+    assert_eq!(hep(&["fill"], "1 12\n2 14\n").out, "choice 11 1 2\nsum 26\ntries 4\nceiling 26\n");
     assert_eq!(hep(&["fill", "-"], "\u{FEFF}").out, "choice 0\nsum 0\ntries 1\nceiling 0\n");
 }
 
@@ -30,6 +31,12 @@ fn refused_jobs() {
             "a 2\nb -2\n".to_string(),
             "1",
             "<stdin>:2: error: a line is a name and a number of registers, not `b -2`\n"
+                .to_string(),
+        ),
+        (
+            "a 12 12\n".to_string(),
+            "1",
+            "<stdin>:1: error: `a 12 12` ends in two numbers, so it is not plain which is the need\n"
                 .to_string(),
         ),
     ];
@@ -63,7 +70,7 @@ fn chosen_jobs_become_one_batch() {
     let ended = hep(&["fill", "--join", &to, &list], b"");
     assert_eq!(ended.out, "choice 11 a.hep b.hep\nsum 84\ntries 4\nceiling 84\n");
     let report = hep(&["run", "--check", &to], b"");
-    assert_eq!(report.out, "1 0 -- -----\n2 0 -- -----\nE6 W0 T0 I2 CF0\n");
+    assert_eq!(report.out, "1 0 -- -----\n2 0 -- -----\nE6 W0 T0 I2 S0 CF0\n");
     for (number, own, file) in [("1", "3", &a), ("2", "1", &b)] {
         let share = hep(&["share", number, &to], b"");
         assert_eq!(share.out, hep(&["share", own, file], b"").out);

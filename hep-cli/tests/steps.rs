@@ -3,11 +3,11 @@
 mod common;
 
 use common::{example, hep, Folder};
-use hep_tools::emulator::machine::Ending;
+use hep_tools::emulator::machine::{Attempt, Ending, Machine};
 use hep_tools::generate;
 use hep_tools::tool::load::open;
 use hep_tools::tool::reason::{reason, Look};
-use hep_tools::tool::taken::Taken;
+use hep_tools::tool::taken::{item, Taken};
 use hep_tools::tool::{self, text};
 use std::fs;
 
@@ -54,14 +54,17 @@ fn lines(arguments: &[&str], input: &str) -> Vec<String> {
 #[test]
 fn a_trace_says_why() {
     let all = lines(&["trace"], TEXT);
-    assert_eq!(all.len(), 13);
-    let waved = "   1    2  1 00004 wait             MOV r6:F, left:W                 waved      \
+    assert_eq!(all.len(), 1 + 12 + 6);
+    let waved =
+        "   1    2 step     1 00004 wait             MOV r6:F, left:W                 waved      \
                  waits until left (r4) is full; r6 = full 7, left (r4) = empty 3";
     assert_eq!(all[2], waved);
-    assert_eq!(all[3], "   2    2  0 00001 start+1          MOV left, r5                     executed   left (r4) = full 7");
+    assert_eq!(all[3], "   2    2 step     0 00001 start+1          MOV left, r5                     executed   left (r4) = full 7");
     let data = lines(&["trace", "--only", "waved", "--from", "2"], TEXT);
-    let waits = "waits until data 1 is full; word_1 (c1) = 8, data 1 = empty 0";
+    let waits = "waits in the SFU queue until data 1 is full; word_1 (c1) = 8, data 1 = empty 0";
     assert!(data[1].ends_with(waits), "{}", data[1]);
+    assert!(data[1].starts_with("   5    2 step     1 "), "{}", data[1]);
+    assert!(data[2].starts_with("   6    2 try      1 "), "{}", data[2]);
     assert_eq!(data.len(), 1 + all.iter().skip(3).filter(|line| line.contains(" waved ")).count());
     assert_eq!(lines(&["trace", "--task", "1"], TEXT).len(), 1);
     assert_eq!(lines(&["trace", "--from", "3", "--to", "5"], TEXT)[1..], all[4..7]);
@@ -81,25 +84,25 @@ fn a_trap_says_why() {
     assert!(why[2].starts_with(
         "      trap 14: byte address 256 is data word 32, outside the window (32 words)"
     ));
-    assert_eq!(why[3], "  the others (1) stand still: a trapped task takes no step");
+    assert_eq!(why[3], "  the others (1) stand still: a trapped task neither tries nor steps");
 }
 
 #[test]
 fn why_names_the_last_change() {
     let why = lines(&["why"], TEXT);
     let expected = [
-        "task 2: 2 processes",
-        "  PT 0 at start+2 (pc=0x00002): NOP",
+        "task 2: 2 processes, 1 in the SFU queue",
+        "  PT 0 at start+1 (pc=0x00001): MOV left, r5",
         "      goes on at its next item",
-        "  PT 1 at wait+1 (pc=0x00005): LODI:W r7, word_1",
-        "      waits until data 1 is full; word_1 (c1) = 8, data 1 = empty 0",
+        "  PT 1 (SFU queue) at wait+1 (pc=0x00005): LODI:W r7, word_1",
+        "      waits in the SFU queue until data 1 is full; word_1 (c1) = 8, data 1 = empty 0",
         "      data 1: as it was at the start, nobody changed it",
     ];
     assert_eq!(why, expected);
     let taken = TEXT
         .replace("MOV left, r5\n", "MOV r5, left:W:U\n")
         .replace("empty 3", "full 3")
-        .replace("2 * 12", "2 * 7");
+        .replace("2 * 12", "2 * 6");
     let why = lines(&["why"], &taken);
     let change = "      left (r4): last changed at item 2 by task 2, PT 0 at start+1 (pc=0x00001): MOV r5, left:W:U";
     assert!(!why.contains(&change.to_string()), "{why:#?}");
@@ -110,15 +113,12 @@ fn why_names_the_last_change() {
 
 #[test]
 fn every_wait_and_trap_of_random_inputs_has_a_reason() {
-    let (mut waits, mut traps) = (0, 0);
+    let (mut waits, mut traps, mut tries) = (0, 0, 0);
     for n in 0..400 {
         let Ok(loaded) = open(&generate::input(34, n), None) else { continue };
         let mut machine = tool::machine(&loaded.source);
-        for &task in loaded.source.schedule.iter().flatten() {
-            let taken = Taken::next(&machine, task);
-            let ending = machine.step(task);
-            let Some(taken) = &taken else { continue };
-            let look = Look { machine: &machine, symbols: &loaded.symbols, taken };
+        let mut told = |machine: &Machine, taken: Taken, ending: Ending| {
+            let look = Look { machine, symbols: &loaded.symbols, taken: &taken };
             let said = reason(look, ending);
             match ending {
                 Ending::Waved => assert!(said.starts_with("waits"), "input {n}: {said}"),
@@ -127,11 +127,24 @@ fn every_wait_and_trap_of_random_inputs_has_a_reason() {
                 }
                 _ => assert_eq!(said, ""),
             }
+            let is_try = taken.attempt == Attempt::Try;
+            let stays = machine.sfu_processes(taken.task).iter().any(|(pt, _)| *pt == taken.pt);
+            assert_eq!(
+                said.starts_with("waits in the SFU queue"),
+                ending == Ending::Waved && stays
+            );
             waits += u32::from(ending == Ending::Waved);
             traps += u32::from(matches!(ending, Ending::Trapped { .. }));
+            tries += u32::from(is_try);
+        };
+        for &task in loaded.source.schedule.iter().flatten() {
+            item(&mut machine, task, |_, taken| taken, &mut told);
         }
     }
-    assert!(waits > 300 && traps > 200, "{waits} waits, {traps} traps");
+    assert!(
+        waits > 300 && traps > 200 && tries > 100,
+        "{waits} waits, {traps} traps, {tries} tries"
+    );
 }
 
 #[test]
@@ -139,12 +152,11 @@ fn profiles_count_by_instruction() {
     let profile = lines(&["trace", "--profile"], TEXT);
     assert_eq!(
         profile[1],
-        "   2 00000 start            NOP                                     2        0        0"
+        "   2 00000 start            NOP                                     3        0        0               0"
     );
     assert!(
-        profile
-            .iter()
-            .any(|line| line.contains("wait+1") && line.ends_with("        0        4        0")),
+        profile.iter().any(|line| line.contains("wait+1")
+            && line.ends_with("        0        7        0               6")),
         "{profile:#?}"
     );
 }
@@ -165,7 +177,7 @@ const CHANGES: [(&str, &str, &str); 12] = [
     ("2 * 12", "2 * 11", "! items               12, 11"),
     ("full 7 * 3", "full 7\nfull 8 quality=1 * 2", "! registers           r6 is full 7 and full 8 quality=1 (2 differ)"),
     ("empty 0 * 32", "empty 0 * 31\nfull 5", "! data words          data 31 is empty 0 and full 5 (1 differ)"),
-    ("pc=wait", "pc=store", "! processes           process 1 is pc=0x00004 and pc=0x00007 (1 differ)"),
+    ("pc=wait", "pc=store", "! task's queue        process 1 is pc=0x00004 and pc=0x00007 (1 differ)"),
     ("MOV left, r5", "MOV left, r6", "! program words       word 1 is MOV r4, r5 and MOV r4, r6 (1 differ)"),
     ("task 2 cb=0", "task 2 cb=1", "! CB and windows      cb is 0 and 1"),
     ("dl=0\n", "dl=0 trap=0x14 pc=7\n", "! trap record         none, 14 pc=0x00007"),
@@ -202,6 +214,49 @@ fn each_premise_that_fails_is_told_with_its_place() {
     assert!(neither.out.contains("neither file lists the task"), "{}", neither.out);
 }
 
+/// Two images must agree on the SFU queue too, by status words from head to tail, without PTs.
+#[test]
+fn the_sfu_queue_must_agree() {
+    let folder = Folder::new("agree-sfu");
+    let waiting = TEXT.replace("process 1 task=2", "process 1 task=2 sfu");
+    let a = folder.file("a.hep", &waiting);
+    let other_number = folder.file("b.hep", waiting.replace("process 1", "process 9"));
+    let covered = hep(&["agree", "2", &a, &other_number], b"");
+    assert_eq!(covered.code, 0, "{}", covered.out);
+    assert!(covered.out.contains("  SFU queue           the same, 1 of them\n"), "{}", covered.out);
+    assert!(covered.out.contains("data words, both queues and trap record"), "{}", covered.out);
+    let cases = [
+        (
+            waiting.replace("pc=wait", "pc=store"),
+            vec!["! SFU queue           process 0 is pc=0x00004 and pc=0x00007 (1 differ)"],
+        ),
+        (
+            TEXT.to_string(),
+            vec!["! task's queue        1 and 2 of them", "! SFU queue           1 and 0 of them"],
+        ),
+    ];
+    for (text, expected) in cases {
+        let ended = hep(&["agree", "2", &a, &folder.file("c.hep", text)], b"");
+        let failed: Vec<&str> = ended.out.lines().filter(|line| line.starts_with('!')).collect();
+        assert_eq!((ended.code, failed), (1, expected));
+    }
+}
+
+#[test]
+fn show_tells_the_queues() {
+    let waiting = TEXT.replace("process 1 task=2", "process 1 task=2 sfu");
+    let show = hep(&["show"], &waiting).out;
+    let (row, queues) = (
+        "2     0..7         0..15          0..31          0     2, 1 SFU   none      yes\n",
+        "PT task queue PSW\n 0    2 task  pc=0x00000\n 1    2 SFU   pc=0x00004\n",
+    );
+    assert!(show.contains(row) && show.contains(queues), "{show}");
+    let mut image = tool::load(waiting.as_bytes()).unwrap().draft.bytes();
+    image.push(0);
+    let refused = hep(&["show", "--image"], &image).out;
+    assert!(refused.contains(row.trim_end()) && refused.contains(queues), "{refused}");
+}
+
 #[test]
 fn show_maps_a_file() {
     let show = lines(&["show", &example("frame-a.hep")], "");
@@ -224,6 +279,25 @@ fn show_maps_a_file() {
         assert!(show.contains(note), "{show}");
     }
     assert!(hep(&["show"], "hep input\n").out.ends_with("note: the schedule has no items\n"));
+}
+
+/// Cells behind the windows are noted by show and check, zeros that the text fills up with are not.
+#[test]
+fn cells_in_no_window_are_noted() {
+    let more = TEXT
+        .replace("full 7 * 3", "full 7 * 3\n  full 0\n  full 5\n  empty 0")
+        .replace("NOP * 8\n", "NOP * 8\nprogram at 20\n  ADD r0, r0, r0\n")
+        .replace("empty 0 * 32", "empty 0 * 32\ndata at 40\n  full 1");
+    let notes = [
+        "note: 2 registers lie in no task's window, the first is 9\n",
+        "note: program word 20 lies in no task's window\n",
+        "note: data word 40 lies in no task's window\n",
+    ];
+    let (show, check) = (hep(&["show"], &more), hep(&["check", "-"], &more));
+    assert!(show.out.ends_with(&notes.concat()), "{}", show.out);
+    assert_eq!(check.err, notes.map(|note| format!("<stdin>: {note}")).concat());
+    assert_eq!((check.code, check.out.as_str()), (0, ""));
+    assert_eq!(hep(&["check", "-"], TEXT).err, "");
 }
 
 #[test]
@@ -298,8 +372,13 @@ fn shares() {
     let after = tool::load(TEXT.as_bytes()).unwrap();
     let image = hep::run(&after.draft.bytes(), &after.schedule.unwrap()).unwrap().image;
     let (of_bytes, of_text) = (hep(&["share", "2"], &image).out, hep(&["share", "2"], TEXT).out);
-    assert_eq!(of_bytes, of_text.replace(" (start+2)", "").replace(" (wait+1)", ""));
-    assert!(of_text.contains(&format!("process {} (start+2)\n", text::psw_fields(2))), "{of_text}");
+    assert_eq!(of_bytes, of_text.replace(" (start+1)", "").replace(" (wait+1)", ""));
+    let queues = format!(
+        "process {} (start+1)\nprocess sfu {} (wait+1)\n",
+        text::psw_fields(1),
+        text::psw_fields(5)
+    );
+    assert!(of_text.contains(&queues), "{of_text}");
 }
 
 #[test]

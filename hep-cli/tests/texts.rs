@@ -37,7 +37,7 @@ fn help_and_version() {
     }
     let run = hep(&["run", "--help"], b"").out;
     assert!(run.lines().next().unwrap().ends_with(" [FILE..]"), "{run}");
-    assert!(run.contains("Without FILE it\nreads standard input."), "{run}");
+    assert!(run.contains("Without FILE it reads standard input."), "{run}");
     let version = hep(&["--version"], b"");
     let number = fs::read_to_string(concat!(env!("CARGO_MANIFEST_DIR"), "/../VERSION")).unwrap();
     let level: u32 = number.split('.').nth(1).unwrap().parse().unwrap();
@@ -157,7 +157,7 @@ fn letters_that_are_not_utf_8() {
 #[test]
 fn a_byte_order_mark_is_taken() {
     let ended = hep(&["run"], "\u{FEFF}hep input\r\nschedule\r\n1\r\n");
-    assert_eq!((ended.code, ended.out.as_str()), (0, "E0 W0 T0 I1 CF0\n"));
+    assert_eq!((ended.code, ended.out.as_str()), (0, "E0 W0 T0 I1 S0 CF0\n"));
 }
 
 #[test]
@@ -276,7 +276,7 @@ fn the_man_page_names_every_option() {
     }
     let start = page.find("hep input\n").expect("an example");
     let text = &page[start..start + page[start..].find(".fi").unwrap()];
-    assert_eq!(hep(&["run"], text).out, "1 1 -- -----\nE2 W0 T0 I0 CF0\n");
+    assert_eq!(hep(&["run"], text).out, "1 1 -- -----\nE2 W0 T0 I0 S0 CF0\n");
 }
 
 /// The text that FORMAT.md begins with does what is said below it.

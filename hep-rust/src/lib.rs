@@ -8,7 +8,7 @@
 //! let image = hep::example_image();
 //! let outcome = hep::run(&image, &[1]).unwrap();
 //! assert_eq!(outcome.counts.trapped, 1);
-//! assert_eq!(outcome.report, "1 1 14 00000\nE0 W0 T1 I0 CF0\n");
+//! assert_eq!(outcome.report, "1 1 14 00000\nE0 W0 T1 I0 S0 CF0\n");
 //! assert_eq!(hep::check(&outcome.image), Ok(()));
 //! assert_eq!(hep::run(&image, &[8]).unwrap_err().number(), 10);
 //! ```
@@ -118,13 +118,27 @@ pub struct Sizes {
     pub data_words: usize,
 }
 
-/// How the steps of a run ended.
+/// How the items of a run ended, and how many tries of SFU queues they made.
 #[derive(Clone, Copy, Debug, Default, PartialEq, Eq)]
 pub struct Counts {
     pub executed: u64,
     pub waved: u64,
     pub trapped: u64,
     pub idle: u64,
+    pub tries: u64,
+}
+
+impl Counts {
+    /// Those of two runs added up.
+    fn and(self, other: Counts) -> Counts {
+        Counts {
+            executed: self.executed + other.executed,
+            waved: self.waved + other.waved,
+            trapped: self.trapped + other.trapped,
+            idle: self.idle + other.idle,
+            tries: self.tries + other.tries,
+        }
+    }
 }
 
 /// What a run gives.
@@ -185,11 +199,11 @@ pub fn run(image: &[u8], schedule: &[u8]) -> Result<Outcome, Refusal> {
         &mut counts,
         &mut report,
     ))?;
-    let [executed, waved, trapped, idle, image_len, report_len] = counts;
+    let [executed, waved, trapped, idle, tries, image_len, report_len] = counts;
     output.truncate(image_len as usize);
     Ok(Outcome {
         image: output,
-        counts: Counts { executed, waved, trapped, idle },
+        counts: Counts { executed, waved, trapped, idle, tries },
         report: text(&report[..report_len as usize]),
     })
 }
@@ -202,7 +216,7 @@ pub const MOST_ITEMS: usize = 65_535;
 ///
 /// ```
 /// let outcome = hep::run_in_slices(&hep::example_image(), &vec![1; 70_000])?;
-/// assert_eq!(outcome.report, "1 1 14 00000\nE0 W0 T1 I69999 CF0\n");
+/// assert_eq!(outcome.report, "1 1 14 00000\nE0 W0 T1 I69999 S0 CF0\n");
 /// # Ok::<(), hep::Refusal>(())
 /// ```
 pub fn run_in_slices(image: &[u8], schedule: &[u8]) -> Result<Outcome, Refusal> {
@@ -211,11 +225,7 @@ pub fn run_in_slices(image: &[u8], schedule: &[u8]) -> Result<Outcome, Refusal> 
     for slice in slices {
         let before = outcome.counts;
         outcome = run(&outcome.image, slice)?;
-        let counts = &mut outcome.counts;
-        counts.executed += before.executed;
-        counts.waved += before.waved;
-        counts.trapped += before.trapped;
-        counts.idle += before.idle;
+        outcome.counts = outcome.counts.and(before);
     }
     if schedule.len() > MOST_ITEMS {
         outcome.report = with_counts(&outcome.report, &outcome.counts);
@@ -227,8 +237,8 @@ pub fn run_in_slices(image: &[u8], schedule: &[u8]) -> Result<Outcome, Refusal> 
 fn with_counts(report: &str, counts: &Counts) -> String {
     let rows = report.trim_end().rfind('\n').map_or(0, |end| end + 1);
     let flag = report[rows..].split_whitespace().last().unwrap_or_default();
-    let Counts { executed, waved, trapped, idle } = counts;
-    format!("{}E{executed} W{waved} T{trapped} I{idle} {flag}\n", &report[..rows])
+    let Counts { executed, waved, trapped, idle, tries } = counts;
+    format!("{}E{executed} W{waved} T{trapped} I{idle} S{tries} {flag}\n", &report[..rows])
 }
 
 /// The batch program: from its input to its output, which is a report or the line of a refusal.

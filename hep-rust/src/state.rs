@@ -6,6 +6,8 @@ use crate::{check, Outcome, Refusal};
 const EMPTY: u8 = 8;
 /// The trap kind of a row that is not trapped.
 const NO_TRAP: u8 = 0xFF;
+/// The task byte of a process in an SFU queue is its task number and this.
+const SFU: u8 = 0x10;
 
 /// A register, data word or constant. A data word has quality 0, and a constant is full.
 #[derive(Clone, Copy, Debug, PartialEq, Eq)]
@@ -39,12 +41,15 @@ pub struct Task {
     pub trap: Option<Trap>,
 }
 
-/// A process, in the order of the image: by task, then from head to tail.
+/// A process, in the order of the image: by task, of each the task's queue, then its SFU queue, from head to tail.
 #[derive(Clone, Copy, Debug, PartialEq, Eq)]
 #[non_exhaustive]
 pub struct Process {
     pub pt: u8,
+    /// The task's number.
     pub task: u8,
+    /// Whether it is in the SFU queue of its task, waiting for a data word.
+    pub sfu: bool,
     pub psw: u64,
 }
 
@@ -94,6 +99,11 @@ impl Bytes<'_> {
         Task { number, cb, rb, rl, pb, pl, db, dl, trap }
     }
 
+    fn process(&mut self) -> Process {
+        let (pt, task) = (self.take(1) as u8, self.take(1) as u8);
+        Process { pt, task: task & !SFU, sfu: task & SFU != 0, psw: self.take(8) }
+    }
+
     /// A constant or register from its tag and word.
     fn tagged(&mut self) -> Cell {
         let tag = self.take(1) as u8;
@@ -108,15 +118,10 @@ impl State {
         let mut bytes = Bytes(image);
         let tasks = bytes.list(1, Bytes::task);
         let (count, flag) = (bytes.take(1), bytes.take(1));
-        let process = |bytes: &mut Bytes| Process {
-            pt: bytes.take(1) as u8,
-            task: bytes.take(1) as u8,
-            psw: bytes.take(8),
-        };
         Ok(State {
             tasks,
             create_fault: flag != 0,
-            processes: (0..count).map(|_| process(&mut bytes)).collect(),
+            processes: (0..count).map(|_| bytes.process()).collect(),
             constants: bytes.list(2, Bytes::tagged),
             registers: bytes.list(2, Bytes::tagged),
             program: bytes.list(4, |bytes| bytes.take(8)),
@@ -147,7 +152,7 @@ impl State {
         self.task(number).map_or(&[], |t| window(&self.program, t.pb.into(), t.pl.into(), 16))
     }
 
-    /// The processes of a task, from head to tail.
+    /// The live processes of a task: those of its queue, then those of its SFU queue (`sfu`), each from head to tail.
     pub fn processes_of(&self, number: u8) -> impl Iterator<Item = &Process> {
         self.processes.iter().filter(move |process| process.task == number)
     }

@@ -22,7 +22,7 @@ pub const NO_TRIES: u32 = 18;
 /// How many numbers `hep_sizes` writes.
 pub const SIZES: usize = 5;
 /// How many numbers `hep_run` writes.
-pub const COUNTS: usize = 6;
+pub const COUNTS: usize = 7;
 /// How many numbers `hep_fill` writes.
 pub const FILLING: usize = 4;
 /// Bytes with room for any report, and for any output of `hep_batch`.

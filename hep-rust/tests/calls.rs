@@ -9,7 +9,7 @@ use hep_tools::tool::share::{instructions, share};
 use hep_tools::tool::text;
 use hep_tools::trials::edges;
 
-const PRINTED: &str = "1 1 14 00000\nE0 W0 T1 I0 CF0\n";
+const PRINTED: &str = "1 1 14 00000\nE0 W0 T1 I0 S0 CF0\n";
 
 fn printed() -> Vec<u8> {
     hep::example_image()
@@ -34,7 +34,7 @@ fn creating() -> Vec<u8> {
 fn printed_case() {
     let outcome = hep::run(&printed(), &[1]).unwrap();
     assert_eq!(outcome.report, PRINTED);
-    assert_eq!(outcome.counts, Counts { executed: 0, waved: 0, trapped: 1, idle: 0 });
+    assert_eq!(outcome.counts, Counts { trapped: 1, ..Counts::default() });
     let mut after = image::draft(&image::read(&printed()).unwrap());
     after.tasks[0].kind = PROTECTION;
     assert_eq!(outcome.image, after.bytes());
@@ -45,7 +45,7 @@ fn printed_case() {
 fn the_example_is_the_printed_case() {
     let draft = Draft {
         tasks: vec![Task::empty(1)],
-        processes: vec![Process { pt: 0, task: 1, psw: 0 }],
+        processes: vec![Process::new(0, 1, 0)],
         ..Draft::default()
     };
     assert_eq!(printed(), draft.bytes());
@@ -55,7 +55,7 @@ fn the_example_is_the_printed_case() {
 fn no_items() {
     let outcome = hep::run(&printed(), &[]).unwrap();
     assert_eq!(outcome.image, printed());
-    assert_eq!(outcome.report, "1 1 -- -----\nE0 W0 T0 I0 CF0\n");
+    assert_eq!(outcome.report, "1 1 -- -----\nE0 W0 T0 I0 S0 CF0\n");
 }
 
 #[test]
@@ -127,7 +127,7 @@ fn unset(utm: u8) -> Vec<u8> {
 fn a_constants_quality() {
     assert_eq!(hep::sizes(&unset(0)).unwrap().constants, 1);
     let masked = hep::run(&unset(0x04), &[1]).unwrap();
-    assert_eq!(masked.report, "1 1 1E 00000\nE0 W0 T1 I0 CF0\n");
+    assert_eq!(masked.report, "1 1 1E 00000\nE0 W0 T1 I0 S0 CF0\n");
     let moved = hep::run(&unset(0xFB), &[1]).unwrap();
     assert_eq!(moved.counts.executed, 1);
     let after = image::draft(&image::read(&moved.image).unwrap());
@@ -161,11 +161,51 @@ fn states_are_what_images_hold() {
             assert_eq!(tagged(state.registers_of(row.number)), own.registers);
             assert_eq!(stated(state.data_of(row.number)), own.data);
             assert_eq!(state.program_of(row.number), instructions(&draft, row));
-            let psws: Vec<u64> = state.processes_of(row.number).map(|p| p.psw).collect();
-            assert_eq!(psws, own.processes);
+            let psws = |sfu| -> Vec<u64> {
+                let queue = state.processes_of(row.number).filter(|process| process.sfu == sfu);
+                queue.map(|process| process.psw).collect()
+            };
+            assert_eq!((psws(false), psws(true)), (own.processes, own.sfu));
         }
     }
     assert!(hep::State::of(&[]).is_err());
+}
+
+/// A process waits in the SFU queue until the other one stores the word; the items of three runs in a row add up.
+const WAITING: &str = "hep image
+    task 3 cb=0 rb=0 rl=0 pb=0 pl=0 db=0 dl=0
+    process 7 task=3 pc=wait
+    process 4 task=3 pc=store
+    constants
+    8
+    registers
+    full 5 * 2
+    program
+    wait: LODI:W r0, c0
+    QT c1
+    store: NOP * 2
+    STOI r1, c0
+    NOP * 11
+    data
+    empty 0 * 32";
+
+#[test]
+fn tries_and_the_sfu_queue() {
+    let image = text::assemble(WAITING).unwrap().bytes();
+    let first = hep::run(&image, &[3]).unwrap();
+    assert_eq!(first.counts, Counts { waved: 1, ..Counts::default() });
+    assert_eq!(first.report, "3 2 -- -----\nE0 W1 T0 I0 S0 CF0\n");
+    let state = first.state();
+    let queues: Vec<(u8, u8, bool)> =
+        state.processes_of(3).map(|process| (process.pt, process.task, process.sfu)).collect();
+    assert_eq!(queues, [(4, 3, false), (7, 3, true)]);
+    let all = hep::run(&image, &[3; 6]).unwrap();
+    assert_eq!(all.report, "3 1 -- -----\nE5 W1 T0 I0 S4 CF0\n");
+    let rest = hep::run(&first.image, &[3; 5]).unwrap();
+    assert_eq!((rest.counts.tries, &rest.image), (4, &all.image));
+    let long = hep::run_in_slices(&first.image, &vec![3; hep::MOST_ITEMS + 5]).unwrap();
+    assert_eq!(long.counts.tries, 4);
+    assert!(long.report.contains(" S4 CF0\n"), "{}", long.report);
 }
 
 #[test]

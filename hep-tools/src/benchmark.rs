@@ -11,10 +11,11 @@ pub struct Workload {
     pub build: fn() -> (Vec<u8>, Vec<u8>),
 }
 
-pub const ALL: [Workload; 5] = [
+pub const ALL: [Workload; 6] = [
     Workload { name: "arithmetic", build: arithmetic },
     Workload { name: "loadstore", build: loadstore },
     Workload { name: "waved", build: waved },
+    Workload { name: "tried", build: tried },
     Workload { name: "create", build: create_and_quit },
     Workload { name: "seven", build: seven },
 ];
@@ -52,7 +53,7 @@ fn draft(programs: &[Vec<u64>]) -> Draft {
 /// Starts a process of the task at this PC.
 fn start(draft: &mut Draft, task: u8, pc: u64) {
     let pt = draft.processes.len() as u8;
-    draft.processes.push(Process { pt, task, psw: psw(0, 0, 0, pc) });
+    draft.processes.push(Process::new(pt, task, psw(0, 0, 0, pc)));
 }
 
 /// Fifteen operations and a branch to the first.
@@ -118,11 +119,20 @@ pub fn loadstore_over(data_words: usize) -> (Vec<u8>, Vec<u8>) {
     (draft.bytes(), in_turn(1))
 }
 
-/// A process that waits on an empty register.
+/// A process that waits on an empty register, in its task's own queue.
 pub fn waved() -> (Vec<u8>, Vec<u8>) {
     let mut draft = draft(&[vec![word(MOV, register(0), accessed(1, 1), 0)]]);
     draft.registers[1].0 = 8;
     start(&mut draft, 1, 0);
+    (draft.bytes(), in_turn(1))
+}
+
+/// A process that waits on an empty data word, in its task's SFU queue: every item is a try.
+pub fn tried() -> (Vec<u8>, Vec<u8>) {
+    let mut draft = draft(&[vec![word(LODI | SAC_FULL, register(0), constant(5), 0)]]);
+    draft.data[1].0 = 0;
+    start(&mut draft, 1, 0);
+    draft.processes[0].sfu = true;
     (draft.bytes(), in_turn(1))
 }
 

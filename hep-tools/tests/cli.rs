@@ -27,7 +27,7 @@ fn the_emulator_answers_lines() {
     let input = hex("hep input\nconstants\n  7\nschedule\n  1 2 3\n");
     let image = hex("hep image\nconstants\n7\n");
     let lines = run(EMULATOR, &["--lines"], input.as_bytes()).stdout;
-    let output: String = "E0 W0 T0 I3 CF0\n".bytes().map(|byte| format!("{byte:02X}")).collect();
+    let output: String = "E0 W0 T0 I3 S0 CF0\n".bytes().map(|byte| format!("{byte:02X}")).collect();
     assert_eq!(String::from_utf8(lines).unwrap(), format!("{output} {image}"));
     assert_eq!(run(EMULATOR, &["--lines"], b"00\n").stdout, b"52310A -\n");
     assert_eq!(run(EMULATOR, &["--lines"], b"0g\n").status.code(), Some(1));

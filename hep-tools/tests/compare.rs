@@ -3,7 +3,7 @@
 use hep_tools::compare::isolation::{self, Broken};
 use hep_tools::compare::{self, Emulator, Implementation, Lines, Program};
 use hep_tools::emulator::batch::{self, Answer};
-use hep_tools::emulator::draft::{Draft, Task};
+use hep_tools::emulator::draft::{Draft, Process, Task};
 use hep_tools::generate::Pair;
 use hep_tools::tool;
 use hep_tools::tool::text::Source;
@@ -37,14 +37,15 @@ fn told_apart(change: fn(&[u8], Answer) -> Answer) -> Vec<u8> {
 
 #[test]
 fn cases_are_shrunk() {
-    // Trap kinds printed as 00: one row, one process, one item are left.
+    // One trap printed as two: one row, one process, one item are left.
     let trap = told_apart(|_, answer| {
-        let output = String::from_utf8_lossy(&answer.output).replace(" 14 ", " 00 ").into_bytes();
+        let output = String::from_utf8_lossy(&answer.output).replace(" T1 ", " T2 ").into_bytes();
         Answer { output, ..answer }
     });
     let source = tool::load(&trap).expect("accepted");
     assert_eq!(source.schedule.as_ref().map(Vec::len), Some(1));
     assert_eq!((source.draft.tasks.len(), source.draft.processes.len()), (1, 1));
+    assert!(!source.draft.processes[0].sfu);
     // An image in which a register's quality is lost.
     let quality = told_apart(|_, answer| {
         let Some(image) = &answer.image else { return answer };
@@ -86,11 +87,25 @@ fn isolation_is_kept() {
 
 /// Which premise a pair breaks that differs in its constants only.
 fn broken_by(first: &[(u8, u64)], second: &[(u8, u64)]) -> Option<Broken> {
-    let drafts = [first, second].map(|constants| Draft {
+    broken_between([first, second].map(|constants| Draft {
         tasks: vec![Task::empty(1)],
         constants: constants.to_vec(),
         ..Draft::default()
-    });
+    }))
+}
+
+/// Which premise a pair breaks that differs in its processes only: the PCs of own queue and SFU queue.
+fn broken_by_queues(first: [&[u64]; 2], second: [&[u64]; 2]) -> Option<Broken> {
+    let process = |sfu| move |&pc: &u64| Process { sfu, ..Process::new(pc as u8, 1, pc) };
+    broken_between([first, second].map(|[own, waiting]| Draft {
+        tasks: vec![Task::empty(1)],
+        processes:
+            own.iter().map(process(false)).chain(waiting.iter().map(process(true))).collect(),
+        ..Draft::default()
+    }))
+}
+
+fn broken_between(drafts: [Draft; 2]) -> Option<Broken> {
     let [first, second] = drafts.clone().map(|draft| Source { schedule: Some(vec![1]), draft });
     isolation::broken(&Pair { first, second, task: 1 }, &drafts)
 }
@@ -111,17 +126,54 @@ fn constant_memory_agrees_by_what_it_reads() {
 }
 
 #[test]
+fn both_queues_must_agree() {
+    assert_eq!(broken_by_queues([&[1, 2], &[3, 4]], [&[1, 2], &[3, 4]]), None);
+    for other in
+        [[&[1, 2, 3][..], &[4]], [&[1], &[2, 3, 4]], [&[1, 2], &[4, 3]], [&[3, 4], &[1, 2]]]
+    {
+        assert_eq!(
+            broken_by_queues([&[1, 2], &[3, 4]], other),
+            Some(Broken::Disagree),
+            "{other:?}"
+        );
+    }
+}
+
+/// An answer in which the number of all processes leaks into the status words of one kind of queue.
+fn leaked(answer: Answer, sfu: bool) -> Answer {
+    let Some(image) = &answer.image else { return answer };
+    let mut state = tool::load(image).expect("accepted").draft;
+    let live = state.processes.len() as u64;
+    let queues = state.processes.iter_mut().filter(|process| process.sfu == sfu);
+    queues.for_each(|process| process.psw ^= live);
+    Answer { image: Some(state.bytes()), ..answer }
+}
+
+/// An answer in which an SFU queue's head is back in the task's own queue where a neighbour is live.
+fn moved(answer: Answer) -> Answer {
+    let Some(image) = &answer.image else { return answer };
+    let mut state = tool::load(image).expect("accepted").draft;
+    if state.tasks.len() > 1 {
+        let mut last = 0;
+        for process in state.processes.iter_mut().filter(|process| process.sfu) {
+            process.sfu = process.task == last;
+            last = process.task;
+        }
+    }
+    Answer { image: Some(state.bytes()), ..answer }
+}
+
+#[test]
 fn isolation_that_is_broken_shows() {
-    // A neighbour's count of processes leaks into every status word.
-    let change = |_: &[u8], answer: Answer| {
-        let Some(image) = &answer.image else { return answer };
-        let mut state = tool::load(image).expect("accepted").draft;
-        let live = state.processes.len() as u64;
-        state.processes.iter_mut().for_each(|process| process.psw ^= live);
-        Answer { image: Some(state.bytes()), ..answer }
-    };
-    let tally = isolation::tried(&mut Faulty { change }, 42, 300).expect("images");
-    assert!(tally.failure.is_some());
+    let faults: [fn(&[u8], Answer) -> Answer; 3] = [
+        |_, answer| leaked(answer, false),
+        |_, answer| leaked(answer, true),
+        |_, answer| moved(answer),
+    ];
+    for change in faults {
+        let tally = isolation::tried(&mut Faulty { change }, 42, 300).expect("images");
+        assert!(tally.failure.is_some());
+    }
 }
 
 #[test]

@@ -1,8 +1,12 @@
-//! The frame check in examples/, by hand: README.md there has the figures.
+//! The frame check and the handover in examples/: README.md there has the figures and the trace.
 
-use hep_tools::emulator::batch;
+use hep_tools::emulator::machine::Machine;
+use hep_tools::emulator::{batch, image};
 use hep_tools::tool;
+use hep_tools::tool::load::open;
 use hep_tools::tool::share::{cells_shown, share};
+use hep_tools::tool::text::{dump, Source};
+use hep_tools::tool::trace::{lines, Filter};
 use std::fs;
 
 fn example(name: &str) -> String {
@@ -18,7 +22,7 @@ fn house_one(text: &str) -> &str {
 
 #[test]
 fn reports() {
-    for name in ["frame-a", "frame-b"] {
+    for name in ["frame-a", "frame-b", "handover"] {
         let input = tool::load(example(&format!("{name}.hep")).as_bytes()).unwrap().bytes();
         assert_eq!(batch::output(&input), example(&format!("{name}.out")).into_bytes());
     }
@@ -81,4 +85,43 @@ fn sections_are_packed() {
     let source = tool::load(example("frame-a.hep").as_bytes()).unwrap();
     let words: Vec<u64> = source.draft.data[..6].iter().map(|cell| cell.1).collect();
     assert_eq!(words, packed);
+}
+
+/// An example's trace up to this item, each line as a document has it, and the machine then.
+fn traced(name: &str, items: usize) -> (Vec<String>, Machine) {
+    let loaded = open(example(name).as_bytes(), None).unwrap();
+    let schedule = loaded.source.schedule.clone().unwrap();
+    let mut machine = tool::machine(&loaded.source);
+    let filter = Filter::default();
+    let trace = lines(&mut machine, &schedule[..items], &loaded.symbols, &filter);
+    let trace = trace.map(|line| format!("    {line}")).collect();
+    (trace, machine)
+}
+
+/// README.md shows the handover's trace as it is, cut behind what each attempt wrote or waits for.
+#[test]
+fn the_handover_as_told() {
+    let (trace, machine) = traced("handover.hep", 11);
+    let cut: Vec<&str> = trace.iter().map(|line| line.split(';').next().unwrap()).collect();
+    let readme = example("README.md");
+    assert!(readme.contains(&(cut.join("\n") + "\n")), "{}", cut.join("\n"));
+    assert_eq!(machine.register(0), (0, 7 + 8 + 9));
+}
+
+/// FORMAT.md shows lines of the handover's trace and of house three's trap, and the handover's processes after five items.
+#[test]
+fn traces_in_the_format() {
+    let (trace, trap) = (traced("handover.hep", 11).0, traced("frame-b.hep", 1382).0);
+    let format = example("../hep-tools/FORMAT.md");
+    let shown = format[format.find("## What a trace shows").unwrap()..].lines().skip(2);
+    let shown: Vec<&str> = shown.take_while(|line| line.starts_with("    ")).collect();
+    assert_eq!(shown, [&trace[0], &trace[2], &trace[3], &trace[4], trap.last().unwrap()]);
+    let source = Source { schedule: None, draft: image::draft(&traced("handover.hep", 5).1) };
+    let dump = dump(&source);
+    let processes: Vec<String> = dump
+        .lines()
+        .filter(|line| line.starts_with("process "))
+        .map(|line| format!("    {line}"))
+        .collect();
+    assert!(format.contains(&(processes.join("\n") + "\n")), "{}", processes.join("\n"));
 }

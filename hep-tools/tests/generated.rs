@@ -3,11 +3,11 @@
 use hep_tools::benchmark;
 use hep_tools::emulator::assemble::{word, LODI};
 use hep_tools::emulator::batch;
-use hep_tools::emulator::codes::{listed, Low};
+use hep_tools::emulator::codes::{decode, listed, Low, Op};
 use hep_tools::emulator::draft::{batch_input, Task};
 use hep_tools::emulator::image;
 use hep_tools::emulator::machine::{
-    Counts, Ending, Machine, CREATE_FAULT, DATA_EXCEPTION, ILLEGAL, NO_TRAP,
+    Attempt, Counts, Ending, Machine, CREATE_FAULT, DATA_EXCEPTION, ILLEGAL, NO_TRAP,
 };
 use hep_tools::emulator::psw;
 use hep_tools::emulator::refusal::{Refusal, Section};
@@ -27,8 +27,9 @@ fn states_after_runs_are_images() {
     for n in 0..500 {
         let mut machine = image::read(&generate::image(12, n)).expect("accepted");
         let schedule: Vec<u8> = (0..700).map(|i| i as u8 % 7 + 1).collect();
-        let Counts { executed, waved, trapped, idle } = machine.run(&schedule);
+        let Counts { executed, waved, trapped, idle, tries } = machine.run(&schedule);
         assert_eq!(executed + waved + trapped + idle, 700);
+        assert!(tries <= 700, "{tries} tries");
         let bytes = image::write(&machine);
         let again = image::read(&bytes).expect("the state after a run is an image");
         assert_eq!(image::write(&again), bytes);
@@ -63,9 +64,9 @@ fn is_task(line: &str) -> bool {
 
 fn is_counts(line: &str) -> bool {
     let fields: Vec<&str> = line.split(' ').collect();
-    let counted = fields.iter().zip(["E", "W", "T", "I"]);
+    let counted = fields.iter().zip(["E", "W", "T", "I", "S"]);
     let numbers = counted.filter(|(field, name)| field.strip_prefix(*name).is_some_and(is_number));
-    numbers.count() == 4 && fields.len() == 5 && ["CF0", "CF1"].contains(&fields[4])
+    numbers.count() == 5 && fields.len() == 6 && ["CF0", "CF1"].contains(&fields[5])
 }
 
 fn is_hex(byte: u8) -> bool {
@@ -139,14 +140,15 @@ fn is_a_constants(machine: &Machine, task: u8) -> bool {
     }
     draft.constants.iter_mut().for_each(|constant| constant.0 = 0);
     let mut machine = image::read(&draft.bytes()).expect("accepted");
-    !matches!(machine.step(task), Ending::Trapped { kind: DATA_EXCEPTION, .. })
+    !matches!(machine.item(task).ending, Ending::Trapped { kind: DATA_EXCEPTION, .. })
 }
 
 /// Whether an input is accepted and its run has such a data exception.
 fn has_a_constants_exception(input: &[u8]) -> bool {
     let Ok((schedule, mut machine)) = batch::accepted(input) else { return false };
     schedule.iter().any(|&task| {
-        let excepted = matches!(machine.step(task), Ending::Trapped { kind: DATA_EXCEPTION, .. });
+        let excepted =
+            matches!(machine.item(task).ending, Ending::Trapped { kind: DATA_EXCEPTION, .. });
         excepted && is_a_constants(&machine, task)
     })
 }
@@ -159,6 +161,35 @@ fn constants_cause_data_exceptions() {
     }
 }
 
+/// Makes the attempts of an input's run: `make` makes each and tells of it.
+fn attempted<T>(
+    input: &[u8],
+    mut make: impl FnMut(&mut Machine, u8, Attempt) -> (Ending, Option<T>),
+) -> Vec<T> {
+    let Ok((schedule, mut machine)) = batch::accepted(input) else { return Vec::new() };
+    let mut all = Vec::new();
+    for &task in schedule {
+        for &attempt in machine.attempts(task) {
+            let (ending, told) = make(&mut machine, task, attempt);
+            all.extend(told);
+            if let Ending::Trapped { .. } = ending {
+                break;
+            }
+        }
+    }
+    all
+}
+
+/// Status word and instruction of the process that this attempt takes.
+fn taken(machine: &Machine, task: u8, attempt: Attempt) -> Option<(u64, u64)> {
+    let queue = match attempt {
+        Attempt::Try => machine.sfu_processes(task),
+        Attempt::Step => machine.processes(task),
+    };
+    let &(_, psw) = queue.first()?;
+    Some((psw, machine.instruction(task, psw::pc(psw))?))
+}
+
 /// A data access: whether it stores, B, and the low three bits of its address and of S1.
 #[derive(Clone, Copy)]
 struct Access {
@@ -168,10 +199,9 @@ struct Access {
     low_of_s1: u64,
 }
 
-/// The access that a task's next step asks for.
-fn access(machine: &Machine, task: u8) -> Option<Access> {
-    let &(_, psw) = machine.processes(task).first()?;
-    let instruction = machine.instruction(task, psw::pc(psw))?;
+/// The access that an attempt asks for.
+fn access(machine: &Machine, task: u8, attempt: Attempt) -> Option<Access> {
+    let (psw, instruction) = taken(machine, task, attempt)?;
     let stores = listed(instruction)?.low == Low::Store;
     let low = |word| machine.data_address(task, psw, word).map(|address| address & 7);
     let low_of_s1 = low(word(LODI, 0, (instruction >> 16) as u16, 0))?;
@@ -181,16 +211,15 @@ fn access(machine: &Machine, task: u8) -> Option<Access> {
 
 /// The accesses of an input's run that are executed, and those that trap with kind 12.
 fn accesses(input: &[u8]) -> Vec<Access> {
-    let Ok((schedule, mut machine)) = batch::accepted(input) else { return Vec::new() };
-    let step = |&task: &u8| {
-        let access = access(&machine, task);
-        let wanted = match machine.step(task) {
+    attempted(input, |machine, task, attempt| {
+        let access = access(machine, task, attempt);
+        let ending = machine.attempt(task, attempt);
+        let wanted = match ending {
             Ending::Trapped { kind, .. } => kind == ILLEGAL,
             ending => ending == Ending::Executed,
         };
-        access.filter(|_| wanted)
-    };
-    schedule.iter().filter_map(step).collect()
+        (ending, access.filter(|_| wanted))
+    })
 }
 
 /// Loads and stores reach each byte and each part, also part 4, which traps with kind 12; some
@@ -226,19 +255,17 @@ struct Change {
 
 /// The changes in an input's run.
 fn changes(input: &[u8]) -> Vec<Change> {
-    let Ok((schedule, mut machine)) = batch::accepted(input) else { return Vec::new() };
     let mut after_quit = false;
-    let step = |&task: &u8| {
+    attempted(input, |machine, task, attempt| {
         let (live, flag) = (machine.live_total(), machine.create_fault());
         let others = live - machine.live_count(task);
-        let ending = machine.step(task);
+        let ending = machine.attempt(task, attempt);
         let quits = machine.live_total() < live;
         let faults = matches!(ending, Ending::Trapped { kind: CREATE_FAULT, .. });
         let change = Change { live, flag, quits, faults, after_quit };
         after_quit |= quits && !flag;
-        (others > 0 && machine.live_total() != live).then_some(change)
-    };
-    schedule.iter().filter_map(step).collect()
+        (ending, (others > 0 && machine.live_total() != live).then_some(change))
+    })
 }
 
 /// Near 64 processes of several tasks some are created and some quit; the 64th faults, and no other.
@@ -258,6 +285,63 @@ fn processes_come_and_go_near_the_total() {
         ];
         let rare: Vec<_> = came.into_iter().filter(|(_, came)| *came <= 10).collect();
         assert!(rare.is_empty(), "{rare:?}");
+    }
+}
+
+/// How a try ends, and whether a step of its item follows.
+type Tried = (&'static str, bool);
+
+/// The ways in which tries end.
+const TRIES: [&str; 9] = [
+    "loads or stores",
+    "executes another operation",
+    "creates",
+    "quits",
+    "waits at a load or store",
+    "waits for a register",
+    "waits at a create with the flag up",
+    "makes the 64th",
+    "traps",
+];
+
+/// The way in which a try of this instruction ended that changed the number of processes so.
+fn tried(op: Op, ending: Ending, flag: bool, more: i16) -> &'static str {
+    let data = matches!(op, Op::Lodi | Op::Lodx | Op::Stoi | Op::Stox);
+    let way = match ending {
+        Ending::Executed if data => 0,
+        Ending::Executed => [3, 1, 2][(more + 1) as usize],
+        Ending::Waved if data => 4,
+        Ending::Waved if op == Op::Create && flag => 6,
+        Ending::Trapped { kind: CREATE_FAULT, .. } => 7,
+        Ending::Trapped { .. } => 8,
+        _ => 5,
+    };
+    TRIES[way]
+}
+
+/// The tries of an input's run.
+fn tries(input: &[u8]) -> Vec<Tried> {
+    attempted(input, |machine, task, attempt| {
+        let word = taken(machine, task, attempt).map_or(!0, |(_, word)| word);
+        let (live, flag) = (i16::from(machine.live_total()), machine.create_fault());
+        let step = machine.attempts(task).len() == 2;
+        let ending = machine.attempt(task, attempt);
+        let way = tried(decode(word), ending, flag, i16::from(machine.live_total()) - live);
+        (ending, (attempt == Attempt::Try).then_some((way, step)))
+    })
+}
+
+/// Tries end in every way, with a step behind them and without one.
+#[test]
+fn tries_end_in_every_way() {
+    for make in [generate::input, generate::small_input] {
+        let all: Vec<Tried> = (0..6_000).flat_map(|n| tries(&make(20, n))).collect();
+        for way in TRIES {
+            for step in [false, true] {
+                let came = all.iter().filter(|tried| **tried == (way, step)).count();
+                assert!(came > 5, "{came} tries: {way}, a step or none: {step}");
+            }
+        }
     }
 }
 
@@ -282,10 +366,10 @@ fn workloads_do_what_they_say() {
     for workload in &benchmark::ALL {
         let (bytes, schedule) = (workload.build)();
         let counts = image::read(&bytes).expect("accepted").run(&schedule);
-        let expected = if workload.name == "waved" {
-            Counts { waved: 60_000, ..Counts::default() }
-        } else {
-            Counts { executed: 60_000, ..Counts::default() }
+        let expected = match workload.name {
+            "waved" => Counts { waved: 60_000, ..Counts::default() },
+            "tried" => Counts { waved: 60_000, tries: 60_000, ..Counts::default() },
+            _ => Counts { executed: 60_000, ..Counts::default() },
         };
         assert_eq!(counts, expected, "{}", workload.name);
         assert!(batch_input(&schedule, &bytes).len() <= 65_536);

@@ -84,12 +84,38 @@ fn windows_processes_and_items() {
     ];
     assert_eq!(all.draft.tasks, rows);
     let processes = [(0, 1, 2), (1, 1, 0), (2, 2, 2), (3, 2, 0)];
-    assert_eq!(all.draft.processes, processes.map(|(pt, task, psw)| Process { pt, task, psw }));
+    assert_eq!(all.draft.processes, processes.map(|(pt, task, psw)| Process::new(pt, task, psw)));
     assert_eq!(all.draft.constants, [(0, 7)]);
     let sizes = [all.draft.registers.len(), all.draft.program.len(), all.draft.data.len()];
     assert_eq!(sizes, [12, 48, 32]);
     assert_eq!(all.schedule, Some(vec![1, 2, 1, 1]));
     assert_eq!(joined(&[]).unwrap(), Source { schedule: None, draft: Draft::default() });
+}
+
+/// The SFU queue of a job stands behind its task's queue, and runs there as alone.
+#[test]
+fn sfu_queues_are_joined() {
+    let text = |task: u8| {
+        format!(
+            "hep input\ntask {task} cb=0 rb=0 rl=0 pb=0 pl=0 db=0 dl=0\nprocess 1 task={task} pc=1\n\
+             process 0 task={task} sfu\nconstants\n  8\nregisters\n  full 9 * 2\nprogram\n  LODI:W r0, c0\n  NOP\n  STOI r1, c0\n  NOP * 13\n\
+             data\n  empty 0 * 32\nschedule\n  {task} * 4\n"
+        )
+    };
+    let jobs = [assemble(&text(5)).unwrap(), assemble(&text(3)).unwrap()];
+    let all = joined(&jobs).unwrap();
+    let queues: Vec<(u8, u8, bool)> =
+        all.draft.processes.iter().map(|process| (process.pt, process.task, process.sfu)).collect();
+    assert_eq!(queues, [(0, 1, false), (1, 1, true), (2, 2, false), (3, 2, true)]);
+    let mut machine = machine(&all);
+    let counts = machine.run(all.schedule.as_ref().unwrap());
+    assert_eq!((counts.executed, counts.tries), (8, 6));
+    for (number, job) in (1..).zip(&jobs) {
+        let own = job.draft.tasks[0].number;
+        let alone = share(&after(job).0, own);
+        assert_eq!(share(&image::draft(&machine), number), alone);
+        assert_eq!(alone.unwrap().registers[0], (0, 9));
+    }
 }
 
 #[test]

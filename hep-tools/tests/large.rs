@@ -19,7 +19,7 @@ fn largest() -> Draft {
     };
     Draft {
         tasks: vec![task],
-        processes: vec![Process { pt: 63, task: 1, psw: psw(0, 0, 0, 0xF_FFFF) }],
+        processes: vec![Process::new(63, 1, psw(0, 0, 0, 0xF_FFFF))],
         flag: 0,
         constants: vec![(6, 1); 4_096],
         registers: vec![(14, 1); 2_048],
@@ -40,7 +40,7 @@ fn the_largest_image() {
 #[test]
 fn pc_is_kept_modulo_2_20() {
     let mut machine = image::read(&largest().bytes()).expect("accepted");
-    assert_eq!(machine.step(1), Ending::Executed);
+    assert_eq!(machine.item(1).ending, Ending::Executed);
     assert_eq!(machine.processes(1), [(63, 0)]);
 }
 
@@ -50,7 +50,7 @@ fn the_last_register() {
     draft.program[0xF_FFFF] = word(MOV, 0, 2_047, 0);
     draft.registers[2_047] = (3, 9);
     let mut machine = image::read(&draft.bytes()).expect("accepted");
-    assert_eq!(machine.step(1), Ending::Executed);
+    assert_eq!(machine.item(1).ending, Ending::Executed);
     assert_eq!(machine.register(0), (0, 9));
 }
 
@@ -58,7 +58,7 @@ fn the_last_register() {
 fn steps_of_no_task_are_idle() {
     let mut machine = image::read(&largest().bytes()).expect("accepted");
     for task in [0, 2, 7, 8, 255] {
-        assert_eq!(machine.step(task), Ending::Idle);
+        assert_eq!(machine.item(task).ending, Ending::Idle);
     }
 }
 
@@ -68,12 +68,12 @@ fn the_lowest_number_is_taken_again() {
     let program = [quit(ALWAYS, constant(0)), create(ALWAYS, 0, constant(0), constant(0))];
     let mut draft = Draft {
         tasks: vec![Task { pb: 0, pl: 0, ..Task::empty(1) }],
-        processes: [(0, 0), (5, 1)].map(|(pt, psw)| Process { pt, task: 1, psw }).to_vec(),
+        processes: [(0, 0), (5, 1)].map(|(pt, psw)| Process::new(pt, 1, psw)).to_vec(),
         program: program.to_vec(),
         ..Draft::default()
     };
     draft.program.resize(16, 0);
     let mut machine = image::read(&draft.bytes()).expect("accepted");
-    assert_eq!([machine.step(1), machine.step(1)], [Ending::Executed; 2]);
+    assert_eq!([machine.item(1).ending, machine.item(1).ending], [Ending::Executed; 2]);
     assert_eq!(machine.processes(1), [(5, 2), (0, 2)]);
 }

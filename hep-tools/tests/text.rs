@@ -2,16 +2,18 @@
 
 use hep_tools::emulator::assemble::*;
 use hep_tools::emulator::batch;
-use hep_tools::emulator::codes;
+use hep_tools::emulator::codes::{self, Role, OPERATIONS};
 use hep_tools::emulator::draft::{batch_input, Process};
 use hep_tools::emulator::image;
 use hep_tools::generate;
 use hep_tools::generate::random::Random;
 use hep_tools::tool;
 use hep_tools::tool::load::open;
-use hep_tools::tool::text::{assemble, dump, show};
+use hep_tools::tool::profile::profile;
+use hep_tools::tool::text::{assemble, dump, show, Symbols};
 use hep_tools::tool::timeline::{svg, View};
-use hep_tools::tool::trace::{lines, Filter};
+use hep_tools::tool::trace::{self, Filter};
+use hep_tools::tool::why::why;
 use hep_tools::trials::edges;
 use std::fs;
 
@@ -85,6 +87,48 @@ fn instructions_read_as_the_source_writes_them() {
     }
 }
 
+/// The rows of the table with this heading in a document: their cells.
+fn table(document: &str, heading: &str) -> Vec<Vec<String>> {
+    let path = format!("{}/../{document}", env!("CARGO_MANIFEST_DIR"));
+    let text = fs::read_to_string(path).unwrap();
+    let start = text.find(heading).expect(heading);
+    let rows = text[start..].lines().skip(2).take_while(|line| line.starts_with('|'));
+    let cells =
+        |row: &str| row.trim_matches('|').split('|').map(|c| c.trim().to_string()).collect();
+    rows.map(cells).collect()
+}
+
+/// The roles of an operation's fields, by their names in a document.
+fn roles(fields: &str) -> Vec<Role> {
+    let role = |field: &str| match field {
+        "-" => Role::Unused,
+        "D" => Role::Destination,
+        "S0" | "S1" | "S2" => Role::Source,
+        _ => Role::Free,
+    };
+    fields.split_whitespace().map(role).collect()
+}
+
+/// FORMAT.md and MACHINE.md have the fields of each operation alike, as the word has them, and FORMAT.md says how they are written.
+#[test]
+fn documents_have_one_order_of_fields() {
+    let written = table("hep-tools/FORMAT.md", "| Operation | Written |");
+    let coded = table("docs/MACHINE.md", "| Operation | Code |");
+    for operation in OPERATIONS {
+        let has = |cell: &str| cell.split([',', ' ']).position(|name| name == operation.name);
+        let row = written.iter().find(|row| has(&row[0]).is_some()).expect(operation.name);
+        assert_eq!(roles(&row[2]), operation.fields, "{}", operation.name);
+        let fields: Vec<&str> = row[2].split_whitespace().collect();
+        let order: Vec<&str> = operation.order.iter().map(|&i| fields[i]).collect();
+        let plain = row[1].split(';').next().unwrap().replace("(RCI,RRI,RUTM,RPC)", "");
+        assert_eq!(plain.replace("code", "free"), order.join(", "), "{}", operation.name);
+        let machine = coded.iter().find(|row| has(&row[0]).is_some()).expect(operation.name);
+        let place = machine[0].split(", ").position(|name| name == operation.name).unwrap();
+        let each: Vec<&str> = machine[2].split(", ").collect();
+        assert_eq!(each[place.min(each.len() - 1)], row[2], "{}", operation.name);
+    }
+}
+
 #[test]
 fn names_labels_and_repetitions() {
     let text = "
@@ -126,7 +170,7 @@ fn names_labels_and_repetitions() {
 }
 
 /// Bad text as lines behind `hep input`, with the line, column and reason.
-const BAD: [(&str, usize, usize, &str); 62] = [
+const BAD: [(&str, usize, usize, &str); 66] = [
     ("task", 2, 5, "a number should stand here"),
     ("task 0 cb=0", 2, 6, "the task must be from 1 to 7"),
     ("task 8 cb=0", 2, 6, "the task must be from 1 to 7"),
@@ -171,7 +215,27 @@ const BAD: [(&str, usize, usize, &str); 62] = [
     ("program\nMOVE r0, r1", 3, 1, "`MOVE` is no instruction (did you mean `MOV`?)"),
     ("flag 2", 2, 6, "the flag must be from 0 to 1"),
     ("process 0 task=1", 2, 16, "task 1 isn't listed above"),
+    (
+        "task 1 cb=0 rb=1 rl=0 pb=1 pl=0 db=1 dl=0\nprocess 0 task=1 suf pc=1",
+        3,
+        18,
+        "`suf` is no field here (did you mean `sfu`?)",
+    ),
     ("process 64", 2, 9, "the process number must be from 0 to 63"),
+    (
+        "task 1 cb=0 rb=1 rl=0 pb=1 pl=0 db=1 dl=0\nprocess 0 task=1 sfu\nprocess 1 task=1",
+        4,
+        16,
+        "a task's queue stands before its SFU queue",
+    ),
+    (
+        "task 1 cb=0 rb=1 rl=0 pb=1 pl=0 db=1 dl=0\ntask 2 cb=0 rb=1 rl=0 pb=1 pl=0 db=1 dl=0\n\
+         process 0 task=2\nprocess 1 task=1 sfu",
+        5,
+        16,
+        "processes stand by ascending task",
+    ),
+    ("task 1 cb=0 rb=1 rl=0 pb=1 pl=0 db=1 dl=0\nprocess 0 task=1 pc=1 sfu", 3, 23, "the line should end here"),
     ("process 0 pc=1", 2, 11, "`task=` should stand here"),
     ("1 2 3", 2, 1, "`task`, `process` or a section should stand here"),
     ("name r3 = 5", 2, 6, "`r3` can't be a name"),
@@ -316,7 +380,7 @@ fn kept_dumps_of_earlier_levels() {
         assert_eq!(dump(&source), text, "{path:?}");
         assert!(batch::accepted(&source.bytes()).is_ok(), "{path:?}");
     });
-    assert!(levels.count() > 0);
+    assert_eq!(levels.count(), 2);
 }
 
 #[test]
@@ -332,13 +396,13 @@ fn files_are_text_hex_or_bytes() {
     let refused = tool::load(&batch_input(&[1, 0], image)).unwrap_err();
     let both = "refused as a batch input: R10: schedule, item 2 of 2: task 0x00 is not 0x01 to 0x07 \
                 (byte 3 of the batch input, 0x3, counted from 0)\n\
-                or as an image: R12: process section, process 1 of 2: task 0x00 is not listed in the task section \
+                or as an image: R12: process section, process 1 of 2: task 0x00 is neither 0x01 to 0x07 nor 0x11 to 0x17 \
                 (byte 4 of the image, 0x4, counted from 0)";
     assert_eq!(refused, both);
 }
 
 /// Fields of the full image that get these bytes, and what is said of them: number, words, and the field's place.
-const REFUSED: [(usize, &[u8], &str); 28] = [
+const REFUSED: [(usize, &[u8], &str); 31] = [
     (0, &[8], "R2: task section: count 0x08 is over 0x07"),
     (1, &[0], "R3: task section, row 1 of 2: task number 0x00 must be over 0x00"),
     (2, &[0x10, 0], "R3: task section, row 1 of 2: CB 0x1000 is over 0x0FFF"),
@@ -355,7 +419,10 @@ const REFUSED: [(usize, &[u8], &str); 28] = [
     (59, &[64], "R12: process section, process 1 of 3: PT 0x40 is over 0x3F"),
     (60, &[2], "R12: process section, process 1 of 3: task 0x02 is not listed in the task section"),
     (69, &[5], "R6: process section, process 2 of 3: PT 0x05 stands twice"),
-    (70, &[8], "R12: process section, process 2 of 3: task 0x08 is over 0x07"),
+    (70, &[8], "R12: process section, process 2 of 3: task 0x08 is neither 0x01 to 0x07 nor 0x11 to 0x17"),
+    (70, &[0x10], "R12: process section, process 2 of 3: task 0x10 is neither 0x01 to 0x07 nor 0x11 to 0x17"),
+    (70, &[0x12], "R12: process section, process 2 of 3: task 0x12 is not listed in the task section"),
+    (80, &[1], "R12: process section, process 3 of 3: task 0x01 belongs before 0x11 of the process before it"),
     (81, &[0, 0, 0, 0, 0, 0x10, 0, 0], "R12: process section, process 3 of 3: PSW 0x0000000000100000 sets bits of 0xFF00000000F00000, which must be zero"),
     (89, &[0x10, 1], "R2: constant section: count 0x1001 is over 0x1000"),
     (91, &[7], "R14: constant section, constant 1 of 2: quality 0x07 is over 0x06"),
@@ -421,11 +488,11 @@ fn refusals_of_processes_in_words() {
     let mut turned = edges::full();
     turned.processes.swap(0, 2);
     let words =
-        "R12: process section, process 2 of 3: task 0x01 is under 0x04 of the process before it";
+        "R12: process section, process 2 of 3: task 0x11 belongs before 0x14 of the process before it";
     said_of(&turned.bytes(), 70, words);
     let mut crowd = edges::full();
     crowd.flag = 0;
-    crowd.processes = (0..64).map(|pt| Process { pt, task: 1, psw: 0 }).collect();
+    crowd.processes = (0..64).map(|pt| Process::new(pt, 1, 0)).collect();
     let words = "R6: process section: create fault flag 0x00 must be 0x01 beside 64 processes";
     said_of(&crowd.bytes(), 58, words);
 }
@@ -480,14 +547,14 @@ fn a_trace_shows_what_is_written() {
     let trace = traced(TRACED);
     let lines: Vec<&str> = trace.lines().collect();
     let expected = [
-        "item task PT PC    instruction                      ending     what it wrote, or why it waits or traps",
-        "   0    1  5 00000 ADD r0:F, r1:W:U, c0             executed   r1 set empty, r0 = full 11",
-        "   1    1  5 00001 STOI r0, c0                      executed   data 1 = full 11",
-        "   2    1  5 00002 LODI:W:U r2, c0                  executed   r2 = full 11, data 1 = empty 11",
-        "   3    1  5 00003 CREATE c1(RPC), c9               executed   PT 0 joins at pc=0x00004",
-        "   4    1  5 00004 QT c9                            executed   PT 5 leaves",
-        "   5    1  0 00004 QT c9                            executed   PT 0 leaves",
-        "   6    2 -- ----- -                                idle",
+        "item task attempt PT PC    instruction                      ending     what it wrote, or why it waits or traps",
+        "   0    1 step     5 00000 ADD r0:F, r1:W:U, c0             executed   r1 set empty, r0 = full 11",
+        "   1    1 step     5 00001 STOI r0, c0                      executed   data 1 = full 11",
+        "   2    1 step     5 00002 LODI:W:U r2, c0                  executed   r2 = full 11, data 1 = empty 11",
+        "   3    1 step     5 00003 CREATE c1(RPC), c9               executed   PT 0 joins at pc=0x00004",
+        "   4    1 step     5 00004 QT c9                            executed   PT 5 leaves",
+        "   5    1 step     0 00004 QT c9                            executed   PT 0 leaves",
+        "   6    2 -       -- ----- -                                idle",
     ];
     assert_eq!(lines, expected);
 }
@@ -497,8 +564,143 @@ fn traced(text: &str) -> String {
     let loaded = open(text.as_bytes(), None).unwrap();
     let schedule = loaded.source.schedule.clone().unwrap();
     let (filter, mut machine) = (Filter::default(), tool::machine(&loaded.source));
-    let lines = lines(&mut machine, &schedule, &loaded.symbols, &filter);
+    let lines = trace::lines(&mut machine, &schedule, &loaded.symbols, &filter);
     lines.map(|line| line + "\n").collect()
+}
+
+/// A task whose SFU queue has three processes: one that executes, one that waits for a register, one that traps.
+const TRIED: &str = "hep input
+        task 1 cb=0 rb=0 rl=1 pb=0 pl=0 db=0 dl=0
+        process 9 task=1 pc=5
+        process 4 task=1 sfu pc=0
+        process 7 task=1 sfu ri=1 pc=1
+        process 2 task=1 sfu pc=2
+        constants
+          8
+          256
+        registers
+          empty 3 * 4
+        program
+          LODI:W r0, c0
+          MOV r1, r2+RI:W
+          STOI r1, c1
+          NOP * 13
+        data
+          full 6 * 32
+        schedule
+          1 * 4";
+
+#[test]
+fn a_trace_has_a_line_for_each_try() {
+    let source = assemble(TRIED).unwrap();
+    let queues: Vec<(u8, bool)> =
+        source.draft.processes.iter().map(|process| (process.pt, process.sfu)).collect();
+    assert_eq!(queues, [(9, false), (4, true), (7, true), (2, true)]);
+    both_ways(&source.bytes());
+    let trace = traced(TRIED);
+    let lines: Vec<&str> = trace.lines().skip(1).collect();
+    let expected = [
+        "   0    1 try      4 00000 LODI:W r0, c0                    executed   r0 = full 6",
+        "   0    1 step     9 00005 NOP                              executed",
+        "   1    1 try      7 00001 MOV r1, r2+RI:W                  waved      waits in the SFU queue until r3 is full; r3 = empty 3",
+        "   1    1 step     4 00001 MOV r1, r2+RI:W                  waved      waits until r2 is full; r2 = empty 3",
+        "   2    1 try      2 00002 STOI r1, c1                      trapped 14 byte address 256 is data word 32, outside the window (32 words); c1 = 256, r1 = empty 3",
+        "   3    1 -       -- ----- -                                idle",
+    ];
+    assert_eq!(lines, expected);
+    let only = Filter { only: vec!["waved".to_string()], from: 1, to: 1, task: Some(1) };
+    let loaded = open(TRIED.as_bytes(), None).unwrap();
+    let schedule = loaded.source.schedule.clone().unwrap();
+    let mut machine = tool::machine(&loaded.source);
+    let shown: Vec<String> =
+        trace::lines(&mut machine, &schedule, &loaded.symbols, &only).skip(1).collect();
+    assert_eq!(shown, expected[2..4]);
+}
+
+/// Of random inputs: the lines with `try` are the report's tries, the last line of each item is its ending, and the lines end where a run does.
+#[test]
+fn trace_lines_add_up_to_the_report() {
+    let (mut tries, mut ends) = (0, [0; 4]);
+    for n in 0..400 {
+        let input = generate::input(25, n);
+        let Ok((schedule, mut machine)) = batch::accepted(&input) else { continue };
+        let mut traced = machine.clone();
+        let (symbols, filter) = (Symbols::default(), Filter::default());
+        let lines: Vec<String> =
+            trace::lines(&mut traced, schedule, &symbols, &filter).skip(1).collect();
+        let counts = machine.run(schedule);
+        assert_eq!(image::write(&traced), image::write(&machine), "input {n}");
+        let words: Vec<Vec<&str>> =
+            lines.iter().map(|line| line.split_whitespace().collect()).collect();
+        assert_eq!(
+            words.iter().filter(|line| line[2] == "try").count() as u64,
+            counts.tries,
+            "input {n}"
+        );
+        let last_of_item = |i: &usize| words.get(i + 1).is_none_or(|next| next[0] != words[*i][0]);
+        let last: Vec<&String> = (0..words.len()).filter(last_of_item).map(|i| &lines[i]).collect();
+        let ended =
+            |ending: &str| last.iter().filter(|line| line[60..].contains(ending)).count() as u64;
+        let ended = trace::ENDINGS.map(ended);
+        assert_eq!(
+            ended,
+            [counts.executed, counts.waved, counts.trapped, counts.idle],
+            "input {n}"
+        );
+        tries += counts.tries;
+        ends.iter_mut().zip(ended).for_each(|(sum, count)| *sum += count);
+    }
+    assert!(tries > 500 && ends.iter().all(|&count| count > 100), "{tries} tries, {ends:?}");
+}
+
+#[test]
+fn why_tells_both_queues() {
+    let standing = |text: &str| {
+        let loaded = open(text.as_bytes(), None).unwrap();
+        let schedule = loaded.source.schedule.clone().unwrap();
+        why(tool::machine(&loaded.source), &schedule, &loaded.symbols).0
+    };
+    let two = "task 1: 4 processes, 2 in the SFU queue
+  PT 9 at pc=0x00007: NOP
+      goes on at its next item
+  PT 4 at pc=0x00001: MOV r1, r2+RI:W
+      waits until r2 is full; r2 = empty 3
+      r2: as it was at the start, nobody changed it
+  PT 2 (SFU queue) at pc=0x00002: STOI r1, c1
+      will trap 14 at its next try: byte address 256 is data word 32, outside the window (32 words); c1 = 256, r1 = empty 3
+  PT 7 (SFU queue) at ri=1 pc=0x00001: MOV r1, r2+RI:W
+      waits in the SFU queue until r3 is full; r3 = empty 3
+      r3: as it was at the start, nobody changed it
+";
+    assert_eq!(standing(&TRIED.replace("1 * 4", "1 * 2").replace("pc=5", "pc=6")), two);
+    let trapped = standing(TRIED);
+    let start = "task 1: 4 processes, 2 in the SFU queue, trapped 14 at item 2
+  PT 2 (SFU queue) at pc=0x00002: STOI r1, c1
+      trap 14: byte address 256 is data word 32";
+    assert!(trapped.starts_with(start), "{trapped}");
+    assert!(
+        trapped.ends_with("  the others (3) stand still: a trapped task neither tries nor steps\n")
+    );
+    let before = TRIED.replace("dl=0\n", "dl=0 trap=0x14 pc=2\n").replace("1 * 4", "");
+    let swapped = before.replace("process 4 task=1 sfu pc=0", "process 4 task=1 sfu pc=2");
+    let start = "task 1: 4 processes, 3 in the SFU queue, trapped 14 before the run
+  PT 4 (SFU queue) at pc=0x00002: STOI r1, c1\n";
+    assert!(standing(&swapped).starts_with(start), "{}", standing(&swapped));
+}
+
+/// Tries are counted at their instructions.
+#[test]
+fn profiles_count_tries() {
+    let source = assemble(TRIED).unwrap();
+    let mut machine = tool::machine(&source);
+    let profile = profile(&mut machine, &source.schedule.unwrap(), &Symbols::default());
+    let counts: Vec<String> = profile.lines().skip(1).map(|line| line[61..].to_string()).collect();
+    let counts: Vec<Vec<&str>> =
+        counts.iter().map(|line| line.split_whitespace().collect()).collect();
+    assert_eq!(
+        counts,
+        [["1", "0", "0", "1"], ["0", "2", "0", "1"], ["0", "0", "1", "1"], ["1", "0", "0", "0"]]
+    );
 }
 
 /// Five steps with parts of data word 1, whose address is 8.
@@ -527,7 +729,7 @@ const PARTS_TRACED: &str = "hep input
 #[test]
 fn a_trace_shows_parts() {
     let trace = traced(PARTS_TRACED);
-    let steps: Vec<&str> = trace.lines().skip(1).map(|line| &line[19..]).collect();
+    let steps: Vec<&str> = trace.lines().skip(1).map(|line| &line[27..]).collect();
     let expected = [
         "STOI r0, c0                      executed   data 1 = full 0x0000123400000000 (quarter 1)",
         "LODI:W:U r1, c1                  executed   r1 = full 0, data 1 = empty 0x0000123400000000 (half 1)",
@@ -571,9 +773,11 @@ fn timelines() {
     let frame = include_str!("../../examples/frame-b.hep");
     let svg = drawn(frame);
     assert_eq!(said(&svg, "task "), ["task 1", "task 5"]);
-    assert_eq!(said(&svg, "E"), ["E191 W84 T0 I25", "E126 W1115 T1 I683"]);
+    assert_eq!(said(&svg, "E"), ["E185 W6 T0 I109 S90", "E126 W1115 T1 I683 S0"]);
     assert_eq!(said(&svg, "trap "), ["trap 14 at item 1381, PC 00003 (store)"]);
-    for total in ["executed 317", "waved (waits) 1199", "trapped 1", "idle 708"] {
+    let totals =
+        ["executed 311", "waved (waits) 1121", "trapped 1", "idle 792", "thin lane: tries 90"];
+    for total in totals {
         assert_eq!(said(&svg, total), [total]);
     }
     assert!(svg.starts_with("<svg ") && svg.ends_with("</svg>\n"));
@@ -589,7 +793,23 @@ fn timelines_stay_small() {
     assert_eq!(said(&svg, "not in the image").len(), 1);
     assert!(svg.len() < 10_000, "{} bytes", svg.len());
     let none = drawn(&format!("hep input\n{task}schedule\n"));
-    assert_eq!(said(&none, "E"), ["E0 W0 T0 I0"]);
+    assert_eq!(said(&none, "E"), ["E0 W0 T0 I0 S0"]);
+    assert_eq!(said(&none, "thin lane").len(), 0);
+}
+
+/// The thin lane has the tries of a task by their endings, below the lane of its items.
+#[test]
+fn timelines_have_a_thin_lane_for_tries() {
+    let svg = drawn(TRIED);
+    assert_eq!(said(&svg, "E"), ["E1 W1 T1 I1 S3"]);
+    assert_eq!(said(&svg, "thin lane"), ["thin lane: tries 3"]);
+    assert_eq!(said(&svg, "trap 14"), ["trap 14 at item 2, PC 00002"]);
+    assert_eq!(said(&svg, "waited for"), ["waited for r2 (1), r3 (1)"]);
+    let thin: Vec<&str> = svg.lines().filter(|line| line.contains("v-6h-240z")).collect();
+    let column =
+        |colour: &str, x: usize| format!("<path fill=\"{colour}\" d=\"M{x} 136h240v-6h-240z\"/>");
+    let expected = [column("#2f6fb5", 80), column("#f5a300", 320), column("#d0202a", 560)];
+    assert_eq!(thin, expected);
 }
 
 #[test]
@@ -609,4 +829,7 @@ fn timelines_mark_the_flag() {
     assert_eq!(said(&svg, "100 items"), [heading]);
     assert_eq!(said(&svg, "trap 00 at item 61, PC ").len(), 1);
     assert_eq!(said(&svg, "trap 14"), ["trap 14 before the run, PC 00007"]);
+    let waiting =
+        drawn(&text.replace("dl=0\n        task 3", "dl=0\n        flag 1\n        task 3"));
+    assert_eq!(said(&waiting, "waited for"), ["waited for the create fault flag (100)"]);
 }

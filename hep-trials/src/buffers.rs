@@ -114,18 +114,23 @@ impl Buffers {
             && bytes_stay(&self.report[r..])
     }
 
-    /// How many steps were executed, waved, trapped and idle.
-    pub fn endings(&self) -> [u64; 4] {
-        [self.counts[0], self.counts[1], self.counts[2], self.counts[3]]
+    /// How many items were executed, waved, trapped and idle, and how many tries they made.
+    pub fn counted(&self) -> [u64; 5] {
+        std::array::from_fn(|count| self.counts[count])
+    }
+
+    /// How long image and report are.
+    pub fn lengths(&self) -> [usize; 2] {
+        [self.counts[5] as usize, self.counts[6] as usize]
     }
 
     /// The image after the run.
     pub fn image(&self) -> &[u8] {
-        &self.output[..self.counts[4] as usize]
+        &self.output[..self.lengths()[0]]
     }
 
     /// The report of the batch program.
     pub fn report(&self) -> &[u8] {
-        &self.report[..self.counts[5] as usize]
+        &self.report[..self.lengths()[1]]
     }
 }

@@ -70,14 +70,14 @@ fn refused(image: &[u8], schedule: &[u8], number: u32) -> Result<Result<Buffers,
 /// Whether memories, counts, report and image say the same, and the rest stays.
 fn consistent(left: &Buffers, lengths: &Lengths) -> Result<(), String> {
     let [ct, cw, rt, rw, p, dt, dw, output, _, room] = *lengths;
-    let (image, report) = (left.counts[4] as usize, left.counts[5] as usize);
+    let [image, report] = left.lengths();
     require(image <= output && report <= room, "hep_run answers no length")?;
     require(
         left.stays_from(&[ct, cw, rt, rw, p, dt, dw, image, COUNTS, report]),
         "hep_run wrote beyond",
     )?;
-    let [executed, waved, trapped, idle] = left.endings();
-    let counted = format!("E{executed} W{waved} T{trapped} I{idle} CF");
+    let [executed, waved, trapped, idle, tries] = left.counted();
+    let counted = format!("E{executed} W{waved} T{trapped} I{idle} S{tries} CF");
     let last = String::from_utf8_lossy(left.report()).lines().last().map(str::to_string);
     require(last.is_some_and(|last| last.starts_with(&counted)), "report and counts disagree")?;
     let machine =

@@ -42,7 +42,7 @@ static struct bytes file(const char *name)
     return b;
 }
 
-static const char printed_report[] = "1 1 14 00000\nE0 W0 T1 I0 CF0\n";
+static const char printed_report[] = "1 1 14 00000\nE0 W0 T1 I0 S0 CF0\n";
 
 /* ---- buffers, each in its own block so that a sanitizer sees its ends; one element more than is lent holds a mark */
 
@@ -139,6 +139,7 @@ static void test_printed(void)
     EXPECT(run(image.at, image.len, schedule, 1, &b) == HEP_ACCEPTED);
     const uint64_t *counts = b.at[COUNTS];
     EXPECT(counts[HEP_EXECUTED] == 0 && counts[HEP_WAVED] == 0 && counts[HEP_TRAPPED] == 1 && counts[HEP_IDLE] == 0);
+    EXPECT(counts[HEP_SFU_TRIES] == 0);
     EXPECT(counts[HEP_IMAGE_LEN] == image.len && image.len == after.len);
     EXPECT(counts[HEP_REPORT_LEN] == strlen(printed_report));
     EXPECT(memcmp(b.at[REPORT], printed_report, strlen(printed_report)) == 0);
@@ -179,6 +180,40 @@ static void test_longer(void)
     EXPECT(memcmp(on.at[OUT], twice.at[OUT], ((uint64_t *)on.at[COUNTS])[HEP_IMAGE_LEN]) == 0);
     discard(&once);
     discard(&twice);
+    discard(&on);
+}
+
+/* ---- waiting.hep: a process that waits for a data word goes to the SFU queue, and is tried until the other one stores it */
+
+static void test_tries(void)
+{
+    struct bytes image = file("waiting");
+    uint64_t sizes[HEP_SIZES];
+    const uint8_t schedule[] = {3, 3, 3, 3, 3, 3};
+    EXPECT(hep_sizes(image.at, image.len, sizes, HEP_SIZES) == HEP_ACCEPTED);
+    struct buffers once = make(sizes, image.len), all = make(sizes, image.len);
+    EXPECT(run(image.at, image.len, schedule, 1, &once) == HEP_ACCEPTED);
+    const uint64_t *counts = once.at[COUNTS];
+    const uint8_t *after = once.at[OUT];
+    EXPECT(counts[HEP_WAVED] == 1 && counts[HEP_SFU_TRIES] == 0 && counts[HEP_IMAGE_LEN] == image.len);
+    /* Its processes are at 31 and 41: PT, then the task byte. */
+    EXPECT(after[31] == 4 && after[32] == 3 && after[41] == 7 && after[42] == 0x13);
+
+    EXPECT(run(image.at, image.len, schedule, 6, &all) == HEP_ACCEPTED);
+    static const char report[] = "3 1 -- -----\nE5 W1 T0 I0 S4 CF0\n";
+    counts = all.at[COUNTS];
+    EXPECT(counts[HEP_EXECUTED] == 5 && counts[HEP_WAVED] == 1 && counts[HEP_TRAPPED] == 0 && counts[HEP_IDLE] == 0);
+    EXPECT(counts[HEP_SFU_TRIES] == 4 && counts[HEP_REPORT_LEN] == strlen(report));
+    EXPECT(memcmp(all.at[REPORT], report, strlen(report)) == 0);
+    EXPECT(counts[HEP_IMAGE_LEN] == image.len - 10 && ((uint64_t *)all.at[RW])[0] == 5);
+    EXPECT(ends_stay(&once) && ends_stay(&all));
+
+    struct buffers on = make(sizes, image.len);
+    EXPECT(run(once.at[OUT], image.len, schedule, 5, &on) == HEP_ACCEPTED);
+    EXPECT(((uint64_t *)on.at[COUNTS])[HEP_SFU_TRIES] == 4);
+    EXPECT(memcmp(on.at[OUT], all.at[OUT], counts[HEP_IMAGE_LEN]) == 0);
+    discard(&once);
+    discard(&all);
     discard(&on);
 }
 
@@ -263,6 +298,19 @@ static void test_sections(void)
     for (size_t i = sizeof bad / sizeof bad[0]; i-- > 0;) {
         image.at[bad[i].place] = bad[i].value;
         refused(image.at, image.len, bad[i].number);
+    }
+}
+
+/* Task bytes of full.hep's process, at 32: its task, plus hex 10 in the SFU queue. */
+static void test_task_bytes(void)
+{
+    struct bytes image = file("full");
+    for (unsigned byte = 0; byte < 256; byte++) {
+        image.at[32] = (uint8_t)byte;
+        if (byte == 0x01 || byte == 0x11)
+            EXPECT(hep_check(image.at, image.len) == HEP_ACCEPTED);
+        else
+            refused(image.at, image.len, HEP_PROCESS_FIELD);
     }
 }
 
@@ -373,9 +421,11 @@ int main(int argc, char **argv)
     test_batch();
     test_printed();
     test_longer();
+    test_tries();
     test_qualities();
     test_images_refused();
     test_sections();
+    test_task_bytes();
     test_buffers_refused();
     test_schedules_refused();
     test_fillings();

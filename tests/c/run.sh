@@ -8,7 +8,7 @@ bash tools/archive.sh > target/c/archive.log 2>&1 || { cat target/c/archive.log;
 cargo build --quiet --release --offline --manifest-path hep-tools/Cargo.toml
 cargo build --quiet --release --offline --manifest-path hep-cli/Cargo.toml
 tools=hep-tools/target/release hep=hep-cli/target/release/hep
-for name in printed one two full; do "$hep" asm -o "target/c/images/$name.bin" "tests/c/$name.hep"; done
+for name in printed one two full waiting; do "$hep" asm -o "target/c/images/$name.bin" "tests/c/$name.hep"; done
 "$hep" asm --hex tests/c/printed.hep | tr -d '\n' | "$tools/hep-emulator" --lines | cut -d ' ' -f 2 | "$hep" asm -o target/c/images/after.bin --image
 "$tools/hep-generate" --refused target/c/images
 build() { cc -std=c11 -Wall -Wextra -Werror -O1 -g "${@:2}" -I include -o "target/c/$1" tests/c/hep_test.c target/staticlib/libhep_c.a; }

@@ -55,6 +55,8 @@ uint32_t hep_run(const uint8_t *image, size_t image_len, const uint8_t *schedule
         return answer;
     if (wrong("a_step_miscounted") && counts[HEP_WAVED] > 30)
         counts[HEP_WAVED]--;
+    if (wrong("a_try_missed") && counts[HEP_SFU_TRIES] > 2)
+        counts[HEP_SFU_TRIES]--;
     if (wrong("rare_bit_of_the_image") && counts[HEP_WAVED] > 30)
         output[counts[HEP_IMAGE_LEN] - 1] ^= 1;
     if (wrong("memory_beside_the_image") && data_words_len > 100)

@@ -12,9 +12,12 @@ use library::ReadAnswer;
 use library::Rows;
 use library::Sizes;
 use step::NO_TRAP;
+use step::NUMBERS;
 use step::PLACES;
 use step::PTS;
 use step::ProcessTable;
+use step::Processes;
+use step::QUEUES;
 use step::Queue;
 use window::Row;
 use window::TASKS;
@@ -49,11 +52,13 @@ fn no_processes() -> ProcessTable
         len: 0,
     };
     ProcessTable {
-        psw: [0; PTS],
-        queues: [none; TASKS],
-        flag: 0,
-        live: [0; TASKS],
-        processes: 0,
+        users: Processes {
+            psw: [0; PTS],
+            queues: [none; QUEUES],
+            flag: 0,
+            live: [0; NUMBERS],
+            count: 0,
+        },
     }
 }
 

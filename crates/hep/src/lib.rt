@@ -17,9 +17,12 @@ use library::Sizes;
 use library::StepAnswer;
 use library::WriteAnswer;
 use step::NO_TRAP;
+use step::NUMBERS;
 use step::PLACES;
 use step::PTS;
 use step::ProcessTable;
+use step::Processes;
+use step::QUEUES;
 use step::Queue;
 use window::Row;
 use window::TASKS;
@@ -194,7 +197,7 @@ pub fn run(
     after.answer
 }
 
-// One step of a task on the state in the buffers: 8, then 10. The slice of rows is searched by the task's number. Its answer is how the step
+// One item of a task on the state in the buffers: 8, then 10. The slice of rows is searched by the task's number. Its answer is how the item
 // ends. A refusal changes nothing; beyond the sizes nothing is changed.
 pub fn step(
     rows: &mut [Row],
@@ -277,11 +280,13 @@ pub fn no_processes() -> ProcessTable
         len: 0,
     };
     ProcessTable {
-        psw: [0; PTS],
-        queues: [none; TASKS],
-        flag: 0,
-        live: [0; TASKS],
-        processes: 0,
+        users: Processes {
+            psw: [0; PTS],
+            queues: [none; QUEUES],
+            flag: 0,
+            live: [0; NUMBERS],
+            count: 0,
+        },
     }
 }
 

@@ -93,9 +93,13 @@ slices constantTags constantWords registerTags registerWords program dataTags da
 abbrev pub growth : ℕ
 growth = ptCount * processLength
 
--- the output has room for the image and its growth, the counts for six numbers, the report for 512 bytes
+-- how many numbers hep_run counts: executed, waved, trapped, idle, tries, and the lengths of the image and of the report
+abbrev pub countNumbers : ℕ
+countNumbers = 7
+
+-- the output has room for the image and its growth, the counts for their numbers, the report for 512 bytes
 unfoldable pub resultsFit : (image output counts report : ℕ) → Bool
-resultsFit image output counts report = leb (image + growth) output && (leb 6 counts && leb reportRoom report)
+resultsFit image output counts report = leb (image + growth) output && (leb countNumbers counts && leb reportRoom report)
 
 -- 7: a memory is too short for the state, or a slice for its result; then 9 and 10. The call has places for seven rows itself
 unfoldable pub lengthsRefusal : (schedule : List ℕ) → Sizes → Room → (image output counts report : ℕ) → Option Refusal
@@ -111,9 +115,9 @@ unfoldable pub imageRunAnswer : (image schedule : List ℕ) → Slices → Decod
 imageRunAnswer image schedule l (bad e) = refuses e
 imageRunAnswer image schedule l (good i) = unless (imageRunRefusal image schedule (sizesOf (stateOf i)) l) (run schedule (stateOf i))
 
--- six numbers: executed, waved, trapped, idle, the lengths of the image and of the report
+-- the numbers in their order: executed, waved, trapped, idle, tries, the lengths of the image and of the report
 unfoldable pub countsListed : Counts → (image report : ℕ) → List ℕ
-countsListed c image report = c .executed ∷ c .waved ∷ c .trapped ∷ c .idle ∷ image ∷ report ∷ []
+countsListed c image report = c .executed ∷ c .waved ∷ c .trapped ∷ c .idle ∷ c .tries ∷ image ∷ report ∷ []
 
 -- the state after the run in the memories, its image in the output, the counts, the report
 unfoldable pub imageRunLeft : Answer Ran → Slices → Slices

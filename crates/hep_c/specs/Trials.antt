@@ -6,6 +6,7 @@ use lib.ListN.{take, replicate}
 use Rattle.image.specs.Image.{decode}
 use Rattle.report.specs.Laws.Opened.{opened}
 use Rattle.refusal.specs.Numbers.{numberOf}
+use Rattle.run.specs.Run.{counts as counted}
 use Rattle.library.specs.Calls.{unless, checkAnswer}
 use Rattle.library.specs.Trials.{trialBytes, trialled}
 use Rattle.filling.specs.Filling.{fillAnswer}
@@ -18,7 +19,7 @@ unfoldable pub slicesLess : (constantTags constantWords registerTags registerWor
 slicesLess constantTags constantWords registerTags registerWords program dataTags dataWords output counts report =
     let zeros : ℕ → List ℕ = λ n. replicate n 0 in
     slices (zeros (1 - constantTags)) (zeros (1 - constantWords)) (zeros (2 - registerTags)) (zeros (2 - registerWords)) (zeros (16 - program)) (zeros (1 - dataTags)) (zeros (1 - dataWords))
-    (zeros (857 - output)) (zeros (6 - counts)) (zeros (reportRoom - report))
+    (zeros (857 - output)) (zeros (7 - counts)) (zeros (reportRoom - report))
 
 unfoldable pub exactSlices : Slices
 exactSlices = slicesLess 0 0 0 0 0 0 0 0 0 0
@@ -75,7 +76,8 @@ pub record ImageRunTrials : Type 0 where
   pub second : imageRunNumber trialBytes (0 ∷ []) (slicesLess 0 0 0 0 0 0 0 0 1 0) ≡ 7
   pub item : imageRunNumber trialBytes (2 ∷ 0 ∷ []) exactSlices ≡ 10
   -- a NOP, and a step of a task that has no row
-  pub ran : leftBySchedule (2 ∷ 3 ∷ []) exactSlices .counts ≡ 1 ∷ 0 ∷ 0 ∷ 1 ∷ 217 ∷ 29 ∷ []
+  pub ran : leftBySchedule (2 ∷ 3 ∷ []) exactSlices .counts ≡ 1 ∷ 0 ∷ 0 ∷ 1 ∷ 0 ∷ 217 ∷ 32 ∷ []
+  pub listed : countsListed (counted 1 2 3 4 5) 6 7 ≡ 1 ∷ 2 ∷ 3 ∷ 4 ∷ 5 ∷ 6 ∷ 7 ∷ []
   -- refused: nothing is touched
   pub left : leftBySchedule (2 ∷ 0 ∷ []) exactSlices ≡ exactSlices
 
@@ -105,5 +107,6 @@ image-run-trials = record {
   second = refl;
   item = refl;
   ran = refl;
+  listed = refl;
   left = refl;
 }

@@ -14,7 +14,7 @@ ghost use Rattle.library.specs.Held.{roomFrom};
 ghost use Rattle.report.specs.Report.{outputOf};
 ghost use Rattle.batch.specs.Output.{bytesCopied, copiedInto};
 ghost use Rattle.filling.specs.Filling.{fillAnswer};
-ghost use Rattle.hep_c.specs.Answers.{numberAnswered, listedAnswer, listedLeft, sizesListed, sizesAnswer, fillingListed, fillingAnswer, slices, resultsFit, lengthsRefusal, imageRunRefusal, imageRunAnswer, countsListed, imageRunLeft, ImageRunPromise, countsAnswered};
+ghost use Rattle.hep_c.specs.Answers.{numberAnswered, listedAnswer, listedLeft, sizesListed, sizesAnswer, fillingListed, fillingAnswer, slices, resultsFit, lengthsRefusal, imageRunRefusal, imageRunAnswer, countNumbers, countsListed, imageRunLeft, ImageRunPromise, countsAnswered};
 ghost use Rattle.window.specs.Limits.{tasks};
 use filling::FillAnswer;
 use filling::Filling;
@@ -31,6 +31,9 @@ use window::TASKS;
 
 // How much longer an image may get: every process in it.
 const GROWTH: usize = PTS * PROCESS_BYTES;
+
+// How many numbers hep_run counts.
+const COUNTS: usize = 7;
 
 // ---- numbers
 
@@ -111,6 +114,7 @@ fn counts_answered(answer: RunAnswer) -> Counts
             waved: 0,
             trapped: 0,
             idle: 0,
+            tries: 0,
         },
         RunAnswer::Counted(c) => c,
     }
@@ -126,7 +130,7 @@ fn results_fit(image: usize, output: usize, counts: usize, report: usize) -> boo
     if output - GROWTH < image {
         return false;
     }
-    if counts < 6 {
+    if counts < COUNTS {
         return false;
     }
     REPORT_ROOM <= report
@@ -184,7 +188,7 @@ fn lengths_number(
 
 // The counts of a run and the lengths of its image and report.
 fn put_counts(c: Counts, image: usize, report: usize, counts: &mut [u64])
-    requires { ⌜ 6 ≤ length (now counts) ⌝ }
+    requires { ⌜ countNumbers ≤ length (now counts) ⌝ }
     ensures { λ _. ⌜ now (counts .exit) ≡ over (countsListed c image report) (now (counts .entry)) ⌝ }
 {
     let numbers = [
@@ -192,6 +196,7 @@ fn put_counts(c: Counts, image: usize, report: usize, counts: &mut [u64])
         c.waved,
         c.trapped,
         c.idle,
+        c.tries,
         image as u64,
         report as u64,
     ];

@@ -26,7 +26,8 @@ pub record WholeRun (bytes schedule : List ℕ) (i : Image) : Type 0 where
 
 -- two whole runs that agree on task t
 pub record Agreed (t : ℕ) (schedule schedule′ : List ℕ) (i i′ : Image) : Type 0 where
-  -- both list t or neither does: CB, windows, registers, data words, processes in queue order without their numbers, trap record
+  -- both list t or neither does: CB, windows, registers, data words, processes in queue order without their numbers (those in its queue and those in its
+  -- SFU queue), trap record
   pub task : Compared t (stateOf i) (stateOf i′)
   -- program words
   pub program : SameProgram t (stateOf i) (stateOf i′)
@@ -38,7 +39,7 @@ pub record Agreed (t : ℕ) (schedule schedule′ : List ℕ) (i i′ : Image) :
   pub alone : Alone t (stateOf i)
   pub alone′ : Alone t (stateOf i′)
 
--- then that task's registers, data, processes in queue order (numbers aside) and trap record are equal after both
+-- then that task's registers, data, processes in queue order (numbers aside, the SFU queue too) and trap record are equal after both
 pub demand-3 : (t : ℕ) (bytes bytes′ schedule schedule′ : List ℕ) (i i′ : Image)
     → WholeRun bytes schedule i → WholeRun bytes′ schedule′ i′ → Agreed t schedule schedule′ i i′
     → Compared t (run schedule (stateOf i) .state) (run schedule′ (stateOf i′) .state)

@@ -64,7 +64,8 @@ rowTask before r = r .task
 unfoldable pub tasksCodec : Codec (List Row)
 tasksCodec = listSection rowCodec rowTask 1 tasks 0
 
--- ---- processes: count 1 (to 64), flag 1 (0 or 1); PT 1, task 1, PSW 8, by ascending task, then queue order
+-- ---- processes: count 1 (to 64), flag 1 (0 or 1); PT 1, task 1 (hex 10 more in the SFU queue), PSW 8, by
+-- ascending task, the SFU queue behind the task's queue, then queue order
 
 abbrev pub ProcessFields : Type 0
 ProcessFields = ℕ × (ℕ × ℕ)
@@ -82,9 +83,9 @@ queueOfByte b = 2 * (b % 16) + b / 16
 unfoldable pub byteOfQueue : (k : ℕ) → ℕ
 byteOfQueue k = k / 2 + 16 * (k % 2)
 
--- a task byte: a listed task, and no SFU queue
+-- a task byte: a listed task, for its SFU queue hex 10 more
 unfoldable pub byteSound : List Row → (b : ℕ) → Bool
-byteSound rows b = ltb b 16 && hasRow (b % 16) rows
+byteSound rows b = ltb b 32 && hasRow (b % 16) rows
 
 -- a process of a listed task, after one of the queue with number `before`
 unfoldable pub processCodec : List Row → (before : ℕ) → Codec Process

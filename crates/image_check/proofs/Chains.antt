@@ -12,7 +12,7 @@ use Rattle.window.specs.Sound.{bits, tagSound, stateSound, qualitySound}
 use Rattle.step.specs.Soundness.{taskSound}
 use Rattle.refusal.specs.declared.Refusal.the-variants.{TaskField, ConstantField, CellField}
 use Rattle.image.specs.Codec.{field, num}
-use Rattle.image.specs.Image.{rowCodec, toRow, fromRow, rowTask, tasksCodec, processTask, processesCodec, wordsCodec, cellsCodec, imageCodec, toImage, fromImage}
+use Rattle.image.specs.Image.{rowCodec, toRow, fromRow, rowTask, tasksCodec, queueOfByte, queueAfter, processesCodec, wordsCodec, cellsCodec, imageCodec, toImage, fromImage}
 use Rattle.image_bytes.specs.declared.Scan.{Scan}
 use Rattle.image_bytes.specs.declared.Scan.the-variants.{At}
 use Rattle.image_bytes.specs.Code.Reading.{fieldAt, numberAt}
@@ -50,9 +50,10 @@ pub row-leads : (before : ℕ) (s : List ℕ) (x : Scan) {v : ℕ} → v ≡ val
 unfolding rowAt valueAt numberAt
 row-leads before s x e p q = rw (e, q, add-zero)
 
-pub process-leads : (before : ℕ) (s : List ℕ) (x : Scan) {v : ℕ} → v ≡ valueAt 1 1 s x → (p : ℕ) → x ≡ At p → processTask before (processAt 0 (drop p s)) ≡ v
+pub process-leads : (before : ℕ) (s : List ℕ) (x : Scan) {v k : ℕ} → v ≡ valueAt 1 1 s x → k ≡ queueOfByte v → (p : ℕ) → x ≡ At p
+    → queueAfter before (processAt 0 (drop p s)) ≡ k
 unfolding processAt valueAt numberAt
-process-leads before s x e p q = rw (e, q, drop-drop 1 p s)
+process-leads before s x e f p q = rw (f, e, q, drop-drop 1 p s)
 
 -- the image: six sections
 pub image-scan : (s : List ℕ) {c₁ c₂ c₃ c₄ c₅ c₆ : Scan} → c₁ ≡ scan (tasksCodec .dec) s (At 0)

@@ -7,7 +7,7 @@ ghost use lib.ListN.{drop};
 ghost use Rattle.step.specs.Queues.{occ};
 ghost use Rattle.step.specs.Soundness.{hasRow, windowsSound, distinct, totalSound};
 ghost use Rattle.image.specs.Codec.{num, decMany, accepted};
-ghost use Rattle.image.specs.Image.{rowCodec, rowTask, tasksCodec, processCodec, processTask, processesCodec, wordsCodec, cellsCodec, afterSections, decode, rowLength, processLength};
+ghost use Rattle.image.specs.Image.{queueOfByte, byteSound, rowCodec, rowTask, tasksCodec, processCodec, queueAfter, processesCodec, wordsCodec, cellsCodec, afterSections, decode, rowLength, processLength};
 ghost use Rattle.image_bytes.specs.Code.Reading.{fieldAt};
 ghost use Rattle.image_bytes.specs.Code.Scanning.{scan, Within, tagTest, tagRefusal};
 ghost use Rattle.library.specs.Calls.{checkAnswer};
@@ -135,18 +135,29 @@ fn has_row(s: &[u8], n: u64, t: u64) -> bool
     false
 }
 
-// Whether task t is not below `before` and has one of the n rows.
-fn task_listed(s: &[u8], n: u64, before: u64, t: u64) -> bool
-    requires { ⌜ n ≤ 255 ⌝ }
-    ensures { λ r. ⌜ r ≡ (leb before t && hasRow t (rowsAt n (now (s .entry)))) ⌝ }
+// The number of the queue that a task byte names.
+pub fn queue_of_byte(b: u64) -> u64
+    ensures { λ r. ⌜ r ≡ queueOfByte b ⌝ }
 {
-    if t < before {
-        return false;
-    }
-    has_row(s, n, t)
+    2 * (b % 16) + b / 16
 }
 
-// A process after one of task `before`, where there are n rows.
+// Whether the queue that byte b names is not below `before`, and its task has one of the n rows.
+fn task_listed(s: &[u8], n: u64, before: u64, b: u64) -> bool
+    requires { ⌜ n ≤ 255 ⌝ }
+    ensures { λ r. ⌜ r ≡ (leb before (queueOfByte b) && byteSound (rowsAt n (now (s .entry))) b) ⌝ }
+{
+    let k = queue_of_byte(b);
+    if k < before {
+        return false;
+    }
+    if 32 <= b {
+        return false;
+    }
+    has_row(s, n, b % 16)
+}
+
+// A process after one of the queue with number `before`, where there are n rows.
 fn check_process(s: &[u8], c: Scan, before: u64, n: u64) -> Scan
     requires { ⌜ n ≤ 255 ⌝ }
     ensures { λ r. ⌜ r ≡ scan (processCodec (rowsAt n (now (s .entry))) before .dec) (now (s .entry)) c ⌝ }
@@ -167,7 +178,7 @@ fn check_process(s: &[u8], c: Scan, before: u64, n: u64) -> Scan
 // m processes, where there are n rows.
 fn check_each_process(s: &[u8], first: Scan, m: u64, n: u64) -> Scan
     requires { ⌜ (n ≤ 255) × Within (now s) first ⌝ }
-    ensures { λ r. ⌜ r ≡ scan (decMany (processCodec (rowsAt n (now (s .entry)))) processTask 0 m) (now (s .entry)) first ⌝ }
+    ensures { λ r. ⌜ r ≡ scan (decMany (processCodec (rowsAt n (now (s .entry)))) queueAfter 0 m) (now (s .entry)) first ⌝ }
 {
     let mut c = first;
     let mut before: u64 = 0;
@@ -175,7 +186,7 @@ fn check_each_process(s: &[u8], first: Scan, m: u64, n: u64) -> Scan
     while 0 < k {
         let task = image_bytes::value(s, c, 1, 1);
         c = check_process(s, c, before, n);
-        before = task;
+        before = queue_of_byte(task);
         k -= 1;
     }
     c

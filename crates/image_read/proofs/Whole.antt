@@ -39,24 +39,28 @@ all-filled n m s rows t constantTags constantWords registerTags registerWords pr
 -- the table, from the section of m processes, all of which live
 pub table-read : (n : Sizes) (m : ℕ) (s : List ℕ) {t : ProcessTable} → Bytes s → Found n s → m ≡ fieldAt 1 (1 + rowLength * n .rows) s
     → t ≡ (record {
-      psw = pswTable (processesAt m (1 + rowLength * n .rows + 2) s);
-      queues = queuesOf 7 1 (processesAt m (1 + rowLength * n .rows + 2) s);
-      flag = fieldAt 1 (1 + rowLength * n .rows + 1) s;
-      live = liveCounts (queuesOf 7 1 (processesAt m (1 + rowLength * n .rows + 2) s));
-      processes = m;
+      users = record {
+        psw = pswTable (processesAt m (1 + rowLength * n .rows + 2) s);
+        queues = queuesOf 16 0 (processesAt m (1 + rowLength * n .rows + 2) s);
+        flag = fieldAt 1 (1 + rowLength * n .rows + 1) s;
+        live = liveCounts (queuesOf 16 0 (processesAt m (1 + rowLength * n .rows + 2) s));
+        count = m;
+      };
     }) → t ≡ stateOf (imageAt n s) .table
 unfolding stateOf imageAt processesPlace processesAt
 table-read n m s hb f e i =
-    let k : liveTotal (queuesOf 7 1 (imageAt n s .processes)) ≡ m =
+    let k : liveTotal (queuesOf 16 0 (imageAt n s .processes)) ≡ m =
     accepted-total (imageAt n s) (decode-accepted s hb (imageAt n s) (f .accepts) .0) ∙ length-listed processLength (λ p. processAt p s) _ _ ∙ sym e in
     let at = 1 + rowLength * n .rows in
     i
     ∙ ap₂ {C = ProcessTable}
     (λ j l. record {
-      psw = pswTable (processesAt j (at + 2) s);
-      queues = queuesOf 7 1 (processesAt j (at + 2) s);
-      flag = fieldAt 1 (at + 1) s;
-      live = liveCounts (queuesOf 7 1 (processesAt j (at + 2) s));
-      processes = l;
+      users = record {
+        psw = pswTable (processesAt j (at + 2) s);
+        queues = queuesOf 16 0 (processesAt j (at + 2) s);
+        flag = fieldAt 1 (at + 1) s;
+        live = liveCounts (queuesOf 16 0 (processesAt j (at + 2) s));
+        count = l;
+      };
     })
     e (sym k)

@@ -6,7 +6,7 @@ ghost use Prim.Native.Nat.{min, _+_, _-_, _*_, _≤_};
 ghost use lib.ListN.{length};
 ghost use Rattle.window.specs.declared.Row.{Row};
 ghost use Rattle.step.specs.declared.ProcessTable.{ProcessTable};
-ghost use Rattle.step.specs.Queues.{liveCounts};
+ghost use Rattle.step.specs.Queues.{queueCount, liveCounts};
 ghost use Rattle.image.specs.Fields.{over};
 ghost use Rattle.image.specs.Image.{ptsOf, queueOf, queuesOf, pswTable, memoryOf, stateOf, decode, processLength};
 ghost use Rattle.image_bytes.specs.Code.Reading.{fieldAt, wordsAt, cellsAt};
@@ -29,6 +29,8 @@ use refusal::Refusal;
 use step::PLACES;
 use step::PTS;
 use step::ProcessTable;
+use step::Processes;
+use step::QUEUES;
 use step::Queue;
 use window::Row;
 use window::TASKS;
@@ -72,7 +74,7 @@ fn psws_at(image: &[u8], at: usize, m: usize) -> [u64; PTS]
     psw
 }
 
-// The queue of task t.
+// The queue with number t.
 fn queue_at(image: &[u8], at: usize, m: usize, t: u64) -> Queue
     requires { ⌜ (at + processLength * m ≤ 65536) × (m ≤ 64) ⌝ }
     ensures { λ r. ⌜ r ≡ queueOf (ptsOf t (processesAt m at (now (image .entry)))) ⌝ }
@@ -82,7 +84,7 @@ fn queue_at(image: &[u8], at: usize, m: usize, t: u64) -> Queue
     let mut p = at;
     let mut k = m;
     while 0 < k {
-        if image_bytes::number_at(image, p + 1, 1) == t {
+        if image_check::queue_of_byte(image_bytes::number_at(image, p + 1, 1)) == t {
             pts[len] = image_bytes::number_at(image, p, 1) as u8;
             len += 1;
         }
@@ -92,35 +94,41 @@ fn queue_at(image: &[u8], at: usize, m: usize, t: u64) -> Queue
     Queue { pts, head: 0, len }
 }
 
-fn queues_at(image: &[u8], at: usize, m: usize) -> [Queue; TASKS]
+fn queues_at(image: &[u8], at: usize, m: usize) -> [Queue; QUEUES]
     requires { ⌜ (at + processLength * m ≤ 65536) × (m ≤ 64) ⌝ }
-    ensures { λ r. ⌜ r ≡ queuesOf 7 1 (processesAt m at (now (image .entry))) ⌝ }
+    ensures { λ r. ⌜ r ≡ queuesOf queueCount 0 (processesAt m at (now (image .entry))) ⌝ }
 {
-    [
-        queue_at(image, at, m, 1),
-        queue_at(image, at, m, 2),
-        queue_at(image, at, m, 3),
-        queue_at(image, at, m, 4),
-        queue_at(image, at, m, 5),
-        queue_at(image, at, m, 6),
-        queue_at(image, at, m, 7),
-    ]
+    let empty = Queue {
+        pts: [0; PLACES],
+        head: 0,
+        len: 0,
+    };
+    let mut queues = [empty; QUEUES];
+    let mut k = 0;
+    while k < QUEUES {
+        queues[k] = queue_at(image, at, m, k as u64);
+        k += 1;
+    }
+    queues
 }
 
 // The table of the section at `at`: the flag stands behind the count m, and the processes behind the flag. All of them live.
 fn table_at(image: &[u8], at: usize, m: usize) -> ProcessTable
     requires { ⌜ (at ≤ 1024) × (m ≤ 64) ⌝ }
-    ensures { λ r. ⌜ r ≡ record { psw = pswTable (processesAt m (at + 2) (now (image .entry))); queues = queuesOf 7 1 (processesAt m (at + 2) (now (image .entry))); flag = fieldAt 1 (at + 1) (now (image .entry)); live = liveCounts (queuesOf 7 1 (processesAt m (at + 2) (now (image .entry)))); processes = m } ⌝ }
+    ensures { λ r. ⌜ r ≡ record { users = record { psw = pswTable (processesAt m (at + 2) (now (image .entry))); queues = queuesOf queueCount 0 (processesAt m (at + 2) (now (image .entry))); flag = fieldAt 1 (at + 1) (now (image .entry)); live = liveCounts (queuesOf queueCount 0 (processesAt m (at + 2) (now (image .entry)))); count = m } } ⌝ }
 {
     let flag = image_bytes::number_at(image, at + 1, 1) as u8;
     let psw = psws_at(image, at + 2, m);
     let queues = queues_at(image, at + 2, m);
+    let live = step_queue::live_counts(queues);
     ProcessTable {
-        psw,
-        queues,
-        flag,
-        live: step_queue::live_counts(queues),
-        processes: m,
+        users: Processes {
+            psw,
+            queues,
+            flag,
+            live,
+            count: m,
+        },
     }
 }
 

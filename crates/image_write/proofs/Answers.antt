@@ -67,7 +67,7 @@ pts-few pts d e =
 -- the sizes of a sound state, and its processes: at most so many of each
 pub record Small (n : Sizes) (t : ProcessTable) : Type 0 where
   pub rows : n .rows ≤ 7
-  pub processes : length (livePts (t .queues)) ≤ 64
+  pub processes : length (livePts (t .users .queues)) ≤ 64
   pub constants : n .constants ≤ 4096
   pub registers : n .registers ≤ 2048
   pub program : n .program ≤ 2 ^ 20
@@ -101,7 +101,7 @@ module _ (v : Rows) (table : ProcessTable) (constantTags constantWords registerT
       let z = fields-sized n held (accepted n held fine .0) in
       record {
         rows = omega (arith, few);
-        processes = pts-few (livePts (table .queues)) (p .table .once) (p .table .small);
+        processes = pts-few (livePts (table .users .queues)) (p .table .once) (p .table .small);
         constants = omega (arith, z .constantWords, memory-few 4096 _ (fieldsIn n held .constants) (m .constants));
         registers = omega (arith, z .registerWords, memory-few 2048 _ (fieldsIn n held .registers) (m .registers));
         program = omega (arith, z .program, words-few (2 ^ 20) (take (n .program) program) (m .program));
@@ -109,9 +109,9 @@ module _ (v : Rows) (table : ProcessTable) (constantTags constantWords registerT
       }
 
   -- the total that is stored is the number of the processes
-  pub counted : table .processes ≡ length (livePts (table .queues))
+  pub counted : table .users .count ≡ length (livePts (table .users .queues))
   unfolding liveTotal
-  counted = live-counted table (accepted-live n held fine) .1
+  counted = live-counted (table .users) (accepted-live n held fine) .1
 
   -- the slices that are cut to the sizes
   abbrev pub given : State
@@ -134,7 +134,7 @@ module _ (v : Rows) (table : ProcessTable) (constantTags constantWords registerT
       ∙ image-bytes given constants-cut tags-cut data-cut
 
   -- how long it is
-  pub image-size : (m : ℕ) → m ≡ length (livePts (table .queues))
+  pub image-size : (m : ℕ) → m ≡ length (livePts (table .users .queues))
       → length (encode (fieldsIn n held))
       ≡ (1 + rowLength * n .rows) + ((2 + processLength * m) + ((2 + 9 * n .constants) + ((2 + 9 * n .registers) + ((4 + 8 * n .program) + (4 + 9 * n .data_words)))))
   unfolding imageBytes stateIn
@@ -143,7 +143,7 @@ module _ (v : Rows) (table : ProcessTable) (constantTags constantWords registerT
       ∙ simp (
         length-append,
         tasks-size (v .at) (n .rows) (omega (arith, few, seven)),
-        processes-size (table .psw) (table .flag) (table .queues) m k,
+        processes-size (table .users .psw) (table .users .flag) (table .users .queues) m k,
         words-size,
         cells-size 2 (take (n .constants) constantWords) (take (n .constants) constantTags) constants-cut,
         cells-size 2 (take (n .registers) registerWords) (take (n .registers) registerTags) tags-cut,

@@ -12,7 +12,7 @@ use Rattle.step.specs.State.{noQueue}
 use Rattle.step.specs.Laws.Queues.{ring-same, ring-first, length-list}
 use Rattle.image.specs.declared.Process.{Process}
 use Rattle.image.specs.Codec.{num, seq, via, encMany}
-use Rattle.image.specs.Image.{rowCodec, processCodec, toProcess, processesIn, processesFrom, rowLength, processLength}
+use Rattle.image.specs.Image.{byteOfQueue, rowCodec, processCodec, toProcess, processesIn, processesFrom, rowLength, processLength}
 use Rattle.image.specs.Laws.Numbers.{length-digits}
 use Rattle.image_bytes.specs.Laws.Bytes.{uniform-length}
 use Rattle.image_bytes.specs.Code.Writing.{putAt}
@@ -103,7 +103,7 @@ module _ (psw : List ℕ) (t : ℕ) where
   ring-starts q = ap (λ (l : List ℕ). processesBytes (processesIn psw t l)) (ring-same (q .pts) (q .head) (q .head % 64) (q .len) (omega arith))
 
   pub ring-next : (a : List ℕ) (h n : ℕ) → h < 64 → 0 < n
-      → Splits (ringBytes a h n) (processBytes (toProcess (getD a h 0, (t, getD psw (getD a h 0) 0)))) (ringBytes a ((h + 1) % 64) (n - 1))
+      → Splits (ringBytes a h n) (processBytes (toProcess (getD a h 0, (byteOfQueue t, getD psw (getD a h 0) 0)))) (ringBytes a ((h + 1) % 64) (n - 1))
   unfolding processesIn
   ring-next a h n p q = record { is = ap (λ (l : List ℕ). processesBytes (processesIn psw t l)) (ring-first a h n p q) ∙ processes-cons _ _ }
 
@@ -147,15 +147,15 @@ module _ {at : ℕ} {all l₀ l : List ℕ} {p : ℕ} where
   module _ (psw : List ℕ) (t : ℕ) (a : List ℕ) (h n : ℕ) (z : Going at all l₀ l p (ringBytes psw t a h n)) (k : h < 64) (m : 0 < n) where
     pub ring-room : p + processLength ≤ length l
     ring-room =
-        let x = toProcess (getD a h 0, (t, getD psw (getD a h 0) 0)) in
+        let x = toProcess (getD a h 0, (byteOfQueue t, getD psw (getD a h 0) 0)) in
         let f : p + length (processBytes x) ≤ length l = room at all l₀ z (ring-next psw t a h n k m) in
         omega (arith, process-length x)
 
-    pub ring-goes : {l₁ : List ℕ} (w : ℕ) → w ≡ getD psw (getD a h 0) 0 → l₁ ≡ putAt p (processBytes (toProcess (getD a h 0, (t, w)))) l
+    pub ring-goes : {l₁ : List ℕ} (w : ℕ) → w ≡ getD psw (getD a h 0) 0 → l₁ ≡ putAt p (processBytes (toProcess (getD a h 0, (byteOfQueue t, w)))) l
         → Going at all l₀ l₁ (p + processLength) (ringBytes psw t a ((h + 1) % 64) (n - 1))
     ring-goes w f e =
-        goes at all l₀ z (ring-next psw t a h n k m) (ap (λ (n : ℕ). p + n) (sym (process-length (toProcess (getD a h 0, (t, getD psw (getD a h 0) 0))))))
-        (e ∙ ap (λ (w : ℕ). putAt p (processBytes (toProcess (getD a h 0, (t, w)))) l) f)
+        goes at all l₀ z (ring-next psw t a h n k m) (ap (λ (n : ℕ). p + n) (sym (process-length (toProcess (getD a h 0, (byteOfQueue t, getD psw (getD a h 0) 0))))))
+        (e ∙ ap (λ (w : ℕ). putAt p (processBytes (toProcess (getD a h 0, (byteOfQueue t, w)))) l) f)
 
   module _ (psw : List ℕ) (t : ℕ) (qs : List Queue) (k : ℕ) (z : Going at all l₀ l p (processesBytes (processesFrom psw t (drop k qs)))) (h : k < length qs) where
     pub queues-room : p + processLength * getD qs k noQueue .len ≤ length l

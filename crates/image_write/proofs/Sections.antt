@@ -55,22 +55,22 @@ module _ (rows : List Row) (n : ℕ) (h : n ≤ length rows) where
 -- ---- processes
 
 module _ (psw : List ℕ) (flag : ℕ) (qs : List Queue) (m : ℕ) (h : m ≡ length (livePts qs)) where
-  count : length (processesFrom psw 1 qs) ≡ m
-  count = from-length psw 1 qs ∙ sym h
+  count : length (processesFrom psw 0 qs) ≡ m
+  count = from-length psw 0 qs ∙ sym h
 
-  body : length (processesBytes (processesFrom psw 1 qs)) ≡ processLength * m
-  body = processes-length (processesFrom psw 1 qs) ∙ ap (λ (k : ℕ). processLength * k) count
+  body : length (processesBytes (processesFrom psw 0 qs)) ≡ processLength * m
+  body = processes-length (processesFrom psw 0 qs) ∙ ap (λ (k : ℕ). processLength * k) count
 
-  pub processes-size : length (processesSection flag (processesFrom psw 1 qs)) ≡ 2 + processLength * m
+  pub processes-size : length (processesSection flag (processesFrom psw 0 qs)) ≡ 2 + processLength * m
   unfolding processesSection
   processes-size = simp (length-append, length-digits, body) (omega arith)
 
   pub processes-put : (at : ℕ) (l₀ : List ℕ) {l₁ l₂ l₃ : List ℕ} → at + (2 + processLength * m) ≤ length l₀ → l₁ ≡ putAt at (digits 1 m) l₀
-      → l₂ ≡ putAt (at + 1) (digits 1 flag) l₁ → l₃ ≡ putAt (at + 2) (processesBytes (processesFrom psw 1 qs)) l₂
-      → l₃ ≡ putAt at (processesSection flag (processesFrom psw 1 qs)) l₀
+      → l₂ ≡ putAt (at + 1) (digits 1 flag) l₁ → l₃ ≡ putAt (at + 2) (processesBytes (processesFrom psw 0 qs)) l₂
+      → l₃ ≡ putAt at (processesSection flag (processesFrom psw 0 qs)) l₀
   unfolding processesSection
   processes-put at l₀ {l₁} f e₁ e₂ e₃ =
-      let ps = processesBytes (processesFrom psw 1 qs) in
+      let ps = processesBytes (processesFrom psw 0 qs) in
       let n : length l₁ ≡ length l₀ = ap length e₁ ∙ put-length at (digits 1 m) l₀ in
       let k : length (digits 1 flag ++ ps) ≡ 1 + processLength * m = simp (length-append, length-digits, body) in
       rw count

@@ -9,7 +9,7 @@ use Rattle.step.specs.State.{State}
 use Rattle.refusal.specs.declared.Refusal.{Refusal}
 use Rattle.image.specs.declared.Process.{Process}
 use Rattle.image.specs.Codec.{Codec, digits, num, count, seq, via, encMany, section, noHeader, listSection, noState, uniformSection}
-use Rattle.image.specs.Image.{rowCodec, rowTask, tasksCodec, processCodec, processTask, processesCodec, processesFrom, wordsCodec, cellsCodec, cellsOf, imageCodec, imageOf, encode}
+use Rattle.image.specs.Image.{rowCodec, rowTask, tasksCodec, processCodec, queueAfter, processesCodec, processesFrom, wordsCodec, cellsCodec, cellsOf, imageCodec, imageOf, encode}
 use Rattle.image_bytes.specs.Code.Writing.{wordBytes}
 use Rattle.image_bytes.specs.Laws.Bytes.{cells-length, cell-bytes}
 use Rattle.image_write.specs.Code.Bytes.{rowsBytes, processesBytes, tasksSection, processesSection, wordsSection, cellsSection, imageBytes}
@@ -28,7 +28,7 @@ tasks-bytes rows = ap (λ (l : List ℕ). digits 1 (length rows) ++ l) (alike ro
 processes-bytes : (rows : List Row) (flag : ℕ) (ps : List Process) → processesCodec rows .enc (flag, ps) ≡ processesSection flag ps
 unfolding processesCodec section count num processesSection processesBytes processCodec via seq
 processes-bytes rows flag ps =
-    ap (λ (l : List ℕ). digits 1 (length ps) ++ (digits 1 flag ++ l)) (alike (processCodec rows) processTask (processCodec [] 0) (λ s a. refl) 0 ps)
+    ap (λ (l : List ℕ). digits 1 (length ps) ++ (digits 1 flag ++ l)) (alike (processCodec rows) queueAfter (processCodec [] 0) (λ s a. refl) 0 ps)
 
 words-bytes : (w most : ℕ) (words : List ℕ) → wordsCodec w most .enc words ≡ wordsSection w words
 unfolding wordsCodec uniformSection listSection section via count num noHeader wordsSection wordBytes
@@ -53,7 +53,7 @@ module _ (s : State) where
   left₂ = cellsSection 2 (s .constants .tags) (s .constants .words) ++ left₃
 
   abbrev pub left₁ : List ℕ
-  left₁ = processesSection (s .table .flag) (processesFrom (s .table .psw) 1 (s .table .queues)) ++ left₂
+  left₁ = processesSection (s .table .users .flag) (processesFrom (s .table .users .psw) 0 (s .table .users .queues)) ++ left₂
 
   pub image-bytes : length (s .constants .tags) ≡ length (s .constants .words) → length (s .registers .tags) ≡ length (s .registers .words) → length (s .dataWords .tags) ≡ length (s .dataWords .words) → encode s ≡ imageBytes s
   unfolding encode imageOf imageCodec via seq imageBytes

@@ -5,7 +5,7 @@ ghost use Prim.Native.Nat.{_+_, _*_, _^_, _≤_};
 ghost use lib.ListN.{length, take, getD};
 ghost use Rattle.window.specs.Memories.{memory};
 ghost use Rattle.step.specs.Queues.{listOf, livePts};
-ghost use Rattle.image.specs.Image.{toProcess, processesIn, processesFrom, encode, rowLength, processLength};
+ghost use Rattle.image.specs.Image.{byteOfQueue, toProcess, processesIn, processesFrom, encode, rowLength, processLength};
 ghost use Rattle.image_bytes.specs.Code.Writing.{putAt};
 ghost use Rattle.step_soundness.specs.Code.Held.{stateIn};
 ghost use Rattle.library.specs.Buffers.{fieldsIn};
@@ -25,6 +25,8 @@ use refusal::Refusal;
 use step::PLACES;
 use step::PTS;
 use step::ProcessTable;
+use step::Processes;
+use step::QUEUES;
 use step::Queue;
 use window::Row;
 use window::TASKS;
@@ -90,10 +92,18 @@ fn put_rows(output: &mut [u8], at: usize, rows: [Row; TASKS], n: usize) -> usize
 
 // ---- processes
 
-fn put_process(output: &mut [u8], at: usize, pt: u8, task: u8, psw: u64)
-    requires { ⌜ at + processLength ≤ length (now output) ⌝ }
-    ensures { λ _. ⌜ now (output .exit) ≡ putAt at (processBytes (toProcess (pt, (task, psw)))) (now (output .entry)) ⌝ }
+// The byte that names the queue with number k.
+fn task_byte(k: u8) -> u8
+    ensures { λ r. ⌜ r ≡ byteOfQueue k ⌝ }
 {
+    k / 2 + 16 * (k % 2)
+}
+
+fn put_process(output: &mut [u8], at: usize, pt: u8, k: u8, psw: u64)
+    requires { ⌜ at + processLength ≤ length (now output) ⌝ }
+    ensures { λ _. ⌜ now (output .exit) ≡ putAt at (processBytes (toProcess (pt, (byteOfQueue k, psw)))) (now (output .entry)) ⌝ }
+{
+    let task = task_byte(k);
     image_bytes::put_number(output, at, 1, pt as u64);
     image_bytes::put_number(output, at + 1, 1, task as u64);
     image_bytes::put_number(output, at + 2, 8, psw);
@@ -106,18 +116,18 @@ fn psw_of(psw: [u64; PTS], pt: u8) -> u64
     if i < PTS { psw[i] } else { 0 }
 }
 
-// The processes of a task in queue order: from the head of the ring on.
-fn put_queue(output: &mut [u8], at: usize, psw: [u64; PTS], task: u8, q: Queue) -> usize
+// The processes of the queue with number k in its order: from the head of the ring on.
+fn put_queue(output: &mut [u8], at: usize, psw: [u64; PTS], k: u8, q: Queue) -> usize
     requires { ⌜ at + processLength * q .len ≤ length (now output) ⌝ }
-    ensures { λ r. ⌜ r ≡ at + length (processesBytes (processesIn psw task (listOf q))) ⌝ }
-    ensures { λ _. ⌜ now (output .exit) ≡ putAt at (processesBytes (processesIn psw task (listOf q))) (now (output .entry)) ⌝ }
+    ensures { λ r. ⌜ r ≡ at + length (processesBytes (processesIn psw k (listOf q))) ⌝ }
+    ensures { λ _. ⌜ now (output .exit) ≡ putAt at (processesBytes (processesIn psw k (listOf q))) (now (output .entry)) ⌝ }
 {
     let mut p = at;
     let mut head = q.head % PLACES;
     let mut left = q.len;
     while 0 < left {
         let pt = q.pts[head];
-        put_process(output, p, pt, task, psw_of(psw, pt));
+        put_process(output, p, pt, k, psw_of(psw, pt));
         p += PROCESS_BYTES;
         head = (head + 1) % PLACES;
         left -= 1;
@@ -125,18 +135,18 @@ fn put_queue(output: &mut [u8], at: usize, psw: [u64; PTS], task: u8, q: Queue) 
     p
 }
 
-// The queues by ascending task.
-fn put_queues(output: &mut [u8], at: usize, psw: [u64; PTS], queues: [Queue; TASKS]) -> usize
+// The queues by ascending number.
+fn put_queues(output: &mut [u8], at: usize, psw: [u64; PTS], queues: [Queue; QUEUES]) -> usize
     requires { ⌜ at + processLength * length (livePts queues) ≤ length (now output) ⌝ }
-    ensures { λ r. ⌜ r ≡ at + length (processesBytes (processesFrom psw 1 queues)) ⌝ }
-    ensures { λ _. ⌜ now (output .exit) ≡ putAt at (processesBytes (processesFrom psw 1 queues)) (now (output .entry)) ⌝ }
+    ensures { λ r. ⌜ r ≡ at + length (processesBytes (processesFrom psw 0 queues)) ⌝ }
+    ensures { λ _. ⌜ now (output .exit) ≡ putAt at (processesBytes (processesFrom psw 0 queues)) (now (output .entry)) ⌝ }
 {
     let mut p = at;
-    let mut task = 1;
+    let mut number = 0;
     let mut k = 0;
-    while k < TASKS {
-        p = put_queue(output, p, psw, task, queues[k]);
-        task += 1;
+    while k < QUEUES {
+        p = put_queue(output, p, psw, number, queues[k]);
+        number += 1;
         k += 1;
     }
     p
@@ -154,15 +164,15 @@ fn put_tasks(output: &mut [u8], rows: [Row; TASKS], n: usize) -> usize
 }
 
 // The table has m processes.
-fn put_processes(output: &mut [u8], at: usize, m: usize, table: ProcessTable) -> usize
-    requires { ⌜ (m ≡ length (livePts (table .queues))) × (at + (2 + processLength * m) ≤ length (now output)) ⌝ }
-    ensures { λ r. ⌜ r ≡ at + length (processesSection (table .flag) (processesFrom (table .psw) 1 (table .queues))) ⌝ }
-    ensures { λ _. ⌜ now (output .exit) ≡ putAt at (processesSection (table .flag) (processesFrom (table .psw) 1 (table .queues))) (now (output .entry)) ⌝ }
+fn put_processes(output: &mut [u8], at: usize, m: usize, users: Processes) -> usize
+    requires { ⌜ (m ≡ length (livePts (users .queues))) × (at + (2 + processLength * m) ≤ length (now output)) ⌝ }
+    ensures { λ r. ⌜ r ≡ at + length (processesSection (users .flag) (processesFrom (users .psw) 0 (users .queues))) ⌝ }
+    ensures { λ _. ⌜ now (output .exit) ≡ putAt at (processesSection (users .flag) (processesFrom (users .psw) 0 (users .queues))) (now (output .entry)) ⌝ }
 {
-    let psw = table.psw;
-    let queues = table.queues;
+    let psw = users.psw;
+    let queues = users.queues;
     image_bytes::put_number(output, at, 1, m as u64);
-    image_bytes::put_number(output, at + 1, 1, table.flag as u64);
+    image_bytes::put_number(output, at + 1, 1, users.flag as u64);
     put_queues(output, at + 2, psw, queues)
 }
 
@@ -218,13 +228,13 @@ fn put_image(
     n: usize,
     m: usize,
 ) -> usize
-    requires { ⌜ (n ≤ tasks) × ((m ≡ length (livePts (table .queues))) × ((length (now «constant_tags») ≡ length (now «constant_words»)) × ((length (now «register_tags») ≡ length (now «register_words»)) × (length (now data_tags) ≡ length (now data_words))))) ⌝ }
+    requires { ⌜ (n ≤ tasks) × ((m ≡ length (livePts (table .users .queues))) × ((length (now «constant_tags») ≡ length (now «constant_words»)) × ((length (now «register_tags») ≡ length (now «register_words»)) × (length (now data_tags) ≡ length (now data_words))))) ⌝ }
     requires { ⌜ length (imageBytes (stateIn rows n table (memory (now «constant_tags») (now «constant_words»)) (now «register_tags») (now «register_words») (now program) (now data_tags) (now data_words))) ≤ length (now output) ⌝ }
     ensures { λ r. ⌜ r ≡ length (imageBytes (stateIn rows n table (memory (now («constant_tags» .entry)) (now («constant_words» .entry))) (now («register_tags» .entry)) (now («register_words» .entry)) (now (program .entry)) (now (data_tags .entry)) (now (data_words .entry)))) ⌝ }
     ensures { λ _. ⌜ now (output .exit) ≡ putAt 0 (imageBytes (stateIn rows n table (memory (now («constant_tags» .entry)) (now («constant_words» .entry))) (now («register_tags» .entry)) (now («register_words» .entry)) (now (program .entry)) (now (data_tags .entry)) (now (data_words .entry)))) (now (output .entry)) ⌝ }
 {
     let at = put_tasks(output, rows, n);
-    let at = put_processes(output, at, m, table);
+    let at = put_processes(output, at, m, table.users);
     let at = put_cells(output, at, 2, constant_tags, constant_words);
     let at = put_cells(output, at, 2, register_tags, register_words);
     let at = put_words(output, at, 4, program);
@@ -246,7 +256,7 @@ fn put_state(
     n: Sizes,
     m: usize,
 ) -> usize
-    requires { ⌜ (stateRefused n (lentBuffers (heldRows rows) table (now «constant_tags») (now «constant_words») (now «register_tags») (now «register_words») (now program) (now data_tags) (now data_words)) ≡ false) × ((m ≡ length (livePts (table .queues))) × (length (encode (fieldsIn n (lentBuffers (heldRows rows) table (now «constant_tags») (now «constant_words») (now «register_tags») (now «register_words») (now program) (now data_tags) (now data_words)))) ≤ length (now output))) ⌝ }
+    requires { ⌜ (stateRefused n (lentBuffers (heldRows rows) table (now «constant_tags») (now «constant_words») (now «register_tags») (now «register_words») (now program) (now data_tags) (now data_words)) ≡ false) × ((m ≡ length (livePts (table .users .queues))) × (length (encode (fieldsIn n (lentBuffers (heldRows rows) table (now «constant_tags») (now «constant_words») (now «register_tags») (now «register_words») (now program) (now data_tags) (now data_words)))) ≤ length (now output))) ⌝ }
     ensures { λ r. ⌜ r ≡ length (encode (fieldsIn n (lentBuffers (heldRows rows) table (now («constant_tags» .entry)) (now («constant_words» .entry)) (now («register_tags» .entry)) (now («register_words» .entry)) (now (program .entry)) (now (data_tags .entry)) (now (data_words .entry))))) ⌝ }
     ensures { λ _. ⌜ now (output .exit) ≡ putAt 0 (encode (fieldsIn n (lentBuffers (heldRows rows) table (now («constant_tags» .entry)) (now («constant_words» .entry)) (now («register_tags» .entry)) (now («register_words» .entry)) (now (program .entry)) (now (data_tags .entry)) (now (data_words .entry))))) (now (output .entry)) ⌝ }
 {
@@ -288,7 +298,7 @@ fn write_sound(
     requires { ⌜ stateRefused n (lentBuffers (heldRows rows) table (now «constant_tags») (now «constant_words») (now «register_tags») (now «register_words») (now program) (now data_tags) (now data_words)) ≡ false ⌝ }
     ensures { λ r. ⌜ WritePromise n (lentBuffers (heldRows rows) table (now («constant_tags» .entry)) (now («constant_words» .entry)) (now («register_tags» .entry)) (now («register_words» .entry)) (now (program .entry)) (now (data_tags .entry)) (now (data_words .entry))) r (now (output .entry)) (now (output .exit)) ⌝ }
 {
-    let m = table.processes;
+    let m = table.users.count;
     if output.len() < size(n, m) {
         return WriteAnswer::Refused(Refusal::ShortBuffer);
     }

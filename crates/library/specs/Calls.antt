@@ -90,7 +90,7 @@ runAnswer n b schedule = unless (runRefusal n b schedule) (run schedule (fieldsI
 unfoldable pub runLeaves : Sizes → Buffers → (schedule : List ℕ) → Buffers
 runLeaves n b schedule = leaving (runAnswer n b schedule) b (holding (run schedule (fieldsIn n b) .state) b)
 
--- ---- one step of a task: 8, then 10. Its answer is how the step ends
+-- ---- one item of a task: 8, then 10. Its answer is how the item ends
 
 unfoldable pub taskRefusal : (t : ℕ) → Option Refusal
 taskRefusal t = cond (not (itemSound t)) (some ItemOutOfRange) none

@@ -1,4 +1,4 @@
--- No step of one task changes any register or data word outside its windows, in the buffers of a caller.
+-- No item of one task changes any register or data word outside its windows, in the buffers of a caller.
 use Prim.Native.Nat.{ℕ}
 use Rattle.window.specs.Windows.{registerWindow, dataWordWindow}
 use Rattle.window.specs.Memories.{Memory, memory}

@@ -1,4 +1,4 @@
--- The calls one after another: read, then run; read, then written; run, then written; one step, then the other items.
+-- The calls one after another: read, then run; read, then written; run, then written; one item, then the others.
 use Prim.Native.Nat.{ℕ, _≤_}
 use mathlib.Core.Path.{_≡_, sym, ap, _∙_, subst}
 use mathlib.Core.Bool.{true}
@@ -6,9 +6,8 @@ use mathlib.Core.Option.{none}
 use mathlib.Core.List.{List, _∷_}
 use lib.ListN.{length, take, drop}
 use lib.Seq.{take-append-seam}
-use Rattle.step.specs.declared.Ending.{Ending}
 use Rattle.step.specs.State.{State}
-use Rattle.step.specs.Step.{item}
+use Rattle.step.specs.Step.{accountOf, item}
 use Rattle.step.specs.Soundness.{sound}
 use Rattle.run.specs.declared.Counts.{Counts}
 use Rattle.run.specs.Schedule.{scheduleSound}
@@ -23,11 +22,11 @@ use Rattle.library.specs.Calls.{answers, readAnswer, readLeaves, runRefu
 use Rattle.library.specs.Laws.InTurn.{read-answers, read-run-unrefused, read-run-answers, read-run-held, read-write-answers, read-write-leaves, run-sound-after, run-write-answers, run-write-leaves}
 use Rattle.library.specs.Laws.StepThenRun.{step-answers, others-answer, all-answers, all-left}
 
--- the counts that reading answers
+-- the sizes that reading answers
 abbrev pub sizesRead : Image → Sizes
 sizesRead i = sizesOf (stateOf i)
 
--- the buffers after an image was read into them and a schedule run over it, by the counts that reading answered
+-- the buffers after an image was read into them and a schedule run over it, by the sizes that reading answered
 abbrev pub readAndRun : Buffers → (bytes schedule : List ℕ) → Image → Buffers
 readAndRun b bytes schedule i = runLeaves (sizesRead i) (readLeaves b bytes) schedule
 
@@ -92,18 +91,17 @@ run-then-write n b schedule output e h =
           subst (HoldsImage after (length (encode after))) (sym (run-write-leaves n b schedule e output h)) (holds-image after output (run-sound-after n b schedule e));
     }
 
--- one step, then the other items, is a run of all: neither call is refused, the endings are counted together, and the buffers are left the same
+-- one item, then the others, is a run of all: neither call is refused, what the item did is counted with the others, and the buffers are left the
+-- same
 pub record StepThenRun (n : Sizes) (b : Buffers) (t : ℕ) (ts : List ℕ) : Type 0 where
-  pub ending : Ending
   pub others : Counts
-  pub stepped : stepAnswer n b t ≡ answers ending
+  pub stepped : stepAnswer n b t ≡ answers (item t (fieldsIn n b) .ending)
   pub ran : runAnswer n (stepLeaves n b t) ts ≡ answers others
-  pub answer : runAnswer n b (t ∷ ts) ≡ answers (counted ending others)
+  pub answer : runAnswer n b (t ∷ ts) ≡ answers (counted (accountOf (item t (fieldsIn n b))) others)
   pub leaves : runLeaves n (stepLeaves n b t) ts ≡ runLeaves n b (t ∷ ts)
 
 pub step-then-run : (n : Sizes) (b : Buffers) (t : ℕ) (ts : List ℕ) → runRefusal n b (t ∷ ts) ≡ none → StepThenRun n b t ts
 step-then-run n b t ts e = record {
-  ending = item t (fieldsIn n b) .ending;
   others = run ts (item t (fieldsIn n b) .state) .counts;
   stepped = step-answers n b t ts e;
   ran = others-answer n b t ts e;

@@ -136,6 +136,16 @@ ptTwice = tableOf (replicate 64 0) (oneQueue 4 (queueOf (4 ∷ 4 ∷ []))) 0
 unfoldable pub unlisted : ProcessTable
 unlisted = tableOf (replicate 64 0) (oneQueue 2 (queueOf (4 ∷ []))) 0
 
+-- a PT in both queues of a task; a process in the SFU queue of a task that has no row, and of one that has
+unfoldable pub ptInBoth : ProcessTable
+ptInBoth = tableOf (replicate 64 0) (replicate 4 (queueOf []) ++ (queueOf (4 ∷ []) ∷ queueOf (4 ∷ []) ∷ replicate 10 (queueOf []))) 0
+
+unfoldable pub strayWaiter : ProcessTable
+strayWaiter = tableOf (replicate 64 0) (oneQueue 3 (queueOf (4 ∷ []))) 0
+
+unfoldable pub waiter : ProcessTable
+waiter = tableOf (replicate 64 0) (oneQueue 5 (queueOf (4 ∷ []))) 0
+
 -- task 2 has its process, and these live counts are stored
 unfoldable pub withLive : (live : List ℕ) → (processes : ℕ) → Buffers
 withLive live n = withTable (record { users = record { psw = replicate 64 0; queues = oneQueue 4 (queueOf (4 ∷ [])); flag = 0; live = live; count = n } })
@@ -185,6 +195,9 @@ pub record RunTrials : Type 0 where
   pub twice : numbered (runRefusal trialSizes (withTable ptTwice) (0 ∷ [])) ≡ 8
   pub quality : numbered (runRefusal trialSizes (withQuality 7) (0 ∷ [])) ≡ 8
   pub stray : numbered (runRefusal trialSizes (withTable unlisted) (2 ∷ [])) ≡ 8
+  pub inBoth : numbered (runRefusal trialSizes (withTable ptInBoth) (2 ∷ [])) ≡ 8
+  pub strayWaits : numbered (runRefusal trialSizes (withTable strayWaiter) (2 ∷ [])) ≡ 8
+  pub waits : numbered (runRefusal trialSizes (withTable waiter) (2 ∷ [])) ≡ 0
   -- the live counts that its queues have; one more and one less of task 2 and in all, and one of a task without processes: 8
   pub counted : numbered (runRefusal trialSizes (withLive (0 ∷ 0 ∷ 1 ∷ replicate 5 0) 1) (2 ∷ [])) ≡ 0
   pub countUp : numbered (runRefusal trialSizes (withLive (0 ∷ 0 ∷ 2 ∷ replicate 5 0) 1) (2 ∷ [])) ≡ 8
@@ -232,7 +245,7 @@ pub record WriteTrials : Type 0 where
 
 -- naming this opens what the trials use
 unfoldable pub trialled : ℕ
-unfolding opened spareIn numbered trialImage trialBytes trialSizes roomLess longer noBuffers buffersOf withParts withTable withQuality oneQueue ptTwice unlisted withLive
+unfolding opened spareIn numbered trialImage trialBytes trialSizes roomLess longer noBuffers buffersOf withParts withTable withQuality oneQueue ptTwice unlisted ptInBoth strayWaiter waiter withLive
 trialled = 0
 
 pub read-trials : ReadTrials
@@ -268,6 +281,9 @@ run-trials = record {
   twice = refl;
   quality = refl;
   stray = refl;
+  inBoth = refl;
+  strayWaits = refl;
+  waits = refl;
   counted = refl;
   countUp = refl;
   countDown = refl;

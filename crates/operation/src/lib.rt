@@ -139,7 +139,10 @@ pub enum Decision {
 // A decision without what it carries: how the process goes on, or why it traps. No operation answers the create fault.
 pub enum Course {
     Continues,
+    // for an access test or the create fault flag
     Waits,
+    // for the state of a data word
+    WaitsForData,
     Quits,
     Creates,
     CreateFault,

@@ -202,7 +202,7 @@ fn load_indirect_found(
         Reached::Part(p, part) => {
             let word = loaded(part, p, data_words);
             if load_waits(low, p, data_tags) {
-                return Course::Waits; // an unmet data state waits
+                return Course::WaitsForData; // an unmet data state waits
             }
             operation_checks::write_d_s1(
                 first,
@@ -323,7 +323,7 @@ fn load_indexed_found(
         Reached::Part(p, part) => {
             let word = loaded(part, p, data_words);
             if load_waits(low, p, data_tags) {
-                return Course::Waits;
+                return Course::WaitsForData;
             }
             operation_checks::write_d_s1_s2(
                 first,
@@ -484,7 +484,7 @@ fn store_indirect_found(
         Reached::Part(p, part) => {
             let word = stored(part, s2, p, data_words);
             if store_waits(low, p, data_tags) {
-                return Course::Waits;
+                return Course::WaitsForData;
             }
             operation_checks::release_s1_s2(second, a, x, third, b, y, register_tags);
             store_leaves(p, word, data_tags, data_words);
@@ -615,7 +615,7 @@ fn store_indexed_found(
         Reached::Part(p, part) => {
             let word = stored(part, s0, p, data_words);
             if store_waits(low, p, data_tags) {
-                return Course::Waits;
+                return Course::WaitsForData;
             }
             operation_checks::release_s0_s1_s2(
                 first,

@@ -1,5 +1,6 @@
--- Demand 3 at work: task 1 beside two different neighbours, from image bytes on. Task 1 counts a register up, adds a constant, stores the sum,
--- creates a process and loads the sum again; the process that it created waits. In image A its neighbour is task 2, which fills its registers
+-- Demand 3 at work: task 1 beside two different neighbours, from image bytes on. Task 1 has a process in its queue and one in its SFU queue. The
+-- first counts a register up, adds a constant, stores the sum and creates a third; the second waits for the sum and loads it, and then the other
+-- two wait for a sum. In image A its neighbour is task 2, which fills its registers
 -- and its first data word; in image B it is task 3, which creates a process, stores and loads a constant, leaves, and traps.
 use mathlib.Core.Path.{_≡_, refl}
 use mathlib.Core.List.{List, [], _∷_, _++_}
@@ -13,7 +14,7 @@ use Rattle.window.specs.Memories.{cell, cellAt}
 use Rattle.window.specs.Windows.{registerWindow}
 use Rattle.operation.specs.Exclusions.{instructionWord}
 use Rattle.operation.specs.declared.Trap.the-variants.{PrivilegedInstruction}
-use Rattle.step.specs.State.{processesOf}
+use Rattle.step.specs.State.{processesOf, waitingOf}
 use Rattle.step.specs.Owned.{owner, own}
 use Rattle.step.specs.Act.{trappedRow}
 use Rattle.step.specs.Step.{noTrap}
@@ -47,9 +48,12 @@ instanceRow task place = record {
   psw = 0;
 }
 
--- a process at PC 0
+-- a process at PC 0, and one at PC 4 in the SFU queue
 unfoldable pub processOf : (pt task : ℕ) → Process
 processOf pt task = record { pt = pt; task = task; psw = 0 }
+
+unfoldable pub waiterOf : (pt task : ℕ) → Process
+waiterOf pt task = record { pt = pt; task = task + 0x10; psw = 4 }
 
 -- sixteen program words each, the others of them NOPs; register 2 has the address of the first data word
 unfoldable pub adding : List ℕ
@@ -98,7 +102,7 @@ unfoldable pub imageA : Image
 imageA = record {
   rows = instanceRow 1 0 ∷ instanceRow 2 1 ∷ [];
   flag = 0;
-  processes = processOf 5 1 ∷ processOf 0 2 ∷ processOf 1 2 ∷ [];
+  processes = processOf 5 1 ∷ waiterOf 7 1 ∷ processOf 0 2 ∷ processOf 1 2 ∷ [];
   constants = constants;
   registers = cell 0 41 ∷ cell 0 7 ∷ cell 0 0 ∷ cell 0 0 ∷ cell 0 1 ∷ cell 0 2 ∷ cell 0 0 ∷ cell 0 0 ∷ [];
   program = adding ++ filling;
@@ -109,7 +113,7 @@ unfoldable pub imageB : Image
 imageB = record {
   rows = instanceRow 1 0 ∷ instanceRow 3 1 ∷ [];
   flag = 0;
-  processes = processOf 9 1 ∷ processOf 3 3 ∷ [];
+  processes = processOf 9 1 ∷ waiterOf 2 1 ∷ processOf 3 3 ∷ [];
   constants = constants;
   -- the neighbour's first register has quality 4, its second is empty
   registers = cell 0 41 ∷ cell 0 7 ∷ cell 0 0 ∷ cell 0 0 ∷ cell 4 300 ∷ cell 8 200 ∷ cell 0 0 ∷ cell 0 0 ∷ [];
@@ -132,7 +136,7 @@ scheduleB = 1 ∷ 3 ∷ 3 ∷ 1 ∷ 1 ∷ 3 ∷ 3 ∷ 3 ∷ 3 ∷ 1 ∷ 3 ∷ 1 
 
 -- naming this opens the two images
 unfoldable pub images : ℕ
-unfolding opened instanceRow processOf adding filling creating constants imageA imageB bytesA bytesB scheduleA scheduleB instructionWord
+unfolding opened instanceRow processOf waiterOf adding filling creating constants imageA imageB bytesA bytesB scheduleA scheduleB instructionWord
 images = 0
 
 -- ---- the two runs
@@ -178,12 +182,13 @@ ranB = run scheduleB (stateOf imageB)
 pub record Instance : Type 0 where
   -- by demand 3
   pub equal : Compared 1 (ranA .state) (ranB .state)
-  -- task 1 counted 41 up, added 100, stored the sum, loaded it again and set the data word empty
+  -- task 1 counted 41 up, added 100 and stored the sum; it was loaded by a try, and the data word set empty
   pub registers : cut (registerWindow (instanceRow 1 0)) (ranA .state .registers .words) ≡ 42 ∷ 142 ∷ 0 ∷ 142 ∷ []
   pub datum : cellAt (ranA .state .dataWords) 0 ≡ cell 0 142
-  -- the process that it created waits at the LODI; the creator is two instructions further
-  pub processes : processesOf (ranA .state .table .users) 1 ≡ 4 ∷ 6 ∷ []
-  pub countsA : ranA .counts ≡ counts 12 1 0 0
+  -- creator and created process wait at the LODI; the process that loaded the sum is two instructions further
+  pub processes : processesOf (ranA .state .table .users) 1 ≡ 6 ∷ []
+  pub waiting : waitingOf (ranA .state .table .users) 1 ≡ 4 ∷ 4 ∷ []
+  pub countsA : ranA .counts ≡ counts 11 2 0 0 5
   -- task 2 filled two registers and its first data word
   pub registersA : cut (registerWindow (instanceRow 2 1)) (ranA .state .registers .words) ≡ (2 ^ 64 - 1) ∷ (2 ^ 64 - 1) ∷ 0 ∷ 0 ∷ []
   pub datumA : cellAt (ranA .state .dataWords) 32 ≡ cell 1 (2 ^ 64 - 1)
@@ -191,10 +196,10 @@ pub record Instance : Type 0 where
   pub registersB : cut (registerWindow (instanceRow 3 1)) (ranB .state .registers .words) ≡ 300 ∷ 100 ∷ 0 ∷ 0 ∷ []
   pub datumB : cellAt (ranB .state .dataWords) 32 ≡ cell 1 100
   pub trapB : own 3 (ranB .state) ≡ some (owner (trappedRow (instanceRow 3 1) PrivilegedInstruction 8) (8 ∷ []) [])
-  pub countsB : ranB .counts ≡ counts 13 1 1 1
+  pub countsB : ranB .counts ≡ counts 12 2 1 1 5
   -- by demand 3 of the report; the line of task 1
   pub reported : SameLine 1 (ranA .state) (ranB .state) (outputOf (inputOf scheduleA bytesA)) (outputOf (inputOf scheduleB bytesB))
-  pub line : taskLine 1 (ranA .state) ≡ some (letters "1 2 -- -----\n")
+  pub line : taskLine 1 (ranA .state) ≡ some (letters "1 3 -- -----\n")
 
 pub isolated : Instance
 unfolding images ranA ranB lineOf taskLine letters
@@ -203,6 +208,7 @@ isolated = record {
   registers = refl;
   datum = refl;
   processes = refl;
+  waiting = refl;
   countsA = refl;
   registersA = refl;
   datumA = refl;

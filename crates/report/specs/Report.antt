@@ -70,13 +70,14 @@ unfoldable pub rowLines : ProcessTable → List Row → List ℕ
 rowLines table [] = []
 rowLines table (r ∷ rs) = rowLine table r ++ rowLines table rs
 
--- E, W, T, I and their counts, CF and the flag
+-- E, W, T, I, S and their counts (S the tries), CF and the flag
 unfoldable pub countsLine : Counts → (flag : ℕ) → List ℕ
 countsLine c flag =
     (69 ∷ decimal (c .executed))
     ++ (space ++ (87 ∷ decimal (c .waved)))
     ++ (space ++ (84 ∷ decimal (c .trapped)))
     ++ (space ++ (73 ∷ decimal (c .idle)))
+    ++ (space ++ (83 ∷ decimal (c .tries)))
     ++ (space ++ (67 ∷ 70 ∷ decimal flag))
     ++ newline
 

@@ -14,8 +14,9 @@ use Rattle.operation.specs.declared.Trap.the-variants.{CreateFault, ProtectionV
 use Rattle.operation.specs.Exclusions.{instructionWord, Excluded, excluded}
 use Rattle.step.specs.declared.Ending.the-variants.{Executed, Trapped}
 use Rattle.step.specs.State.{State}
-use Rattle.step.specs.Act.{tableOf, Stepped}
-use Rattle.step.specs.Step.{noTrap, item}
+use Rattle.step.specs.Act.{tableOf}
+use Rattle.step.specs.Step.{noTrap, Item, item}
+use Rattle.step.specs.SfuInstances.{queueWith, rowWith, sfuProgram, sfuPsws, sfuState}
 use Rattle.image.specs.Image.{queueOf}
 use Rattle.run.specs.Run.{run}
 use Rattle.report.specs.Report.{reportOf, outputOf}
@@ -42,12 +43,12 @@ machine live w s1 s2 = record {
   dataWords = memory (replicate 64 1) (replicate 63 0 ++ (99 ∷ []));
 }
 
--- one step of task 1 over an instruction
-unfoldable pub stepped : (w s1 s2 : ℕ) → Stepped
+-- one item of task 1 over an instruction
+unfoldable pub stepped : (w s1 s2 : ℕ) → Item
 stepped w s1 s2 = item 1 (machine 1 w s1 s2)
 
 -- D after a step, register 6: its tag and its word
-unfoldable pub registerD : Stepped → Cell
+unfoldable pub registerD : Item → Cell
 registerD x = cellAt (x .state .registers) 6
 
 -- D after an instruction with this code, S1 in register 7, S2, where it has one, in register 6
@@ -124,7 +125,7 @@ printedInput =
     hexBytes "0001 01 | 01 01 0000 0001 0000 0001 0000 00000001 00000000 FF 0000000000000000 | 01 00 00 01 0000000000000000 | 0000 | 0000 | 00000000 | 00000000"
 
 unfoldable pub printedOutput : List ℕ
-printedOutput = letters "1 1 14 00000\nE0 W0 T1 I0 CF0\n"
+printedOutput = letters "1 1 14 00000\nE0 W0 T1 I0 S0 CF0\n"
 
 -- the same image under a schedule of two items
 unfoldable pub twoItems : List ℕ
@@ -136,14 +137,16 @@ pub record Trials : Type 0 where
   pub starred-ones : Starred
   pub printed : outputOf printedInput ≡ printedOutput
   -- two items: the second finds the task trapped
-  pub two : outputOf twoItems ≡ letters "1 1 14 00000\nE0 W0 T1 I1 CF0\n"
+  pub two : outputOf twoItems ≡ letters "1 1 14 00000\nE0 W0 T1 I1 S0 CF0\n"
   -- three processes, of which two leave by QT always
-  pub quits : reportOf (run (1 ∷ 1 ∷ []) (machine 3 (instructionWord 0x1970 0 0 0x4000) 0 0)) ≡ letters "1 1 -- -----\nE2 W0 T0 I0 CF0\n"
+  pub quits : reportOf (run (1 ∷ 1 ∷ []) (machine 3 (instructionWord 0x1970 0 0 0x4000) 0 0)) ≡ letters "1 1 -- -----\nE2 W0 T0 I0 S0 CF0\n"
+  -- a process in each queue: the try waits, and the step executes
+  pub tried : reportOf (run (1 ∷ []) (sfuState (rowWith noTrap 0) (1 ∷ []) (0 ∷ []) 0 0 0)) ≡ letters "1 2 -- -----\nE1 W0 T0 I0 S1 CF0\n"
   -- the longest input, and a byte more: 11
   pub longest : outputOf (replicate 65536 0) ≡ letters "R4\n"
   pub longer : outputOf (replicate 65537 0) ≡ letters "R11\n"
   pub exclusions : Excluded
 
 pub trials : Trials
-unfolding opened letters unspaced hexValue pairsOf hexBytes printedInput printedOutput twoItems instructionWord trialRow upTo machine
-trials = record { starred-ones = starred; printed = refl; two = refl; quits = refl; longest = refl; longer = refl; exclusions = excluded }
+unfolding opened letters unspaced hexValue pairsOf hexBytes printedInput printedOutput twoItems instructionWord trialRow upTo machine queueWith rowWith sfuProgram sfuPsws sfuState
+trials = record { starred-ones = starred; printed = refl; two = refl; quits = refl; tried = refl; longest = refl; longer = refl; exclusions = excluded }

@@ -1,6 +1,5 @@
 -- The laws of the definitions: nothing here need be believed.
 pub mod Texts
 pub mod Digits
-pub mod Lines
 pub mod Lengths
 pub mod Rows

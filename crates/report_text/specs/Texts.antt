@@ -10,13 +10,13 @@ use Rattle.window.specs.Limits.{tasks}
 abbrev pub reportRoom : ℕ
 reportRoom = 512
 
--- the longest line of any row: a task of one digit and 20 digits of processes, 11 bytes for the rest
+-- the longest line of any row: a task of 3 digits and 20 digits of processes, 11 bytes for the rest
 abbrev pub longestRow : ℕ
-longestRow = 1 + 20 + 11
+longestRow = 3 + 20 + 11
 
--- the longest line of any counts: four of 20 digits, a flag of 3, 11 bytes for the rest
+-- the longest line of any counts: five of 20 digits, a flag of 3, 13 bytes for the rest
 abbrev pub longestCounts : ℕ
-longestCounts = 4 * 20 + 3 + 11
+longestCounts = 5 * 20 + 3 + 13
 
 -- the longest report of any rows, table and counts: seven rows and the counts
 abbrev pub longestReport : ℕ

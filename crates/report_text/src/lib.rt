@@ -2,7 +2,9 @@
 use refusal::Refusal;
 use run::Counts;
 use step::NO_TRAP;
+use step::NUMBERS;
 use step::ProcessTable;
+use step::Processes;
 use window::Row;
 use window::TASKS;
 ghost use mathlib.Core.Path.{_≡_};
@@ -103,14 +105,10 @@ fn push_pc(out: &mut [u8], at: usize, kind: u8, psw: u64) -> usize
 }
 
 // How many live processes a task has.
-fn live(table: ProcessTable, task: u8) -> u64
+fn live(table: Processes, task: u8) -> u64
     ensures { λ r. ⌜ r ≡ liveCount table task ⌝ }
 {
-    let at = if task == 0 { 0 } else { task as usize - 1 };
-    if at < TASKS {
-        return table.live[at] as u64;
-    }
-    0
+    table.live[task as usize % NUMBERS] as u64
 }
 
 fn push_row(out: &mut [u8], at: usize, table: ProcessTable, row: Row) -> usize
@@ -119,7 +117,7 @@ fn push_row(out: &mut [u8], at: usize, table: ProcessTable, row: Row) -> usize
 {
     let at = push_decimal(out, at, row.task as u64);
     let at = push(out, at, b' ');
-    let at = push_decimal(out, at, live(table, row.task));
+    let at = push_decimal(out, at, live(table.users, row.task));
     let at = push(out, at, b' ');
     let at = push_kind(out, at, row.kind);
     let at = push(out, at, b' ');
@@ -156,6 +154,14 @@ fn push_next(out: &mut [u8], at: usize, letter: u8, n: u64) -> usize
     push_count(out, at, letter, n)
 }
 
+fn push_flag(out: &mut [u8], at: usize, flag: u8) -> usize
+    ensures { λ r. ⌜ written r (now (out .exit)) ≡ appended (written at (now (out .entry))) (space ++ (67 ∷ 70 ∷ decimal flag)) ⌝ }
+{
+    let at = push(out, at, b' ');
+    let at = push(out, at, b'C');
+    push_count(out, at, b'F', flag as u64)
+}
+
 fn push_counts(out: &mut [u8], at: usize, counts: Counts, flag: u8) -> usize
     ensures { λ r. ⌜ written r (now (out .exit)) ≡ appended (written at (now (out .entry))) (countsLine counts flag) ⌝ }
 {
@@ -163,9 +169,8 @@ fn push_counts(out: &mut [u8], at: usize, counts: Counts, flag: u8) -> usize
     let at = push_next(out, at, b'W', counts.waved);
     let at = push_next(out, at, b'T', counts.trapped);
     let at = push_next(out, at, b'I', counts.idle);
-    let at = push(out, at, b' ');
-    let at = push(out, at, b'C');
-    let at = push_count(out, at, b'F', flag as u64);
+    let at = push_next(out, at, b'S', counts.tries);
+    let at = push_flag(out, at, flag);
     push(out, at, b'\n')
 }
 
@@ -177,10 +182,10 @@ pub fn report_text(
     counts: Counts,
     out: &mut [u8],
 ) -> usize
-    ensures { λ r. ⌜ TextPromise (rowLines table (take n rows) ++ countsLine counts (table .flag)) (now (out .entry)) r (now (out .exit)) ⌝ }
+    ensures { λ r. ⌜ TextPromise (rowLines table (take n rows) ++ countsLine counts (table .users .flag)) (now (out .entry)) r (now (out .exit)) ⌝ }
 {
     let at = push_rows(out, rows, n, table);
-    push_counts(out, at, counts, table.flag)
+    push_counts(out, at, counts, table.users.flag)
 }
 
 // The one line of a refusal.

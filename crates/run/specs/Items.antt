@@ -5,6 +5,8 @@ use lib.ListN.{getD}
 use Rattle.operation.specs.Exclusions.{instructionWord, exclusionRow}
 use Rattle.step.specs.State.{State}
 use Rattle.step.specs.Instances.{trialQueue, noTrialQueue, besideState, trialState}
+use Rattle.step.specs.Step.{noTrap}
+use Rattle.step.specs.SfuInstances.{queueWith, rowWith, sfuProgram, sfuPsws, sfuState}
 use Rattle.run.specs.Run.{counts, run}
 use Rattle.run.specs.Laws.Opened.{opened}
 
@@ -14,12 +16,18 @@ counting = trialState 0 (instructionWord 0x6130 0 0 0 ∷ 0 ∷ [])
 
 pub record ItemTrials : Type 0 where
   -- each item works on the state that the item before it left
-  pub two : run (1 ∷ 1 ∷ []) counting .counts ≡ counts 2 0 0 0
+  pub two : run (1 ∷ 1 ∷ []) counting .counts ≡ counts 2 0 0 0 0
   pub two-state : getD (run (1 ∷ 1 ∷ []) counting .state .registers .words) 6 0 ≡ 2
   -- an unlisted task is idle
-  pub three : run (1 ∷ 3 ∷ 1 ∷ []) counting .counts ≡ counts 2 0 0 1
+  pub three : run (1 ∷ 3 ∷ 1 ∷ []) counting .counts ≡ counts 2 0 0 1 0
   pub three-state : getD (run (1 ∷ 3 ∷ 1 ∷ []) counting .state .registers .words) 6 0 ≡ 2
+  -- two tries alone count as items; an item with a try and a step counts by its step
+  pub tries : run (1 ∷ 1 ∷ []) (sfuState (rowWith noTrap 0) [] (0 ∷ 6 ∷ []) 0 0 0) .counts ≡ counts 0 2 0 0 2
+  pub both : run (1 ∷ []) (sfuState (rowWith noTrap 0) (1 ∷ []) (0 ∷ []) 0 0 0) .counts ≡ counts 1 0 0 0 1
+  -- a try that executes alone, and one that traps
+  pub tried : run (1 ∷ []) (sfuState (rowWith noTrap 0) [] (0 ∷ []) 0 1 0) .counts ≡ counts 1 0 0 0 1
+  pub trapped : run (1 ∷ []) (sfuState (rowWith noTrap 0) (1 ∷ []) (2 ∷ []) 0 0 0) .counts ≡ counts 0 0 1 0 1
 
 pub item-trials : ItemTrials
-unfolding opened instructionWord exclusionRow trialQueue noTrialQueue besideState trialState counting
-item-trials = record { two = refl; two-state = refl; three = refl; three-state = refl }
+unfolding opened instructionWord exclusionRow trialQueue noTrialQueue besideState trialState counting queueWith rowWith sfuProgram sfuPsws sfuState
+item-trials = record { two = refl; two-state = refl; three = refl; three-state = refl; tries = refl; both = refl; tried = refl; trapped = refl }

@@ -5,3 +5,4 @@ pub mod RunAgreement
 pub mod Isolation
 pub mod AloneTest
 pub mod RunSound
+pub mod Attempts

@@ -4,4 +4,5 @@ pub mod Schedule
 pub mod Compared
 pub mod Kept
 pub mod Trials
+pub mod Code
 pub mod Laws

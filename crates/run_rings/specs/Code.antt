@@ -1,10 +1,7 @@
 -- Steps of the code, none of document 01's terms: nothing here need be believed.
 pub mod Place
 pub mod Laid
-pub mod Held
 pub mod Mask
-pub mod Numbers
 pub mod Records
 pub mod Rings
-pub mod Settled
 pub mod Spans

@@ -3,11 +3,8 @@ pub mod Rings
 pub mod Mask
 pub mod Live
 pub mod Copies
-pub mod Held
 pub mod Records
 pub mod Rows
 pub mod Spans
 pub mod Places
 pub mod Laid
-pub mod Settled
-pub mod Numbers

@@ -1,25 +1,27 @@
 // The numbers of a run: queues side by side, trap records and windows by task, the word of free PTs. From queues and rows, and back.
 ghost use mathlib.Core.Path.{_≡_};
-ghost use Prim.Native.Nat.{_+_, _*_, _%_, _≤_, _<_};
+ghost use Prim.Native.Nat.{_+_, _-_, _*_, _%_, _^_, _≤_, _<_};
 ghost use lib.ListN.{length, take};
 ghost use lib.Seq.{paste};
 ghost use Rattle.window.specs.Code.Spans.{endOf};
 ghost use Rattle.window.specs.Limits.{tasks};
-ghost use Rattle.step.specs.Queues.{livePts};
+ghost use Rattle.step.specs.Queues.{places, numbers};
 ghost use Rattle.step.specs.State.{findRow};
-ghost use Rattle.step_queue.specs.Code.Mask.{freeAfter};
+ghost use Rattle.run_rings.specs.Code.Mask.{freeWord};
 ghost use Rattle.run_rings.specs.Code.Place.{placeFrom};
 ghost use Rattle.run_rings.specs.Code.Rings.{queueAt, queuesIn};
 ghost use Rattle.run_rings.specs.Code.Records.{rowIn, rowsWith};
-ghost use Rattle.run_rings.specs.Code.Spans.{windowNumbers};
+ghost use Rattle.run_rings.specs.Code.Spans.{spanPlaces, allSpanPlaces, windowNumbers};
 ghost use Rattle.run_rings.specs.Code.Laid.{taskNumbers, noRings, queuesLaid, noTasks, rowLaid, tasksLaid};
+use step::NUMBERS;
 use step::PLACES;
+use step::QUEUES;
 use step::Queue;
 use window::Row;
 use window::TASKS;
 
-// Rings by task number: ring 0 is none's.
-pub const RINGS: usize = TASKS + 1;
+// Rings by number of queue.
+pub const RINGS: usize = QUEUES;
 
 // The places of all rings.
 pub const RING_PLACES: usize = RINGS * PLACES;
@@ -27,7 +29,10 @@ pub const RING_PLACES: usize = RINGS * PLACES;
 // The numbers of a task's windows, and of all tasks'.
 pub const SPANS: usize = 8;
 
-pub const ALL_SPANS: usize = RINGS * SPANS;
+pub const ALL_SPANS: usize = NUMBERS * SPANS;
+
+// The word in which every PT is free.
+const ALL_FREE: u64 = 0xffff_ffff_ffff_ffff;
 
 // Where the row of a task stands.
 pub enum RowPlace {
@@ -44,8 +49,8 @@ pub struct Rings {
 
 // By task: the trap record, and the windows in eight numbers from 8 t on.
 pub struct Tasks {
-    pub kinds: [u8; RINGS],
-    pub stored: [u64; RINGS],
+    pub kinds: [u8; NUMBERS],
+    pub stored: [u64; NUMBERS],
     pub spans: [u32; ALL_SPANS],
 }
 
@@ -53,8 +58,8 @@ pub struct Tasks {
 
 // The places of ring k from those of a queue.
 fn lay(pts: &mut [u8], k: usize, q: Queue)
-    requires { ⌜ 64 * k + 64 ≤ length (now pts) ⌝ }
-    ensures { λ _. ⌜ (now (pts .exit) ≡ paste (now (pts .entry)) (64 * k) (q .pts) 64) × (length (q .pts) ≡ 64) ⌝ }
+    requires { ⌜ places * k + places ≤ length (now pts) ⌝ }
+    ensures { λ _. ⌜ (now (pts .exit) ≡ paste (now (pts .entry)) (places * k) (q .pts) places) × (length (q .pts) ≡ places) ⌝ }
 {
     let mut j = 0;
     while j < PLACES {
@@ -63,19 +68,19 @@ fn lay(pts: &mut [u8], k: usize, q: Queue)
     }
 }
 
-// The queues of tasks 1 to 7 into rings 1 to 7.
-pub fn rings_of(queues: [Queue; TASKS]) -> Rings
-    ensures { λ r. ⌜ (r ≡ queuesLaid 1 queues noRings) × (queuesIn (r .pts) (r .heads) (r .lens) ≡ queues) ⌝ }
+// The queues into the rings, each into that of its number.
+pub fn rings_of(queues: [Queue; QUEUES]) -> Rings
+    ensures { λ r. ⌜ (r ≡ queuesLaid 0 queues noRings) × (queuesIn (r .pts) (r .heads) (r .lens) ≡ queues) ⌝ }
 {
     let mut pts: [u8; RING_PLACES] = [0; RING_PLACES];
     let mut heads: [usize; RINGS] = [0; RINGS];
     let mut lens: [usize; RINGS] = [0; RINGS];
     let mut i = 0;
-    while i < TASKS {
+    while i < RINGS {
         let q = queues[i];
-        lay(&mut pts, i + 1, q);
-        heads[i + 1] = q.head;
-        lens[i + 1] = q.len;
+        lay(&mut pts, i, q);
+        heads[i] = q.head;
+        lens[i] = q.len;
         i += 1;
     }
     Rings { pts, heads, lens }
@@ -83,7 +88,7 @@ pub fn rings_of(queues: [Queue; TASKS]) -> Rings
 
 // The queue in ring k.
 fn queue_of(pts: &[u8], heads: &[usize], lens: &[usize], k: usize) -> Queue
-    requires { ⌜ (64 * k + 64 ≤ length (now pts)) × (k < length (now heads)) × (k < length (now lens)) ⌝ }
+    requires { ⌜ (places * k + places ≤ length (now pts)) × (k < length (now heads)) × (k < length (now lens)) ⌝ }
     ensures { λ r. ⌜ r ≡ queueAt (now (pts .entry)) (now (heads .entry)) (now (lens .entry)) k ⌝ }
 {
     let mut q = Queue {
@@ -99,12 +104,12 @@ fn queue_of(pts: &[u8], heads: &[usize], lens: &[usize], k: usize) -> Queue
     q
 }
 
-// The queues of tasks 1 to 7 from rings 1 to 7.
+// The queues from the rings.
 pub fn queues_of(
     pts: [u8; RING_PLACES],
     heads: [usize; RINGS],
     lens: [usize; RINGS],
-) -> [Queue; TASKS]
+) -> [Queue; QUEUES]
     ensures { λ r. ⌜ r ≡ queuesIn pts heads lens ⌝ }
 {
     let empty = Queue {
@@ -112,22 +117,22 @@ pub fn queues_of(
         head: 0,
         len: 0,
     };
-    let mut queues = [empty; TASKS];
+    let mut queues = [empty; QUEUES];
     let mut i = 0;
-    while i < TASKS {
-        queues[i] = queue_of(&pts, &heads, &lens, i + 1);
+    while i < QUEUES {
+        queues[i] = queue_of(&pts, &heads, &lens, i);
         i += 1;
     }
     queues
 }
 
 // The word of the PTs that stand in no queue: digit p from the right is 1 where PT p is free.
-pub fn free_mask(queues: [Queue; TASKS]) -> u64
-    ensures { λ r. ⌜ r ≡ freeAfter (livePts queues) 18446744073709551615 ⌝ }
+pub fn free_mask(queues: [Queue; QUEUES]) -> u64
+    ensures { λ r. ⌜ r ≡ freeWord queues ⌝ }
 {
-    let mut free: u64 = 0xffff_ffff_ffff_ffff;
+    let mut free: u64 = ALL_FREE;
     let mut k = 0;
-    while k < TASKS {
+    while k < QUEUES {
         free = step_queue::free_after(free, queues[k]);
         k += 1;
     }
@@ -155,7 +160,7 @@ pub fn find(rows: [Row; TASKS], n: usize, t: u8) -> RowPlace
 
 // The address past the last of a window, 0 where it is empty.
 fn end_of(first: u64, last: u64) -> u64
-    requires { ⌜ last < 18446744073709551615 ⌝ }
+    requires { ⌜ last < 2 ^ 64 - 1 ⌝ }
     ensures { λ r. ⌜ r ≡ endOf (record { first = first; last = last }) ⌝ }
 {
     if last < first {
@@ -195,8 +200,8 @@ pub fn span(row: Row) -> [u32; SPANS]
 
 // The numbers of a window at those of task t.
 fn lay_span(spans: &mut [u32], t: usize, w: [u32; SPANS])
-    requires { ⌜ 8 * t + 8 ≤ length (now spans) ⌝ }
-    ensures { λ _. ⌜ now (spans .exit) ≡ paste (now (spans .entry)) (8 * t) w 8 ⌝ }
+    requires { ⌜ spanPlaces * t + spanPlaces ≤ length (now spans) ⌝ }
+    ensures { λ _. ⌜ now (spans .exit) ≡ paste (now (spans .entry)) (spanPlaces * t) w spanPlaces ⌝ }
 {
     let mut j = 0;
     while j < SPANS {
@@ -214,7 +219,7 @@ fn number_task(
     stored: &mut [u64],
     spans: &mut [u32],
 )
-    requires { ⌜ (t < 8) × (8 ≤ length (now kinds)) × (8 ≤ length (now stored)) × (64 ≤ length (now spans)) ⌝ }
+    requires { ⌜ (t < numbers) × (numbers ≤ length (now kinds)) × (numbers ≤ length (now stored)) × (allSpanPlaces ≤ length (now spans)) ⌝ }
     ensures { λ _. ⌜ taskNumbers (now (kinds .exit)) (now (stored .exit)) (now (spans .exit)) ≡ rowLaid t (findRow t (take n rows)) (taskNumbers (now (kinds .entry)) (now (stored .entry)) (now (spans .entry))) ⌝ }
 {
     let place = find(rows, n, t as u8);
@@ -231,11 +236,11 @@ fn number_task(
 pub fn number_tasks(rows: [Row; TASKS], n: usize) -> Tasks
     ensures { λ r. ⌜ r ≡ tasksLaid tasks 1 (take n rows) noTasks ⌝ }
 {
-    let mut kinds: [u8; RINGS] = [0; RINGS];
-    let mut stored: [u64; RINGS] = [0; RINGS];
+    let mut kinds: [u8; NUMBERS] = [0; NUMBERS];
+    let mut stored: [u64; NUMBERS] = [0; NUMBERS];
     let mut spans: [u32; ALL_SPANS] = [0; ALL_SPANS];
     let mut t = 1;
-    while t < RINGS {
+    while t < NUMBERS {
         number_task(rows, n, t, &mut kinds, &mut stored, &mut spans);
         t += 1;
     }
@@ -247,12 +252,12 @@ pub fn number_tasks(rows: [Row; TASKS], n: usize) -> Tasks
 }
 
 // The row with the trap record of its task.
-fn row_with(row: Row, kinds: [u8; RINGS], stored: [u64; RINGS]) -> Row
+fn row_with(row: Row, kinds: [u8; NUMBERS], stored: [u64; NUMBERS]) -> Row
     ensures { λ r. ⌜ r ≡ rowIn kinds stored row ⌝ }
 {
     let t = row.task as usize;
     let mut next = row;
-    if t < RINGS {
+    if t < NUMBERS {
         next.kind = kinds[t];
         next.psw = stored[t];
         return next;
@@ -266,8 +271,8 @@ fn row_with(row: Row, kinds: [u8; RINGS], stored: [u64; RINGS]) -> Row
 pub fn rows_with(
     rows: [Row; TASKS],
     n: usize,
-    kinds: [u8; RINGS],
-    stored: [u64; RINGS],
+    kinds: [u8; NUMBERS],
+    stored: [u64; NUMBERS],
 ) -> [Row; TASKS]
     ensures { λ r. ⌜ r ≡ rowsWith kinds stored rows n ⌝ }
 {

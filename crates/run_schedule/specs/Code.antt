@@ -1,3 +1,3 @@
 -- Steps of the code, none of document 01's terms: nothing here need be believed.
-pub mod Tally
+pub mod Carried
 pub mod OneItem

@@ -12,13 +12,13 @@ use Rattle.step.specs.declared.Ending.{Ending}
 use Rattle.step.specs.declared.Ending.the-variants.{Executed, Trapped}
 use Rattle.step.specs.Queues.{listOf}
 use Rattle.step.specs.State.{taskQueue}
-use Rattle.step.specs.Act.{Stepped, trappedRow}
-use Rattle.step.specs.Step.{item}
+use Rattle.step.specs.Act.{trappedRow}
+use Rattle.step.specs.Step.{Item, item}
 use Rattle.step.specs.Instances.{trialQueue, noTrialQueue, besideState}
 use Rattle.step.specs.Laws.Opened.{opened}
 
 -- a step of task 1 over an instruction, where task 2 has so many processes
-unfoldable pub steps : (beside w : ℕ) → Stepped
+unfoldable pub steps : (beside w : ℕ) → Item
 steps n w = item 1 (besideState n 0 (w ∷ 0 ∷ []))
 
 -- all PSWs zero but that of this process
@@ -26,7 +26,7 @@ unfoldable pub pswAt : (pt psw : ℕ) → List ℕ
 pswAt pt psw = set (replicate 64 0) pt psw
 
 -- the ending, the row of task 1, its PTs from head to tail and all PSWs
-pub record After (x : Stepped) (e : Ending) (r : Row) (pts words : List ℕ) : Type 0 where
+pub record After (x : Item) (e : Ending) (r : Row) (pts words : List ℕ) : Type 0 where
   pub ending : x .ending ≡ e
   pub rows : x .state .rows ≡ r ∷ []
   pub processes : listOf (taskQueue (x .state .table .users) 1) ≡ pts

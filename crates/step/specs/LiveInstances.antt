@@ -7,20 +7,19 @@ use Rattle.operation.specs.declared.Trap.the-variants.{CreateFault}
 use Rattle.operation.specs.Exclusions.{exclusionRow, instructionWord}
 use Rattle.step.specs.declared.Ending.{Ending}
 use Rattle.step.specs.declared.Ending.the-variants.{Executed, Trapped}
-use Rattle.step.specs.Act.{Stepped}
-use Rattle.step.specs.Step.{item}
+use Rattle.step.specs.Step.{Item, item}
 use Rattle.step.specs.Instances.{trialQueue, noTrialQueue, besideState}
 use Rattle.step.specs.Laws.Opened.{opened}
 
 -- QT always, CREATE always
-unfoldable pub quitting : (beside : ℕ) → Stepped
+unfoldable pub quitting : (beside : ℕ) → Item
 quitting n = item 1 (besideState n 0 (instructionWord 0x1970 0 0 0x4000 ∷ 0 ∷ []))
 
-unfoldable pub creating : (beside : ℕ) → Stepped
+unfoldable pub creating : (beside : ℕ) → Item
 creating n = item 1 (besideState n 0 (instructionWord 0x3970 0 0x4000 0x4000 ∷ 0 ∷ []))
 
 -- the ending, the counts of tasks 1 and 2, the total and the flag after a step
-pub record LiveAfter (x : Stepped) (e : Ending) (mine beside total up : ℕ) : Type 0 where
+pub record LiveAfter (x : Item) (e : Ending) (mine beside total up : ℕ) : Type 0 where
   pub ending : x .ending ≡ e
   pub live : x .state .table .users .live ≡ 0 ∷ mine ∷ beside ∷ replicate 5 0
   pub count : x .state .table .users .count ≡ total

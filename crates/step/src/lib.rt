@@ -1,4 +1,4 @@
-// One step of a task: queues, the process table, and how a step ends.
+// One item of a task: queues, the process table, attempts, and how they end.
 use operation::Decision;
 use operation::Trap;
 
@@ -24,7 +24,7 @@ pub struct Queue {
 // The task numbers of one kind, of which each has its place; user tasks are 0 to 7, and 0 is never listed.
 pub const NUMBERS: usize = 8;
 
-// The queues of one kind of tasks: of the task at place i the queues with the numbers 2 * i and 2 * i + 1, the second without processes.
+// The queues of one kind of tasks: of the task at place i its queue has the number 2 * i, its SFU queue 2 * i + 1.
 pub const QUEUES: usize = 16;
 
 // The processes of one kind of tasks: the PSW of each PT, the queues, the create fault flag, and how many processes live: of each task, and in all.

@@ -1,24 +1,41 @@
 // The live processes of each queue, and the free PTs as a word, PT p at digit p from the right.
 ghost use mathlib.Core.Path.{_≡_};
-ghost use Rattle.step.specs.Queues.{listOf, liveCounts, belowTotal};
+ghost use Prim.Native.Nat.{ℕ, _+_, _≤_};
+ghost use lib.ListN.{getD};
+ghost use Rattle.step.specs.State.{noQueue};
+ghost use Rattle.step.specs.Queues.{places, listOf, liveCounts, belowTotal};
 ghost use Rattle.step_queue.specs.Code.Mask.{without, freeAfter};
+use step::NUMBERS;
 use step::PLACES;
 use step::PTS;
+use step::QUEUES;
 use step::Queue;
 use step::TOTAL;
-use window::TASKS;
 
 // The first number that is no PT.
 const FIRST_NO_PT: u8 = PTS as u8;
 
-// The live processes of each task.
-pub fn live_counts(queues: [Queue; TASKS]) -> [usize; TASKS]
-    ensures { λ r. ⌜ r ≡ liveCounts queues ⌝ }
+// The processes of two queues together; 0 where one is longer than its array.
+fn together(own: usize, sfu: usize) -> usize
+    ensures { λ r. ⌜ (own ≤ places → sfu ≤ places → r ≡ own + sfu) ⌝ }
 {
-    let mut counts = [0; TASKS];
+    if PLACES < own {
+        return 0;
+    }
+    if PLACES < sfu {
+        return 0;
+    }
+    own + sfu
+}
+
+// The live processes of each task, in its queue and its SFU queue, where neither is longer than its array.
+pub fn live_counts(queues: [Queue; QUEUES]) -> [usize; NUMBERS]
+    ensures { λ r. ⌜ (((k : ℕ) → getD queues k noQueue .len ≤ places) → r ≡ liveCounts queues) ⌝ }
+{
+    let mut counts = [0; NUMBERS];
     let mut k = 0;
-    while k < TASKS {
-        counts[k] = queues[k].len;
+    while k < NUMBERS {
+        counts[k] = together(queues[2 * k].len, queues[2 * k + 1].len);
         k += 1;
     }
     counts

@@ -1,8 +1,8 @@
 -- The loops over rows and queues: a turn, and the ends.
-use Prim.Native.Nat.{ℕ, suc, _+_, _-_, _≤_, _<_}
+use Prim.Native.Nat.{ℕ, suc, _+_, _-_, _*_, _≤_, _<_}
 use mathlib.Core.Path.{_≡_, refl, sym, ap, ap₂, _∙_}
 use mathlib.Core.Bool.{Bool, true, false, _&&_, _||_}
-use mathlib.Core.List.{List, [], _∷_}
+use mathlib.Core.List.{List, [], _∷_, _++_}
 use native.Mathlib.Omega.{arith}
 use lib.ListN.{length, getD, take, drop, length-take, length-append, drop-of-length-le}
 use lib.Seq.{drop-cons, getD-take}
@@ -24,6 +24,13 @@ module _ {A : Type 0} (l : List A) (i : ℕ) where
 
   pub none-of : length l ≤ i → drop i l ≡ []
   none-of h = drop-of-length-le l h
+
+-- two at a time
+pub two-of : {A : Type 0} (l : List A) (i : ℕ) (d : A) → 2 * i + 1 < length l → drop (2 * i) l ≡ getD l (2 * i) d ∷ getD l (2 * i + 1) d ∷ drop (2 * (i + 1)) l
+two-of {A} l i d h =
+    let m : 2 * i + 1 + 1 ≡ 2 * (i + 1) = omega arith in
+    next-of l (2 * i) d (omega (arith, h)) ∙ ap (λ (r : List A). getD l (2 * i) d ∷ r) (next-of l (2 * i + 1) d h)
+    ∙ ap (λ (j : ℕ). getD l (2 * i) d ∷ getD l (2 * i + 1) d ∷ drop j l) m
 
 -- of the first n
 module _ {A : Type 0} (l : List A) (n i : ℕ) where
@@ -125,24 +132,29 @@ rest-eqb n m k h = go (eqb (n - m) k) (eq? (n - m) k)
     go true (same e) = eq-eqb n (m + k) (omega (arith, e, h))
     go false (differ d) = ne-eqb n (m + k) (λ e. d (omega (arith, e)))
 
-module _ {x : ℕ} {l l′ : List ℕ} {q : Queue} {qs qs′ : List Queue} (n : ℕ) {w : Bool} (d : l ≡ x ∷ l′) (d′ : qs ≡ q ∷ qs′) (i : tested l qs n ≡ w) where
-  first-told : (eqb x (q .len) && alike l′ (liveCounts qs′)) && eqb n (q .len + liveTotal qs′) ≡ w
+module _ {x : ℕ} {l l′ : List ℕ} {q p : Queue} {qs qs′ : List Queue} (n : ℕ) {w : Bool} (d : l ≡ x ∷ l′) (d′ : qs ≡ q ∷ p ∷ qs′) (i : tested l qs n ≡ w) where
+  first-told : (eqb x (q .len + p .len) && alike l′ (liveCounts qs′)) && eqb n (q .len + (p .len + liveTotal qs′)) ≡ w
   unfolding tested alike liveCounts liveTotal livePts
-  first-told = rw (← length-list q, ← length-append (listOf q) (livePts qs′)) (sym (ap₂ (λ (l : List ℕ) (qs : List Queue). tested l qs n) d d′) ∙ i)
+  first-told =
+      rw (← length-list q, ← length-list p, ← length-append (listOf p) (livePts qs′), ← length-append (listOf q) (listOf p ++ livePts qs′))
+      (sym (ap₂ (λ (l : List ℕ) (qs : List Queue). tested l qs n) d d′) ∙ i)
 
   -- another count; more processes than are left
-  pub count-differs : (x ≡ q .len → ⊥) → false ≡ w
-  count-differs e = sym (ap (λ (b : Bool). (b && alike l′ (liveCounts qs′)) && eqb n (q .len + liveTotal qs′)) (ne-eqb x (q .len) e)) ∙ first-told
+  pub count-differs : (x ≡ q .len + p .len → ⊥) → false ≡ w
+  count-differs e =
+      sym (ap (λ (b : Bool). (b && alike l′ (liveCounts qs′)) && eqb n (q .len + (p .len + liveTotal qs′))) (ne-eqb x (q .len + p .len) e)) ∙ first-told
 
-  pub count-over : n < q .len → false ≡ w
+  pub count-over : n < q .len + p .len → false ≡ w
   count-over h =
-      sym (ap (λ (b : Bool). (eqb x (q .len) && alike l′ (liveCounts qs′)) && b) (ne-eqb n (q .len + liveTotal qs′) (λ e. omega (arith, e, h))) ∙ and-none (eqb x (q .len) && alike l′ (liveCounts qs′)))
+      sym (ap (λ (b : Bool). (eqb x (q .len + p .len) && alike l′ (liveCounts qs′)) && b) (ne-eqb n (q .len + (p .len + liveTotal qs′)) (λ e. omega (arith, e, h)))
+      ∙ and-none (eqb x (q .len + p .len) && alike l′ (liveCounts qs′)))
       ∙ first-told
 
-  pub count-goes : x ≡ q .len → q .len ≤ n → tested l′ qs′ (n - q .len) ≡ w
+  pub count-goes : x ≡ q .len + p .len → x ≤ n → tested l′ qs′ (n - x) ≡ w
   unfolding tested
   count-goes e h =
-      sym (ap₂ (λ (a b : Bool). (a && alike l′ (liveCounts qs′)) && b) (eq-eqb x (q .len) e) (rest-eqb n (q .len) (liveTotal qs′) h)) ∙ first-told
+      let a : q .len + (p .len + liveTotal qs′) ≡ x + liveTotal qs′ = omega (arith, e) in
+      sym (ap₂ (λ (a b : Bool). (a && alike l′ (liveCounts qs′)) && b) (eq-eqb x (q .len + p .len) e) (ap (eqb n) a ∙ rest-eqb n x (liveTotal qs′) h)) ∙ first-told
 
 pub count-ends : {l : List ℕ} {qs : List Queue} (n : ℕ) {w : Bool} → l ≡ [] → qs ≡ [] → tested l qs n ≡ w → eqb n 0 ≡ w
 unfolding tested alike liveCounts liveTotal livePts

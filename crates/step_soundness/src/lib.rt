@@ -14,9 +14,12 @@ ghost use Rattle.image_bytes.specs.Code.Scanning.{tagTest};
 ghost use Rattle.step_soundness.specs.Code.Held.{stateIn, soundIn, queueSound};
 ghost use Rattle.step_soundness.specs.Code.Seen.{seenAfter};
 use image_bytes::CellKind;
+use step::NUMBERS;
 use step::PLACES;
 use step::PTS;
 use step::ProcessTable;
+use step::Processes;
+use step::QUEUES;
 use step::Queue;
 use window::MOST_CONSTANTS;
 use window::MOST_DATA;
@@ -130,9 +133,9 @@ fn windows_sound(
 
 // ---- the process table
 
-// The queue of task t in its array, and empty where t has none of the first n rows.
-fn queue_sound(rows: [Row; TASKS], n: usize, t: u8, q: Queue) -> bool
-    ensures { λ r. ⌜ r ≡ queueSound (take n rows) t q ⌝ }
+// The queue with number k in its array, and empty where its task has none of the first n rows.
+fn queue_sound(rows: [Row; TASKS], n: usize, k: u8, q: Queue) -> bool
+    ensures { λ r. ⌜ r ≡ queueSound (take n rows) k q ⌝ }
 {
     if PLACES < q.len {
         return false;
@@ -140,15 +143,15 @@ fn queue_sound(rows: [Row; TASKS], n: usize, t: u8, q: Queue) -> bool
     if q.len == 0 {
         return true;
     }
-    has_row(t, rows, n)
+    has_row(k / 2, rows, n)
 }
 
-fn queues_sound(rows: [Row; TASKS], n: usize, queues: [Queue; TASKS]) -> bool
-    ensures { λ r. ⌜ r ≡ queuesSound (take n rows) 1 queues ⌝ }
+fn queues_sound(rows: [Row; TASKS], n: usize, queues: [Queue; QUEUES]) -> bool
+    ensures { λ r. ⌜ r ≡ queuesSound (take n rows) 0 queues ⌝ }
 {
-    let mut t = 1;
+    let mut t = 0;
     let mut k = 0;
-    while k < TASKS {
+    while k < QUEUES {
         if !queue_sound(rows, n, t, queues[k]) {
             return false;
         }
@@ -199,7 +202,7 @@ fn see_queue(psw: [u64; PTS], seen: Seen, q: Queue) -> Seen
 }
 
 // No PT twice, and every process has a PT and a PSW.
-fn processes_sound(psw: [u64; PTS], queues: [Queue; TASKS]) -> bool
+fn processes_sound(psw: [u64; PTS], queues: [Queue; QUEUES]) -> bool
     ensures { λ r. ⌜ r ≡ processesSound psw (livePts queues) ⌝ }
 {
     let mut seen = Seen {
@@ -207,41 +210,46 @@ fn processes_sound(psw: [u64; PTS], queues: [Queue; TASKS]) -> bool
         pts: [false; PTS],
     };
     let mut k = 0;
-    while k < TASKS {
+    while k < QUEUES {
         seen = see_queue(psw, seen, queues[k]);
         k += 1;
     }
     seen.sound
 }
 
-// The live counts are those of the queues, and the total is their sum: of each queue so many are left of it.
-fn live_sound(table: ProcessTable) -> bool
-    ensures { λ r. ⌜ r ≡ liveSound table ⌝ }
+// The live counts are those of the queues, two of each task, and the total is their sum: of each task so many are left of it.
+fn live_sound(users: Processes) -> bool
+    ensures { λ r. ⌜ r ≡ liveSound users ⌝ }
 {
-    let queues = table.queues;
-    let live = table.live;
-    let mut left = table.processes;
+    let queues = users.queues;
+    let live = users.live;
+    let mut left = users.count;
     let mut k = 0;
-    while k < TASKS {
-        let len = queues[k].len;
-        if live[k] != len {
+    while k < NUMBERS {
+        let own = queues[2 * k].len;
+        let sfu = queues[2 * k + 1].len;
+        let count = live[k];
+        if count < own {
             return false;
         }
-        if left < len {
+        if count - own != sfu {
             return false;
         }
-        left -= len;
+        if left < count {
+            return false;
+        }
+        left -= count;
         k += 1;
     }
     left == 0
 }
 
-fn table_sound(rows: [Row; TASKS], n: usize, table: ProcessTable) -> bool
-    ensures { λ r. ⌜ r ≡ tableSound (take n rows) table ⌝ }
+fn table_sound(rows: [Row; TASKS], n: usize, users: Processes) -> bool
+    ensures { λ r. ⌜ r ≡ tableSound (take n rows) users ⌝ }
 {
-    let psw = table.psw;
-    let queues = table.queues;
-    let flag = table.flag;
+    let psw = users.psw;
+    let queues = users.queues;
+    let flag = users.flag;
     if !queues_sound(rows, n, queues) {
         return false;
     }
@@ -251,10 +259,10 @@ fn table_sound(rows: [Row; TASKS], n: usize, table: ProcessTable) -> bool
     if 1 < flag {
         return false;
     }
-    if !live_sound(table) {
+    if !live_sound(users) {
         return false;
     }
-    step_fields::total_sound(table.processes, flag as u64)
+    step_fields::total_sound(users.count, flag as u64)
 }
 
 // ---- the memories
@@ -329,7 +337,7 @@ pub fn sound(
     if !rows_sound(rows, n) {
         return false;
     }
-    if !table_sound(rows, n, table) {
+    if !table_sound(rows, n, table.users) {
         return false;
     }
     if !memories_sound(

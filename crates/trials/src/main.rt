@@ -1,5 +1,5 @@
 // Refusals 7 to 10 of the calls read, run, step and write, at both sides of their boundaries, on one small state; its live counts on one of seven
-// tasks. A line for each call: what it answered, and how many lent places are as they were before it.
+// tasks; runs with tries. A line for each call: what it answered, and how many lent places are as they were before it.
 ghost use Prim.Native.Nat.{_≤_};
 use libc::STDOUT_FILENO;
 use library::ReadAnswer;
@@ -11,9 +11,12 @@ use refusal::Refusal;
 use run::Counts;
 use step::Ending;
 use step::NO_TRAP;
+use step::NUMBERS;
 use step::PLACES;
 use step::PTS;
 use step::ProcessTable;
+use step::Processes;
+use step::QUEUES;
 use step::Queue;
 use window::Row;
 use window::TASKS;
@@ -67,43 +70,66 @@ fn no_processes() -> Queue {
     }
 }
 
-// The table of queues with so many processes in all, each with this PSW.
-fn counted(psw: u64, queues: [Queue; TASKS], flag: u8, processes: usize) -> ProcessTable {
+// No processes but those of this queue, which has the number k.
+fn queues_with(k: usize, queue: Queue) -> [Queue; QUEUES] {
+    let mut queues = [no_processes(); QUEUES];
+    queues[k % QUEUES] = queue;
+    queues
+}
+
+// The table of these queues, whose n processes are all of one task; each has this PSW.
+fn table_of(psw: u64, queues: [Queue; QUEUES], flag: u8, task: usize, n: usize) -> ProcessTable {
+    let mut live = [0; NUMBERS];
+    live[task % NUMBERS] = n;
     ProcessTable {
-        psw: [psw; PTS],
-        queues,
-        flag,
-        live: step_queue::live_counts(queues),
-        processes,
+        users: Processes {
+            psw: [psw; PTS],
+            queues,
+            flag,
+            live,
+            count: n,
+        },
     }
+}
+
+fn single(pt: u8) -> Queue {
+    let mut queue = no_processes();
+    queue.pts[0] = pt;
+    queue.len = 1;
+    queue
+}
+
+fn pair(first: u8, second: u8) -> Queue {
+    let mut queue = no_processes();
+    queue.pts[0] = first;
+    queue.pts[1] = second;
+    queue.len = 2;
+    queue
 }
 
 // Task 1 has two processes, of PT 3 and of this one, with this PSW each.
 fn table_with(pt: u8, psw: u64, flag: u8) -> ProcessTable {
-    let mut queue = no_processes();
-    queue.pts[0] = 3;
-    queue.pts[1] = pt;
-    queue.len = 2;
-    let mut queues = [no_processes(); TASKS];
-    queues[0] = queue;
-    counted(psw, queues, flag, 2)
+    table_of(psw, queues_with(2, pair(3, pt)), flag, 1, 2)
 }
 
 fn trial_table() -> ProcessTable {
     table_with(9, 0, 0)
 }
 
-// Task 2, which has no row, has so many processes.
-fn table_unlisted(len: usize) -> ProcessTable {
-    let mut queue = no_processes();
-    queue.len = len;
-    let mut queues = [no_processes(); TASKS];
-    queues[1] = queue;
-    counted(0, queues, 0, len)
+// Task 1 has a process of PT 3, and one of this PT in its SFU queue.
+fn table_sfu(pt: u8) -> ProcessTable {
+    let mut queues = queues_with(2, single(3));
+    queues[3] = single(pt);
+    table_of(0, queues, 0, 1, 2)
 }
 
-// Task 1 has so many processes, with the PTs 0 to 63.
-fn table_full(len: usize, flag: u8) -> ProcessTable {
+// The queue with number k, of a task that has no row, has one process.
+fn table_unlisted(k: usize) -> ProcessTable {
+    table_of(0, queues_with(k, single(0)), 0, k / 2, 1)
+}
+
+// So many processes, with the PTs 0 to 63.
+fn queue_full(len: usize) -> Queue {
     let mut queue = no_processes();
     let mut i = 0;
     while i < PLACES {
@@ -111,9 +137,19 @@ fn table_full(len: usize, flag: u8) -> ProcessTable {
         i += 1;
     }
     queue.len = len;
-    let mut queues = [no_processes(); TASKS];
-    queues[0] = queue;
-    counted(0, queues, flag, len)
+    queue
+}
+
+// Task 1 has so many processes in its queue, or in its SFU queue: 2 or 3.
+fn table_full(k: usize, len: usize, flag: u8) -> ProcessTable {
+    table_of(0, queues_with(k, queue_full(len)), flag, 1, len)
+}
+
+// Task 1 has 63 processes in its queue and one in its SFU queue.
+fn table_both(flag: u8) -> ProcessTable {
+    let mut queues = queues_with(2, queue_full(63));
+    queues[3] = single(63);
+    table_of(0, queues, flag, 1, 64)
 }
 
 // ---- lines
@@ -236,13 +272,13 @@ fn write_table(table: ProcessTable) {
 }
 
 // Likewise, to a buffer as long as an image with 64 processes.
-fn write_full(len: usize, flag: u8) {
+fn write_full(table: ProcessTable) {
     let mut out = [MARK; 1198];
     write_to(
         &mut out,
         rows_from(trial_row()),
         1,
-        table_full(len, flag),
+        table,
         &[2; 3],
         &[1; 8],
         &[1; 32],
@@ -386,15 +422,45 @@ fn write_tables() {
     write_table(table_with(9, 0, 1));
     print(b"flag 2: ");
     write_table(table_with(9, 0, 2));
+}
+
+fn write_full_tables() {
     print(b"63 processes, flag 0: ");
-    write_full(63, 0);
+    write_full(table_full(2, 63, 0));
     print(b"64 processes, flag 0: ");
-    write_full(64, 0);
+    write_full(table_full(2, 64, 0));
     print(b"64 processes, flag 1: ");
-    write_full(64, 1);
+    write_full(table_full(2, 64, 1));
     print(b"65 processes, flag 1: ");
-    write_full(65, 1);
+    write_full(table_full(2, 65, 1));
+    print(b"63 SFU processes, flag 0: ");
+    write_full(table_full(3, 63, 0));
+    print(b"64 SFU processes, flag 0: ");
+    write_full(table_full(3, 64, 0));
+    print(b"64 SFU processes, flag 1: ");
+    write_full(table_full(3, 64, 1));
+    print(b"65 SFU processes, flag 1: ");
+    write_full(table_full(3, 65, 1));
+    print(b"63 processes and one SFU process, flag 0: ");
+    write_full(table_both(0));
+    print(b"63 processes and one SFU process, flag 1: ");
+    write_full(table_both(1));
+}
+
+fn write_sfu_tables() {
+    print(b"SFU process with PT 4: ");
+    write_table(table_sfu(4));
+    print(b"SFU process with PT 64: ");
+    write_table(table_sfu(64));
+    print(b"PT 3 in both queues: ");
+    write_table(table_sfu(3));
     print(b"a process without a row: ");
+    write_table(table_unlisted(4));
+    print(b"an SFU process without a row: ");
+    write_table(table_unlisted(5));
+    print(b"a process of task 0: ");
+    write_table(table_unlisted(0));
+    print(b"an SFU process of task 0: ");
     write_table(table_unlisted(1));
 }
 
@@ -535,20 +601,50 @@ fn print_counts(c: Counts) {
     io::print_decimal(STDOUT_FILENO, c.trapped);
     print(b" I");
     io::print_decimal(STDOUT_FILENO, c.idle);
+    print(b" S");
+    io::print_decimal(STDOUT_FILENO, c.tries);
 }
 
-// Runs the state with these rows, table and register tags over a schedule; the first step of a task traps, as its code is not listed.
-fn run_state(rows: [Row; TASKS], n: usize, table: ProcessTable, schedule: &[u8], tags: &mut [u8]) {
+// The kind of the first row, and how many processes task 1 has in its queue and in its SFU queue.
+fn print_left(rows: [Row; TASKS], table: ProcessTable) {
+    let row = rows[0];
+    print(b", kind ");
+    io::print_hex(STDOUT_FILENO, row.kind as u64, 2);
+    let users = table.users;
+    let queues = users.queues;
+    print(b", queues");
+    print_kept(queues[2].len);
+    print_kept(queues[3].len);
+}
+
+// No listed code: a step traps.
+const UNLISTED: u64 = 7;
+
+// LODI of data word 0 into register 0, which waits until the word is full.
+const LOAD: u64 = 0x6C04_0000_4000_0000;
+
+// Runs the state with these rows, table, register tags and states of the data words over a schedule; each program word is this one.
+fn run_state(
+    rows: [Row; TASKS],
+    n: usize,
+    table: ProcessTable,
+    schedule: &[u8],
+    tags: &mut [u8],
+    program: u64,
+    data_state: u8,
+) {
+    let mut words = [WORD_MARK; 8];
+    let mut data_words = [WORD_MARK; 32];
     let x = hep::run_owned(
         rows,
         table,
         &[2; 3],
         &[5; 3],
         tags,
-        &mut [6; 8],
-        &[7; 16],
-        &mut [1; 32],
-        &mut [8; 32],
+        &mut words,
+        &[program; 16],
+        &mut [data_state; 32],
+        &mut data_words,
         schedule,
         sizes(n),
     );
@@ -557,16 +653,25 @@ fn run_state(rows: [Row; TASKS], n: usize, table: ProcessTable, schedule: &[u8],
         RunAnswer::Refused(e) => print_refusal(e),
         RunAnswer::Counted(c) => print_counts(c),
     }
-    let rows = x.rows;
-    let at = rows.at;
-    let row = at[0];
-    print(b", kind ");
-    io::print_hex(STDOUT_FILENO, row.kind as u64, 2);
+    let left = x.rows;
+    let at = left.at;
+    print_left(at, x.table);
+    print(b", kept");
+    print_kept(marked_words(&words));
+    print_kept(marked_words(&data_words));
     print(b"\n");
 }
 
 fn run_over(schedule: &[u8], tags: &mut [u8]) {
-    run_state(rows_from(trial_row()), 1, trial_table(), schedule, tags);
+    run_state(
+        rows_from(trial_row()),
+        1,
+        trial_table(),
+        schedule,
+        tags,
+        UNLISTED,
+        1,
+    );
 }
 
 fn run_trials() {
@@ -588,7 +693,39 @@ fn run_trials() {
     run_over(&[1; 65536], &mut [7; 8]);
 }
 
-// ---- live counts: tasks 1 to 7 with two processes each; an image of 866 bytes
+// Loads by task 1, whose processes have the PTs of this table, while data words are in this state.
+fn run_loads(table: ProcessTable, schedule: &[u8], data_state: u8) {
+    run_state(
+        rows_from(trial_row()),
+        1,
+        table,
+        schedule,
+        &mut [1; 8],
+        LOAD,
+        data_state,
+    );
+}
+
+fn try_trials() {
+    print(b"a load of an empty data word: ");
+    run_loads(trial_table(), &[1], 0);
+    print(b"and two items more: ");
+    run_loads(trial_table(), &[1, 1, 1], 0);
+    print(b"a try and a step of an empty data word: ");
+    run_loads(table_sfu(4), &[1], 0);
+    print(b"of a full one: ");
+    run_loads(table_sfu(4), &[1], 1);
+    print(b"and two items more: ");
+    run_loads(table_sfu(4), &[1, 1, 1], 1);
+    print(b"no try of task 2: ");
+    run_loads(table_sfu(4), &[2, 2], 1);
+    print(b"PT 3 in both queues: ");
+    run_loads(table_sfu(3), &[1], 1);
+    print(b"an SFU process without a row: ");
+    run_loads(table_unlisted(5), &[1], 1);
+}
+
+// ---- live counts: tasks 1 to 7 with two processes and an SFU process each; an image of 936 bytes
 
 fn listed(task: u8) -> Row {
     let mut row = trial_row();
@@ -596,16 +733,8 @@ fn listed(task: u8) -> Row {
     row
 }
 
-fn pair(first: u8, second: u8) -> Queue {
-    let mut queue = no_processes();
-    queue.pts[0] = first;
-    queue.pts[1] = second;
-    queue.len = 2;
-    queue
-}
-
 // Writes the state with these live counts and this total, and runs it.
-fn count_trial(live: [usize; TASKS], processes: usize) {
+fn count_trial(live: [usize; NUMBERS], count: usize) {
     let rows = [
         listed(1),
         listed(2),
@@ -615,65 +744,76 @@ fn count_trial(live: [usize; TASKS], processes: usize) {
         listed(6),
         listed(7),
     ];
+    let none = no_processes();
     let queues = [
+        none,
+        none,
         pair(0, 1),
-        pair(2, 3),
-        pair(4, 5),
+        single(2),
+        pair(3, 4),
+        single(5),
         pair(6, 7),
-        pair(8, 9),
-        pair(10, 11),
+        single(8),
+        pair(9, 10),
+        single(11),
         pair(12, 13),
+        single(14),
+        pair(15, 16),
+        single(17),
+        pair(18, 19),
+        single(20),
     ];
     let table = ProcessTable {
-        psw: [0; PTS],
-        queues,
-        flag: 0,
-        live,
-        processes,
+        users: Processes {
+            psw: [0; PTS],
+            queues,
+            flag: 0,
+            live,
+            count,
+        },
     };
-    let mut out = [MARK; 866];
+    let mut out = [MARK; 936];
     write_to(&mut out, rows, TASKS, table, &[2; 3], &[1; 8], &[1; 32]);
     print(b"    run: ");
-    run_state(rows, TASKS, table, &[1, 7], &mut [1; 8]);
+    run_state(rows, TASKS, table, &[1, 7], &mut [1; 8], UNLISTED, 1);
 }
 
-// The count of task k + 1 is n.
-fn miscount(k: usize, n: usize) {
-    if k < TASKS {
-        let mut live = [2; TASKS];
-        live[k] = n;
-        print(b"count of task ");
-        print_number(k + 1);
-        print(b" is ");
-        print_number(n);
-        print(b": ");
-        count_trial(live, 14);
-    }
+// The count of this task is n.
+fn miscount(task: usize, n: usize) {
+    let mut live = [0, 3, 3, 3, 3, 3, 3, 3];
+    live[task % NUMBERS] = n;
+    print(b"count of task ");
+    print_number(task);
+    print(b" is ");
+    print_number(n);
+    print(b": ");
+    count_trial(live, 21);
 }
 
 fn count_trials() {
-    print(b"counts of 2, total 14: ");
-    count_trial([2; TASKS], 14);
-    print(b"total 15: ");
-    count_trial([2; TASKS], 15);
-    print(b"total 13: ");
-    count_trial([2; TASKS], 13);
-    print(b"count of task 1 is 3, total 15: ");
-    count_trial([3, 2, 2, 2, 2, 2, 2], 15);
-    miscount(0, 3);
+    print(b"counts of 3, total 21: ");
+    count_trial([0, 3, 3, 3, 3, 3, 3, 3], 21);
+    print(b"total 22: ");
+    count_trial([0, 3, 3, 3, 3, 3, 3, 3], 22);
+    print(b"total 20: ");
+    count_trial([0, 3, 3, 3, 3, 3, 3, 3], 20);
+    print(b"count of task 1 is 4, total 22: ");
+    count_trial([0, 4, 3, 3, 3, 3, 3, 3], 22);
     miscount(0, 1);
-    miscount(1, 3);
-    miscount(1, 1);
-    miscount(2, 3);
-    miscount(2, 1);
-    miscount(3, 3);
-    miscount(3, 1);
-    miscount(4, 3);
-    miscount(4, 1);
-    miscount(5, 3);
-    miscount(5, 1);
-    miscount(6, 3);
-    miscount(6, 1);
+    miscount(1, 4);
+    miscount(1, 2);
+    miscount(2, 4);
+    miscount(2, 2);
+    miscount(3, 4);
+    miscount(3, 2);
+    miscount(4, 4);
+    miscount(4, 2);
+    miscount(5, 4);
+    miscount(5, 2);
+    miscount(6, 4);
+    miscount(6, 2);
+    miscount(7, 4);
+    miscount(7, 2);
 }
 
 // ---- step
@@ -731,8 +871,11 @@ fn main() {
     write_memories();
     write_rows();
     write_tables();
+    write_full_tables();
+    write_sfu_tables();
     read_state();
     run_trials();
+    try_trials();
     count_trials();
     step_trials();
 }

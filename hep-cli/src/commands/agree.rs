@@ -20,7 +20,7 @@ pub const COMMAND: Command = Command {
 };
 
 const COVERED: &str =
-    "covered by the isolation promise: registers, data words, processes and trap record are equal after both runs\n";
+    "covered by the isolation promise: registers, data words, both queues and trap record are equal after both runs\n";
 
 fn run(arguments: &Arguments) -> Result<Status, Failure> {
     let tasks = [files::task(arguments)?];

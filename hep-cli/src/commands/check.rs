@@ -5,8 +5,10 @@ use crate::arguments::Arguments;
 use crate::files::{self, IMAGE, INPUT};
 use crate::output;
 use crate::status::{Failure, Status};
+use hep_tools::emulator::draft::Draft;
 use hep_tools::tool::check::{faults, MOST_FIELDS};
 use hep_tools::tool::load::{not_of_this_machine, Trouble};
+use hep_tools::tool::show::unreached;
 use hep_tools::tool::text::MOST_ERRORS;
 
 pub const COMMAND: Command = Command {
@@ -14,8 +16,9 @@ pub const COMMAND: Command = Command {
     operands: "FILE..",
     summary: "what is wrong with each file, every bad field of it",
     about: "Says what is wrong with each file: of a text up to 20 errors, of bytes every bad field with its place, up to\n\
-            100, and up to a count or an end behind which nothing can be read. Quiet where nothing is wrong. The number\n\
-            of the first is the proved library's, the words and the others are those of hep-tools, not proved.",
+            100, and up to a count or an end behind which nothing can be read. Cells in no task's window, which no task\n\
+            can reach, are noted. Quiet where nothing is wrong. The number of the first is the proved library's, the\n\
+            words and the others are those of hep-tools, not proved.",
     options: &[INPUT, IMAGE],
     run,
 };
@@ -27,7 +30,7 @@ fn run(arguments: &Arguments) -> Result<Status, Failure> {
     let mut worst = Status::Done;
     for file in &arguments.files {
         let (status, words) = match files::open(file, arguments) {
-            Ok(Ok(_)) => (Status::Done, String::new()),
+            Ok(Ok(loaded)) => (Status::Done, notes(files::name(file), &loaded.source.draft)),
             Ok(Err(trouble)) => (Status::Refused, every(files::name(file), &trouble)),
             Err(failure) => (failure.status, failure.words),
         };
@@ -35,6 +38,11 @@ fn run(arguments: &Arguments) -> Result<Status, Failure> {
         worst = worst.max(status);
     }
     Ok(worst)
+}
+
+/// The cells of an accepted file that no task can reach.
+fn notes(name: &str, draft: &Draft) -> String {
+    unreached(draft).iter().map(|note| format!("{name}: note: {note}\n")).collect()
 }
 
 /// Each bad field in the likelier reading, and what the other reading is refused for.

@@ -18,9 +18,11 @@ pub const COMMAND: Command = Command {
     operands: "[JOBS]",
     summary: "which jobs go into a module together",
     about: "JOBS has a line for each of up to 15 jobs: its name and its register need, even and from 2 to 2,048; `;` starts\n\
-            a comment. Finds at most seven whose needs sum to at most 2,048 and to as much as possible, by the proved\n\
-            library, and writes the choice (a binary number, the first job being the last digit) with the names, its sum,\n\
-            the choices tried, and a ceiling that no choice's sum is above.",
+            a comment. A name may have several words; then the last is no number, so that two needs on a line are not\n\
+            taken for one. Finds at most seven whose needs sum to at most 2,048 and to as much as possible, by the\n\
+            proved library, and writes the choice (a binary number, the first job being the last digit) with the names,\n\
+            its sum, the choices tried, and a ceiling that no choice's sum is above. --join drops the names and labels\n\
+            of the jobs' texts, since two jobs may use one name for different things.",
     options: &[
         valued("tries", "N", "try the first N choices, not all"),
         valued("join", "FILE", "write the chosen jobs there as one text; names are then files, each of one task"),
@@ -63,14 +65,17 @@ fn listed(file: &str) -> Result<Vec<Wanted>, Failure> {
 }
 
 fn wanted(file: &str, number: usize, line: &str) -> Result<Wanted, Failure> {
-    let parts = line.rsplit_once(char::is_whitespace);
-    let need = parts.and_then(|(_, need)| need.parse().ok());
-    match (parts, need) {
-        (Some((name, _)), Some(need)) => Ok(Wanted { name: name.trim_end().to_string(), need }),
-        _ => {
-            let reason = format!("error: a line is a name and a number of registers, not `{line}`");
-            Err(Failure::refused(&format!("{}:{number}", files::name(file)), reason))
+    let place = format!("{}:{number}", files::name(file));
+    let refused = |reason: String| Err(Failure::refused(&place, format!("error: {reason}")));
+    let words: Vec<&str> = line.split_whitespace().collect();
+    let name = line.rsplit_once(char::is_whitespace).map(|(name, _)| name.trim_end().to_string());
+    let need = words.last().and_then(|need| need.parse().ok());
+    match (name, need, &words[..]) {
+        (_, Some(_), [_, .., before, _]) if before.parse::<u64>().is_ok() => {
+            refused(format!("`{line}` ends in two numbers, so it is not plain which is the need"))
         }
+        (Some(name), Some(need), _) => Ok(Wanted { name, need }),
+        _ => refused(format!("a line is a name and a number of registers, not `{line}`")),
     }
 }
 

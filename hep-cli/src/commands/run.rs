@@ -16,9 +16,10 @@ pub const COMMAND: Command = Command {
     operands: "[FILE..]",
     summary: "run each file by the proved library, and report",
     about: "Runs each file's schedule by the proved library and writes the report, of one file the very bytes that\n\
-            hep_batch writes, of several a line each: name, `accepted` or the refusal, counts. An image may have any\n\
-            size, a schedule any length: over 65,535 items it is run in slices, and the counts add up. Without FILE it\n\
-            reads standard input.",
+            hep_batch writes, of several a line each: name, `accepted` or the refusal, counts. The counts are items\n\
+            executed (E), waved (W), trapped (T), idle (I), tries of SFU queues (S) and the create fault flag (CF). An\n\
+            image may have any size, a schedule any length: over 65,535 items it is run in slices, and the counts add\n\
+            up. Without FILE it reads standard input.",
     options: &[
         INPUT,
         IMAGE,

@@ -14,8 +14,8 @@ pub const COMMAND: Command = Command {
     operands: "TASK [FILE]",
     summary: "what a task has after the run",
     about: "Runs the schedule by the proved library and writes what the task has then: trap record, status words from\n\
-            head to tail, registers and data words, each at its place in the window. Process numbers are left out. An\n\
-            image alone is shown as it is.",
+            head to tail (`sfu` for those in its SFU queue), registers and data words, each at its place in the window.\n\
+            Process numbers are left out. An image alone is shown as it is.",
     options: &[
         valued("registers", "A..B", "only the registers A to B, or A alone, in decimal: place, value, state"),
         valued("data", "A..B", "only the data words A to B, or A alone, in decimal: place, value, state"),

@@ -13,8 +13,8 @@ pub const COMMAND: Command = Command {
     summary: "sections with their places, tasks with their windows, processes",
     about: "Writes what a file has: its sections with their places in the bytes, counted from 0; each task with the real\n\
             addresses of its windows, its constants' base, live processes, trap record, and whether its register and\n\
-            data windows meet no other's; the processes from head to tail; notes on what may be a mistake. Of a refused\n\
-            file all that stands before the fault.",
+            data windows meet no other's; the processes from head to tail, each in its task's queue or its SFU queue;\n\
+            notes on what may be a mistake. Of a refused file all that stands before the fault.",
     options: &[SCHEDULE, OUTPUT, INPUT, IMAGE],
     run,
 };

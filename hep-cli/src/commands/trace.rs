@@ -1,4 +1,4 @@
-//! `hep trace`: a line for each step, or the counts of each instruction.
+//! `hep trace`: a line for each attempt, or the counts of each instruction.
 
 use super::{Command, OUTPUT};
 use crate::arguments::{flag, valued, Arguments, Opt};
@@ -16,18 +16,19 @@ pub const TO: Opt = valued("to", "ITEM", "only up to this item");
 pub const COMMAND: Command = Command {
     name: "trace",
     operands: "[FILE]",
-    summary: "a line for each step: what it wrote, or why it waits or traps",
-    about: "Runs the schedule and writes a line for each item: task, process number, PC in hex and as label+distance,\n\
-            instruction, ending, and what the step wrote or why it waits or traps, with the values that it read. `rN`\n\
-            and `data N` count from the window's start. Behind a data word stands the part of it that was named, as\n\
-            `(byte 7)`, unless it is the whole. The steps are those of hep-tools' emulator, not proved; the image that\n\
-            they end in is held to the proved library's.",
+    summary: "a line for each try and step: what it wrote, or why it waits or traps",
+    about: "Runs the schedule and writes a line for each attempt of an item, a `try` of the SFU queue's head and a `step` of\n\
+            the task's head: task, process number, PC in hex and as label+distance, instruction, ending, and what it\n\
+            wrote or why it waits or traps, with the values that it read. `rN` and `data N` count from the window's\n\
+            start. Behind a data word stands the part of it that was named, as `(byte 7)`, unless it is the whole. The\n\
+            attempts are those of hep-tools' emulator, not proved; the image that they end in is held to the proved\n\
+            library's.",
     options: &[
         valued("task", "N", "only this task"),
         FROM,
         TO,
-        valued("only", "ENDINGS", "only these endings, as `waved,trapped`"),
-        flag("profile", "how often each instruction was executed, waved and trapped, instead"),
+        valued("only", "ENDINGS", "only lines with these endings, as `waved,trapped`"),
+        flag("profile", "how often each instruction was executed, waved, trapped and tried, instead"),
         SCHEDULE,
         OUTPUT,
         INPUT,

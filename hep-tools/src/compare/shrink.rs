@@ -60,6 +60,7 @@ fn by_fields(mut source: Source, search: &mut Search) -> Source {
     chunks(best, search, |s| &mut s.draft.data, None);
     chunks(best, search, |s| &mut s.draft.constants, None);
     clear_status(best, search);
+    to_own_queues(best, search);
     source
 }
 
@@ -148,6 +149,15 @@ fn clear_status(source: &mut Source, search: &mut Search) {
     for i in 0..source.draft.tasks.len() {
         let mut changed = source.clone();
         changed.draft.tasks[i].cb = 0;
+        search.accept(source, changed);
+    }
+}
+
+/// Puts processes of SFU queues into their tasks' own.
+fn to_own_queues(source: &mut Source, search: &mut Search) {
+    for i in 0..source.draft.processes.len() {
+        let mut changed = source.clone();
+        changed.draft.processes[i].sfu = false;
         search.accept(source, changed);
     }
 }

@@ -121,7 +121,7 @@ pub fn report(machine: &Machine, counts: &Counts) -> String {
         };
         text += &format!("{task} {live} {trap}\n");
     }
-    let Counts { executed, waved, trapped, idle } = counts;
+    let Counts { executed, waved, trapped, idle, tries } = counts;
     let flag = u8::from(machine.create_fault());
-    text + &format!("E{executed} W{waved} T{trapped} I{idle} CF{flag}\n")
+    text + &format!("E{executed} W{waved} T{trapped} I{idle} S{tries} CF{flag}\n")
 }

@@ -21,11 +21,32 @@ impl Task {
     }
 }
 
+/// What the task byte of a process in an SFU queue has added.
+pub const SFU: u8 = 0x10;
+
 #[derive(Clone, Copy, PartialEq, Eq, Debug)]
 pub struct Process {
     pub pt: u8,
     pub task: u8,
+    /// Whether it is in its task's SFU queue.
+    pub sfu: bool,
     pub psw: u64,
+}
+
+impl Process {
+    /// A process in its task's own queue.
+    pub fn new(pt: u8, task: u8, psw: u64) -> Self {
+        Process { pt, task, sfu: false, psw }
+    }
+
+    /// The byte of its task and queue in an image.
+    pub fn task_byte(&self) -> u8 {
+        if self.sfu {
+            self.task.wrapping_add(SFU)
+        } else {
+            self.task
+        }
+    }
 }
 
 /// Constants, registers and data are pairs of quality, tag or state, and word.
@@ -47,7 +68,7 @@ impl Draft {
         self.tasks.iter().for_each(|task| put_task(&mut out, task));
         out.extend([self.processes.len() as u8, self.flag]);
         for process in &self.processes {
-            out.extend([process.pt, process.task]);
+            out.extend([process.pt, process.task_byte()]);
             put(&mut out, 8, process.psw);
         }
         put_tagged(&mut out, 2, &self.constants);

@@ -1,6 +1,6 @@
 //! Images: reading with refusals 1 to 6 and 12 to 14, and writing.
 
-use crate::emulator::draft::{Draft, Process, Task};
+use crate::emulator::draft::{Draft, Process, Task, SFU};
 use crate::emulator::machine::*;
 use crate::emulator::psw;
 use crate::emulator::refusal::*;
@@ -78,7 +78,7 @@ const TRAPPED_PSW: Field = of_task("trapped PSW", 8, u64::MAX);
 const PROCESS_COUNT: Field = count(Section::Processes, 1, PROCESSES);
 const FLAG: Field = of_process("create fault flag", 1, 1);
 const PT: Field = of_process("PT", 1, 63);
-const PROCESS_TASK: Field = of_process("task", 1, 7);
+const PROCESS_TASK: Field = of_process("task", 1, 0xFF);
 const PSW: Field = of_process("PSW", 8, u64::MAX);
 const CONSTANT_COUNT: Field = count(Section::Constants, 2, MOST_CONSTANTS);
 const QUALITY: Field = of_constant("quality", 1, 6);
@@ -203,17 +203,17 @@ fn processes(machine: &mut Machine, input: &mut Input) -> Refusable<Option<Refus
     let count = input.count(&PROCESS_COUNT)?;
     machine.flag = input.value(&FLAG)? == 1;
     let flag_place = input.place - FLAG.width;
-    let mut last = 0;
+    let mut last = Process::new(0, 0, 0);
     let mut twice = Ok(());
     for i in 0..count {
         input.entry = Some((i + 1, count));
         let pt = input.value(&PT)?;
         let used = machine.used >> pt & 1 != 0;
         twice = twice.and(input.require(!used, &PT, pt, || "stands twice".to_string()));
-        let task = process_task(machine, input, last)?;
-        last = task;
+        last = process_task(machine, input, last)?;
         machine.psws[pt as usize] = input.status_word(&PSW)?;
-        machine.join(task as usize, pt as usize);
+        let queue = if last.sfu { Attempt::Try } else { Attempt::Step };
+        machine.join(usize::from(last.task), queue, pt as usize);
     }
     let crowd = (!machine.flag && machine.used == u64::MAX).then(|| {
         let wrong = format!("0x00 must be 0x01 beside {PROCESSES} processes");
@@ -222,15 +222,20 @@ fn processes(machine: &mut Machine, input: &mut Input) -> Refusable<Option<Refus
     Ok(twice.err().or(crowd).map(|clash| Refusal { number: PROCESS, ..clash }))
 }
 
-/// A process's task, where that of the process before it is `last`.
-fn process_task(machine: &Machine, input: &mut Input, last: u64) -> Refusable<u64> {
-    let task = input.value(&PROCESS_TASK)?;
-    let listed = machine.rows[task as usize].listed;
+/// The task and queue of a process, where those of the process before it are `last`'s.
+fn process_task(machine: &Machine, input: &mut Input, last: Process) -> Refusable<Process> {
+    let byte = input.value(&PROCESS_TASK)?;
+    let task = byte as u8 & !SFU;
+    let tasks = || "is neither 0x01 to 0x07 nor 0x11 to 0x17".to_string();
+    input.require((1..8).contains(&task), &PROCESS_TASK, byte, tasks)?;
     let unlisted = || "is not listed in the task section".to_string();
-    input.require(listed, &PROCESS_TASK, task, unlisted)?;
-    let descends = || format!("is under {} of the process before it", hex(last, 1));
-    input.require(task >= last, &PROCESS_TASK, task, descends)?;
-    Ok(task)
+    let listed = machine.rows[usize::from(task)].listed;
+    input.require(listed, &PROCESS_TASK, byte, unlisted)?;
+    let process = Process { task, sfu: byte as u8 != task, ..last };
+    let before = || format!("belongs before 0x{:02X} of the process before it", last.task_byte());
+    let ascends = (last.task, last.sfu) <= (process.task, process.sfu);
+    input.require(ascends, &PROCESS_TASK, byte, before)?;
+    Ok(process)
 }
 
 fn constants(machine: &mut Machine, input: &mut Input) -> Refusable<()> {
@@ -365,7 +370,9 @@ fn drafted_task(machine: &Machine, number: u8) -> Task {
     }
 }
 
+/// The processes of a task's own queue, then those of its SFU queue.
 fn drafted_processes(machine: &Machine, task: u8) -> Vec<Process> {
-    let queue = machine.processes(task).into_iter();
-    queue.map(|(pt, psw)| Process { pt, task, psw }).collect()
+    let own = machine.processes(task).into_iter().map(|process| (process, false));
+    let waiting = machine.sfu_processes(task).into_iter().map(|process| (process, true));
+    own.chain(waiting).map(|((pt, psw), sfu)| Process { pt, task, sfu, psw }).collect()
 }

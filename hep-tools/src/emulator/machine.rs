@@ -20,7 +20,7 @@ const CELLS: usize = REGISTERS + CONSTANTS;
 
 pub const PROCESSES: usize = 64;
 
-/// How a step ended.
+/// How an attempt or an item ended.
 #[derive(Clone, Copy, PartialEq, Eq, Debug)]
 pub enum Ending {
     Executed,
@@ -29,13 +29,28 @@ pub enum Ending {
     Idle,
 }
 
-/// How many steps of a run ended each way.
+/// What an item attempts: a try of the SFU queue's head, a step of the own queue's head.
+#[derive(Clone, Copy, PartialEq, Eq, Debug)]
+pub enum Attempt {
+    Try,
+    Step,
+}
+
+/// How an item ended, and how its try did if it made one.
+#[derive(Clone, Copy, PartialEq, Eq, Debug)]
+pub struct Item {
+    pub tried: Option<Ending>,
+    pub ending: Ending,
+}
+
+/// How many items of a run ended each way, and how many tries they made.
 #[derive(Clone, Copy, PartialEq, Eq, Debug, Default)]
 pub struct Counts {
     pub executed: u64,
     pub waved: u64,
     pub trapped: u64,
     pub idle: u64,
+    pub tries: u64,
 }
 
 /// Base and limit as real addresses.
@@ -65,46 +80,31 @@ impl Window {
     }
 }
 
-/// A task: windows, trap record, and the ring of its process numbers. 128 bytes, so
-/// that a row is found by a shift.
+/// A ring of process numbers.
 #[derive(Clone, Copy)]
-pub(crate) struct Row {
-    pub listed: bool,
-    pub kind: u8,
-    pub head: u8,
-    /// Processes in the ring: the task's live count.
-    pub length: u8,
-    pub trapped: u64,
-    pub constant_base: u32,
-    pub registers: Window,
-    pub program: Window,
-    pub data: Window,
-    pub queue: [u8; PROCESSES],
+pub(crate) struct Queue {
+    head: u8,
+    length: u8,
+    ring: [u8; PROCESSES],
 }
 
-impl Row {
-    const UNLISTED: Row = Row {
-        listed: false,
-        kind: NO_TRAP,
-        head: 0,
-        length: 0,
-        trapped: 0,
-        constant_base: 0,
-        registers: Window { base: 0, limit: 0 },
-        program: Window { base: 0, limit: 0 },
-        data: Window { base: 0, limit: 0 },
-        queue: [0; PROCESSES],
-    };
+impl Queue {
+    const EMPTY: Queue = Queue { head: 0, length: 0, ring: [0; PROCESSES] };
+
+    #[inline(always)]
+    pub fn is_empty(&self) -> bool {
+        self.length == 0
+    }
 
     #[inline(always)]
     pub fn head(&self) -> usize {
-        usize::from(self.queue[usize::from(self.head & 63)])
+        usize::from(self.ring[usize::from(self.head & 63)])
     }
 
     #[inline(always)]
     pub fn push(&mut self, pt: usize) {
         let tail = self.head.wrapping_add(self.length) & 63;
-        self.queue[usize::from(tail)] = pt as u8;
+        self.ring[usize::from(tail)] = pt as u8;
         self.length += 1;
     }
 
@@ -118,8 +118,81 @@ impl Row {
     #[inline(always)]
     pub fn rotate(&mut self) {
         let tail = self.head.wrapping_add(self.length) & 63;
-        self.queue[usize::from(tail)] = self.head() as u8;
+        self.ring[usize::from(tail)] = self.head() as u8;
         self.head = self.head.wrapping_add(1) & 63;
+    }
+
+    /// The process numbers from head to tail.
+    fn numbers(&self) -> impl Iterator<Item = u8> + '_ {
+        let place = |i| usize::from(self.head.wrapping_add(i) & 63);
+        (0..self.length).map(move |i| self.ring[place(i)])
+    }
+}
+
+/// A task: windows, trap record, live count, and its two queues. A row is found by a shift.
+#[derive(Clone, Copy)]
+#[repr(align(256))]
+pub(crate) struct Row {
+    pub listed: bool,
+    pub kind: u8,
+    /// Processes in both queues.
+    pub live: u8,
+    pub trapped: u64,
+    pub constant_base: u32,
+    pub registers: Window,
+    pub program: Window,
+    pub data: Window,
+    /// The task's own queue.
+    pub queue: Queue,
+    /// The queue of the storage function unit.
+    pub sfu: Queue,
+}
+
+impl Row {
+    const UNLISTED: Row = Row {
+        listed: false,
+        kind: NO_TRAP,
+        live: 0,
+        trapped: 0,
+        constant_base: 0,
+        registers: Window { base: 0, limit: 0 },
+        program: Window { base: 0, limit: 0 },
+        data: Window { base: 0, limit: 0 },
+        queue: Queue::EMPTY,
+        sfu: Queue::EMPTY,
+    };
+
+    /// The queue whose head this attempt takes.
+    #[inline(always)]
+    pub fn attempted(&mut self, attempt: Attempt) -> &mut Queue {
+        match attempt {
+            Attempt::Try => &mut self.sfu,
+            Attempt::Step => &mut self.queue,
+        }
+    }
+
+    /// The head that this attempt took goes to the tail of the task's own queue.
+    #[inline(always)]
+    pub fn head_to_own_tail(&mut self, attempt: Attempt) {
+        match attempt {
+            Attempt::Try => {
+                self.queue.push(self.sfu.head());
+                self.sfu.pop();
+            }
+            Attempt::Step => self.queue.rotate(),
+        }
+    }
+
+    /// The head that this attempt took goes to the tail of the SFU queue.
+    #[inline(always)]
+    pub fn head_to_sfu_tail(&mut self, attempt: Attempt) {
+        match attempt {
+            Attempt::Try => self.sfu.rotate(),
+            Attempt::Step => {
+                self.sfu.push(self.queue.head());
+                self.queue.pop();
+            }
+        }
     }
 }
 
@@ -160,11 +233,13 @@ impl Machine {
         }
     }
 
-    /// Takes the items in turn and counts the endings.
+    /// Takes the items in turn and counts their endings and tries.
     pub fn run(&mut self, schedule: &[u8]) -> Counts {
         let mut counts = Counts::default();
         for &task in schedule {
-            match self.step(task) {
+            let Item { tried, ending } = self.item(task);
+            counts.tries += u64::from(tried.is_some());
+            match ending {
                 Ending::Executed => counts.executed += 1,
                 Ending::Waved => counts.waved += 1,
                 Ending::Trapped { .. } => counts.trapped += 1,
@@ -174,18 +249,22 @@ impl Machine {
         counts
     }
 
-    /// A process joins at a task's tail.
+    /// A process joins at the tail of one of a task's queues.
     #[inline(always)]
-    pub(crate) fn join(&mut self, task: usize, pt: usize) {
-        self.rows[task].push(pt);
+    pub(crate) fn join(&mut self, task: usize, attempted: Attempt, pt: usize) {
+        let row = &mut self.rows[task];
+        row.attempted(attempted).push(pt);
+        row.live += 1;
         self.used |= 1 << pt;
         self.live_total += 1;
     }
 
-    /// A task's head, of this process number, leaves.
+    /// The head that this attempt took, of this process number, leaves.
     #[inline(always)]
-    pub(crate) fn leave(&mut self, task: usize, pt: usize) {
-        self.rows[task].pop();
+    pub(crate) fn leave(&mut self, task: usize, attempt: Attempt, pt: usize) {
+        let row = &mut self.rows[task];
+        row.attempted(attempt).pop();
+        row.live -= 1;
         self.used &= !(1 << pt);
         self.live_total -= 1;
     }
@@ -197,7 +276,7 @@ impl Machine {
 
     /// A task's live processes, as stored; 0 if it is unlisted.
     pub fn live_count(&self, task: u8) -> u8 {
-        self.rows[usize::from(task)].length
+        self.rows[usize::from(task)].live
     }
 
     /// The live processes of all tasks, as stored.
@@ -205,12 +284,18 @@ impl Machine {
         self.live_total
     }
 
-    /// Process numbers and status words of a task, from head to tail.
+    /// Process numbers and status words of a task's own queue, from head to tail.
     pub fn processes(&self, task: u8) -> Vec<(u8, u64)> {
-        let row = &self.rows[usize::from(task)];
-        let place = |i| usize::from(row.head.wrapping_add(i) & 63);
-        let pts = (0..row.length).map(|i| row.queue[place(i)]);
-        pts.map(|pt| (pt, self.psws[usize::from(pt)])).collect()
+        self.with_status(&self.rows[usize::from(task)].queue)
+    }
+
+    /// Process numbers and status words of a task's SFU queue, from head to tail.
+    pub fn sfu_processes(&self, task: u8) -> Vec<(u8, u64)> {
+        self.with_status(&self.rows[usize::from(task)].sfu)
+    }
+
+    fn with_status(&self, queue: &Queue) -> Vec<(u8, u64)> {
+        queue.numbers().map(|pt| (pt, self.psws[usize::from(pt)])).collect()
     }
 
     /// A task's trap record: kind and status word.
@@ -262,8 +347,8 @@ mod tests {
     fn counted(machine: &Machine) -> ([u8; 8], u8) {
         let mut in_use = machine.used;
         let counts = machine.rows.each_ref().map(|row| {
-            let ring = row.queue.iter().cycle().skip(usize::from(row.head));
-            ring.take(usize::from(row.length)).fold(0, |count, &pt| {
+            let in_both = row.queue.numbers().chain(row.sfu.numbers());
+            in_both.fold(0, |count, pt| {
                 let found = in_use >> pt & 1;
                 in_use &= !(1 << pt);
                 count + found as u8
@@ -282,7 +367,7 @@ mod tests {
             assert_eq!(stored(&machine), counted(&machine), "input {n}, loaded");
             for (item, &task) in schedule.iter().enumerate() {
                 let in_use = machine.used;
-                let ending = machine.step(task);
+                let Item { ending, .. } = machine.item(task);
                 assert_eq!(stored(&machine), counted(&machine), "input {n}, behind item {item}");
                 faults += usize::from(matches!(ending, Ending::Trapped { kind: CREATE_FAULT, .. }));
                 quits += usize::from(in_use & !machine.used != 0);

@@ -1,4 +1,4 @@
-//! One step of a task: the checks in order, then the operation.
+//! One item of a task: a try, a step, or both; each makes the checks in order, then the operation.
 
 use crate::emulator::arithmetic::{add, bit, leftmost, mul, sub};
 use crate::emulator::codes::{decode, forbidden, Op};
@@ -21,17 +21,20 @@ const DESTINATION_UNMET: u8 = 1 << 3 | 1 << 4 | 1 << 6;
 /// The running process and its instruction.
 #[derive(Clone, Copy)]
 struct At {
+    attempt: Attempt,
     task: usize,
     pt: usize,
     psw: u64,
     word: u64,
 }
 
-/// Why a step isn't executed: waved, or the trap of that kind.
+/// Why an attempt isn't executed: it waits, for a data word or for another thing, or the trap of
+/// that kind.
 #[derive(Clone, Copy, PartialEq, Eq)]
 #[repr(u8)]
 enum Stop {
     Wave = NO_TRAP,
+    DataWave = NO_TRAP - 1,
     CreateFault = CREATE_FAULT,
     Illegal = ILLEGAL,
     Protection = PROTECTION,
@@ -39,6 +42,13 @@ enum Stop {
     SupervisorCall = SUPERVISOR_CALL,
     Simulated = SIMULATED,
     DataException = DATA_EXCEPTION,
+}
+
+impl At {
+    /// Where only the operands count: status word and instruction of a task.
+    fn of(task: u8, psw: u64, word: u64) -> Self {
+        At { attempt: Attempt::Step, task: usize::from(task), pt: 0, psw, word }
+    }
 }
 
 type Outcome = Result<(), Stop>;
@@ -88,40 +98,79 @@ fn address(sources: &[Source]) -> u64 {
 }
 
 impl Machine {
-    /// One step of a task.
+    /// The attempts of a task's item in turn, none if it is idle; one that traps is the last.
     #[inline(always)]
-    pub fn step(&mut self, task: u8) -> Ending {
-        let task = usize::from(task);
-        let Some(row) = self.rows.get(task) else {
-            return Ending::Idle;
+    pub fn attempts(&self, task: u8) -> &'static [Attempt] {
+        let Some(row) = self.rows.get(usize::from(task)).filter(|row| row.kind == NO_TRAP) else {
+            return &[];
         };
-        if row.length == 0 || row.kind != NO_TRAP {
-            return Ending::Idle;
-        }
-        let pt = row.head();
-        let psw = self.psws[pt];
-        let Some(real) = row.program.real(psw::pc(psw)) else {
-            return self.trap(task, Stop::Protection);
-        };
-        let word = self.program[real as usize];
-        match self.execute(At { task, pt, psw, word }) {
-            Ok(()) => Ending::Executed,
-            Err(Stop::Wave) => {
-                self.rows[task].rotate();
-                Ending::Waved
-            }
-            Err(stop) => self.trap(task, stop),
+        match (row.sfu.is_empty(), row.queue.is_empty()) {
+            (true, true) => &[],
+            (true, false) => &[Attempt::Step],
+            (false, true) => &[Attempt::Try],
+            (false, false) => &[Attempt::Try, Attempt::Step],
         }
     }
 
-    /// Traps the head process; PC is past the instruction for kinds 1A and 00.
+    /// One item of a task; it ends as its last attempt does.
+    #[inline(always)]
+    pub fn item(&mut self, task: u8) -> Item {
+        match self.attempts(task) {
+            [Attempt::Step] => Item { tried: None, ending: self.attempt(task, Attempt::Step) },
+            attempts => self.item_of(task, attempts),
+        }
+    }
+
+    /// An item of these attempts; apart from `item`, so that an item of a step alone is fast.
     #[cold]
-    fn trap(&mut self, task: usize, stop: Stop) -> Ending {
+    #[inline(never)]
+    fn item_of(&mut self, task: u8, attempts: &[Attempt]) -> Item {
+        let mut item = Item { tried: None, ending: Ending::Idle };
+        for &attempt in attempts {
+            item.ending = self.attempt(task, attempt);
+            if attempt == Attempt::Try {
+                item.tried = Some(item.ending);
+            }
+            if let Ending::Trapped { .. } = item.ending {
+                break;
+            }
+        }
+        item
+    }
+
+    /// One attempt of an item, of the queue's head.
+    #[inline(always)]
+    pub fn attempt(&mut self, task: u8, attempt: Attempt) -> Ending {
+        let task = usize::from(task);
         let row = &mut self.rows[task];
-        let running = &mut self.psws[row.head()];
+        let pt = row.attempted(attempt).head();
+        let psw = self.psws[pt];
+        let Some(real) = row.program.real(psw::pc(psw)) else {
+            return self.trap(task, pt, Stop::Protection);
+        };
+        let word = self.program[real as usize];
+        match self.execute(At { attempt, task, pt, psw, word }) {
+            Ok(()) => Ending::Executed,
+            Err(Stop::Wave) if attempt == Attempt::Step => {
+                self.rows[task].queue.rotate();
+                Ending::Waved
+            }
+            Err(Stop::Wave | Stop::DataWave) => {
+                self.rows[task].head_to_sfu_tail(attempt);
+                Ending::Waved
+            }
+            Err(stop) => self.trap(task, pt, stop),
+        }
+    }
+
+    /// Traps a process, which stays head; PC is past the instruction for kinds 1A and 00.
+    #[cold]
+    fn trap(&mut self, task: usize, pt: usize, stop: Stop) -> Ending {
+        let running = &mut self.psws[pt];
         if matches!(stop, Stop::SupervisorCall | Stop::CreateFault) {
             *running = psw::next(*running);
         }
+        let row = &mut self.rows[task];
         row.kind = stop as u8;
         row.trapped = *running;
         Ending::Trapped { kind: row.kind, psw: row.trapped }
@@ -187,7 +236,7 @@ impl Machine {
 
     /// The cell that the ith of an instruction's three fields names as an operand.
     pub(crate) fn operand_cell(&self, task: u8, psw: u64, word: u64, i: usize) -> Option<usize> {
-        let at = At { task: usize::from(task), pt: 0, psw, word };
+        let at = At::of(task, psw, word);
         self.place(&at, 32 - 16 * i as u32).ok().map(|place| place.cell)
     }
 
@@ -198,7 +247,7 @@ impl Machine {
             Op::Lodx | Op::Stox => &[S1, S2],
             _ => return None,
         };
-        let at = At { task: usize::from(task), pt: 0, psw, word };
+        let at = At::of(task, psw, word);
         let source = |&field: &u32| {
             let place = self.place(&at, field).ok()?;
             Some(Source { place, word: self.words[place.cell] })
@@ -288,11 +337,11 @@ impl Machine {
         self.tags[d.cell] = if d.access == 3 { quality | EMPTY } else { quality };
     }
 
-    /// The process goes to the tail with this status word.
+    /// The process goes to the tail of its task's own queue with this status word.
     #[inline(always)]
     fn advance(&mut self, at: At, psw: u64) -> Outcome {
         self.psws[at.pt] = psw;
-        self.rows[at.task].rotate();
+        self.rows[at.task].head_to_own_tail(at.attempt);
         Ok(())
     }
 
@@ -344,7 +393,7 @@ impl Machine {
         if !leaves {
             return self.advance(at, psw::next(at.psw));
         }
-        self.leave(at.task, at.pt);
+        self.leave(at.task, at.attempt, at.pt);
         Ok(())
     }
 
@@ -365,11 +414,11 @@ impl Machine {
         self.psws[created] = psw::merge(next, s1.word, at.word >> 48);
         if usize::from(self.live_total) + 1 == PROCESSES {
             self.flag = true;
-            self.join(at.task, created);
+            self.join(at.task, Attempt::Step, created);
             return Err(Stop::CreateFault);
         }
         self.advance(at, next)?;
-        self.join(at.task, created);
+        self.join(at.task, Attempt::Step, created);
         Ok(())
     }
 
@@ -392,7 +441,7 @@ impl Machine {
         let loaded = part::loaded(at.word, address, self.data[place]).ok_or(Stop::Illegal)?;
         let sac = at.word >> 50 & 3;
         if sac != 0 && self.full[place] == 0 {
-            return Err(Stop::Wave);
+            return Err(Stop::DataWave);
         }
         self.release(&sources);
         if sac == 2 {
@@ -412,7 +461,7 @@ impl Machine {
         let stored = stored.ok_or(Stop::Illegal)?;
         let dac = at.word >> 48 & 3;
         if dac == 2 && self.full[place] == 1 {
-            return Err(Stop::Wave);
+            return Err(Stop::DataWave);
         }
         self.release(&sources);
         self.data[place] = stored;

@@ -40,21 +40,24 @@ fn process(draft: &mut Draft, random: &mut Random) {
     let place = random.below(count) as usize;
     let other = draft.processes[random.below(count) as usize];
     let process = &mut draft.processes[place];
-    match random.below(7) {
+    match random.below(9) {
         0 => process.pt = other.pt,
         1 => process.pt |= 0x40 << random.below(2),
         2 => process.task = random.below(9) as u8,
         3 => process.psw ^= 1 << random.below(64),
         4 => draft.flag = random.draw() as u8,
         5 => crowd(draft, random.pick(&[64, 65])),
+        6 => process.task |= 8 << random.below(5),
+        7 => process.sfu = !process.sfu,
         _ => draft.processes.reverse(),
     }
 }
 
-/// As many processes as that, all of the last one's task, with the flag down.
+/// As many processes as that, all of the last one's task and half in its SFU queue, with the flag down.
 fn crowd(draft: &mut Draft, count: u8) {
     let task = draft.processes[draft.processes.len() - 1].task;
-    draft.processes = (0..count).map(|pt| Process { pt, task, psw: 0 }).collect();
+    let process = |pt| Process { sfu: pt >= count / 2, ..Process::new(pt, task, 0) };
+    draft.processes = (0..count).map(process).collect();
     draft.flag = 0;
 }
 

@@ -19,6 +19,9 @@ const REGISTER_UNIT: u64 = 2;
 const PROGRAM_UNIT: u64 = 16;
 const DATA_UNIT: u64 = 32;
 
+/// How many processes in a hundred start in an SFU queue.
+pub const WAITING: [u64; 6] = [0, 0, 20, 60, 100, 100];
+
 /// How large an image is.
 #[derive(Clone, Copy, PartialEq, Eq)]
 pub enum Size {
@@ -166,16 +169,18 @@ fn add_processes(draft: &mut Draft, random: &mut Random) {
     }
     let tasks = draft.tasks.len() as u64;
     let count = match random.below(12) {
-        0 => random.between(58, 64),
+        0 => random.pick(&[58, 60, 61, 62, 62, 63, 63, 63, 63, 64]),
         1 => random.between(0, 64),
         2 => tasks,
         _ => random.between(tasks, 3 * tasks),
     };
-    let mut owners: Vec<Task> = (0..count).map(|i| owner(draft, i, random)).collect();
-    owners.sort_by_key(|task| task.number);
+    let waiting = random.pick(&WAITING);
+    let owned = |i| (owner(draft, i, random), random.chance(waiting));
+    let mut owners: Vec<(Task, bool)> = (0..count).map(owned).collect();
+    owners.sort_by_key(|(task, sfu)| (task.number, *sfu));
     let numbers = process_numbers(random);
     let marked = draft.constants.iter().any(|constant| constant.0 == UNSET);
-    for (task, pt) in owners.iter().zip(numbers) {
+    for ((task, sfu), pt) in owners.into_iter().zip(numbers) {
         let program = (u64::from(task.pl) + 1).saturating_sub(u64::from(task.pb)) * PROGRAM_UNIT;
         // A mask for the constants that aren't set.
         let utm = if marked && random.chance(30) { UNSET_MASK } else { 0 };
@@ -184,7 +189,7 @@ fn add_processes(draft: &mut Draft, random: &mut Random) {
         } else {
             values::status(random, program) | psw(0, 0, utm, 0)
         };
-        draft.processes.push(Process { pt, task: task.number, psw });
+        draft.processes.push(Process { pt, task: task.number, sfu, psw });
     }
     draft.flag = u8::from(count == 64 || random.chance(4));
 }

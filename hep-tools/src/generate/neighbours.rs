@@ -33,6 +33,7 @@ pub fn pair(random: &mut Random) -> Pair {
         0 => other.push(task),
         1 => disagree(&mut second, task),
         2 => disagree_on_constants(&mut second, random),
+        3 => disagree_on_the_queue(&mut second, task),
         _ => {}
     }
     Pair {
@@ -93,6 +94,19 @@ fn disagree(draft: &mut Draft, number: u8) {
     }
 }
 
+/// Puts the first process of the task's SFU queue at its own queue's tail, or else its own queue's last into the SFU queue.
+fn disagree_on_the_queue(draft: &mut Draft, number: u8) {
+    let in_queue =
+        |sfu: bool| move |process: &&mut Process| (process.task, process.sfu) == (number, sfu);
+    let waiting = draft.processes.iter_mut().find(in_queue(true));
+    if let Some(process) = waiting {
+        process.sfu = false;
+        return;
+    }
+    let last = draft.processes.iter_mut().rfind(in_queue(false));
+    last.into_iter().for_each(|process| process.sfu = true);
+}
+
 /// Puts back the cells of a window.
 fn keep<T: Clone>(cells: &mut [T], from: &[T], window: std::ops::Range<usize>) {
     if !window.is_empty() {
@@ -118,13 +132,15 @@ fn add_processes(draft: &mut Draft, first: &Draft, number: u8, random: &mut Rand
     let neighbours: Vec<u8> =
         draft.tasks.iter().map(|task| task.number).filter(|task| *task != number).collect();
     let room = 63_usize.saturating_sub(processes.len()).min(if random.chance(10) { 60 } else { 8 });
+    let waiting = random.pick(&layout::WAITING);
     if !neighbours.is_empty() {
         for _ in 0..random.below(room as u64 + 1) {
             let (task, psw) = (random.pick(&neighbours), values::status(random, 48));
-            processes.push(Process { pt: 0, task, psw });
+            let sfu = random.chance(waiting);
+            processes.push(Process { sfu, ..Process::new(0, task, psw) });
         }
     }
-    processes.sort_by_key(|process| process.task);
+    processes.sort_by_key(|process| (process.task, process.sfu));
     for (process, pt) in processes.iter_mut().zip(layout::process_numbers(random)) {
         process.pt = pt;
     }

@@ -20,6 +20,10 @@ struct Author<'a> {
     accessed: u64,
     /// How many instructions create or quit for a hundred of the usual ones.
     turnover: u64,
+    /// How many instructions load or store beside those.
+    traffic: u64,
+    /// How many loads and stores in a hundred wait for a data state.
+    awaited: u64,
 }
 
 /// From so many processes on some programs create and quit a lot.
@@ -34,7 +38,8 @@ pub fn fill(draft: &mut Draft, size: Size, random: &mut Random) {
         Size::Any => (random.pick(&[0, 2, 8, 30]), random.pick(&[0, 0, 2, 8, 40])),
         Size::Small => (random.pick(&[0, 10, 40]), random.pick(&[0, 8, 20, 40])),
     };
-    let turnover = if draft.processes.len() < CROWD { 0 } else { random.pick(&[0, 40, 100]) };
+    let turnover = if draft.processes.len() < CROWD { 0 } else { random.pick(&[0, 60, 200]) };
+    let (traffic, awaited) = random.pick(&[(0, 20), (0, 20), (0, 60), (100, 20), (100, 60)]);
     for task in draft.tasks.clone() {
         if task.pb > task.pl {
             continue;
@@ -42,8 +47,18 @@ pub fn fill(draft: &mut Draft, size: Size, random: &mut Random) {
         let length = (u64::from(task.pl) - u64::from(task.pb) + 1) * 16;
         let registers = (u64::from(task.rl) + 1).saturating_sub(u64::from(task.rb)) * 2;
         let constants = draft.constants.len() as u64;
-        let mut author =
-            Author { random, task, constants, registers, length, strays, accessed, turnover };
+        let mut author = Author {
+            random,
+            task,
+            constants,
+            registers,
+            length,
+            strays,
+            accessed,
+            turnover,
+            traffic,
+            awaited,
+        };
         let first = usize::from(task.pb) * 16;
         for word in &mut draft.program[first..][..length as usize] {
             *word = author.instruction();
@@ -56,6 +71,9 @@ impl Author<'_> {
     fn instruction(&mut self) -> u64 {
         if self.random.rarely(self.strays) {
             return self.stray();
+        }
+        if self.random.below(100 + self.turnover + self.traffic) < self.traffic {
+            return if self.random.chance(50) { self.load() } else { self.store() };
         }
         match self.random.below(100 + self.turnover) {
             0..=1 => word(NOP, 0, 0, 0),
@@ -126,7 +144,7 @@ impl Author<'_> {
     }
 
     fn load(&mut self) -> u64 {
-        let access = self.random.pick(&[0, 0, 0, 0, SAC_FULL, SAC_FULL, SAC_TAKE]) | self.byte();
+        let access = self.awaited(&[SAC_FULL, SAC_TAKE]) | self.byte();
         let (d, address) = (self.destination(), self.address());
         if self.random.chance(50) {
             return word(LODI | access, d, address, 0);
@@ -136,7 +154,7 @@ impl Author<'_> {
     }
 
     fn store(&mut self) -> u64 {
-        let access = self.random.pick(&[0, 0, 0, 0, 0, 0, DAC_EMPTY]) | self.byte();
+        let access = self.awaited(&[0, DAC_EMPTY]) | self.byte();
         let (value, address) = (self.source(), self.address());
         if self.random.chance(50) {
             return word(STOI | access, 0, address, value);
@@ -145,9 +163,18 @@ impl Author<'_> {
         word(STOX | access, value, address, index)
     }
 
+    /// One of these data access codes, or none.
+    fn awaited(&mut self, choices: &[u16]) -> u16 {
+        if self.random.chance(self.awaited) {
+            self.random.pick(choices)
+        } else {
+            0
+        }
+    }
+
     /// The bit B, now and then.
     fn byte(&mut self) -> u16 {
-        if self.random.chance(20) {
+        if self.random.chance(15) {
             BYTE
         } else {
             0

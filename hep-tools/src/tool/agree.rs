@@ -102,10 +102,10 @@ fn of_task(task: u8, drafts: [&Draft; 2]) -> Vec<(&'static str, Held)> {
     premises.push(("program words", same("word ", &words[0], &words[1], |word| text::show(*word))));
     premises.push(("registers", same("r", &a.registers, &b.registers, text::register)));
     premises.push(("data words", same("data ", &a.data, &b.data, text::data)));
-    premises.push((
-        "processes",
-        same("process ", &a.processes, &b.processes, |psw| text::psw_fields(*psw)),
-    ));
+    let queues = [("task's queue", &a.processes, &b.processes), ("SFU queue", &a.sfu, &b.sfu)];
+    premises.extend(queues.map(|(name, first, second)| {
+        (name, same("process ", first, second, |psw| text::psw_fields(*psw)))
+    }));
     let records = [(a.kind, a.trapped), (b.kind, b.trapped)];
     let shown = records.map(|(kind, psw)| match kind {
         NO_TRAP => "none".to_string(),

@@ -68,9 +68,10 @@ fn add(joined: &mut Draft, number: u8, job: &Job) -> Result<(), String> {
     let [rb, rl, pb, pl] = [rb, rl, pb, pl].map(|field| field as u16);
     let [db, dl] = [db, dl].map(|field| field as u32);
     joined.tasks.push(Task { number, rb, rl, pb, pl, db, dl, ..task });
-    for psw in own.processes {
+    let waiting = own.sfu.into_iter().map(|psw| (psw, true));
+    for (psw, sfu) in own.processes.into_iter().map(|psw| (psw, false)).chain(waiting) {
         let pt = joined.processes.len() as u8;
-        joined.processes.push(Process { pt, task: number, psw });
+        joined.processes.push(Process { sfu, ..Process::new(pt, number, psw) });
     }
     Ok(())
 }

@@ -162,7 +162,7 @@ pub fn open(bytes: &[u8], reading: Option<Reading>) -> Result<Loaded, Trouble> {
 /// A text whose letters at this place are not in UTF-8.
 fn other_letters(bytes: &[u8], place: usize) -> Trouble {
     let before = String::from_utf8_lossy(&bytes[..place]);
-    let line = before.split('\n').last().unwrap_or_default();
+    let line = before.rsplit('\n').next().unwrap_or_default();
     let error = Error {
         line: before.matches('\n').count() + 1,
         column: line.chars().count() + 1,

@@ -1,4 +1,4 @@
-//! Why a step waits or traps, in words: the first check that fails. Neither changes a cell, so the state after the step has what it read.
+//! Why an attempt waits or traps, in words: the first check that fails. Neither changes a cell, so the state after it has what it read.
 
 use super::taken::{Cell, Operand, Taken};
 use super::text::{self, Symbols};
@@ -7,7 +7,7 @@ use crate::emulator::machine::*;
 use crate::emulator::part::Part;
 use crate::emulator::psw;
 
-/// A cell that a step waits for.
+/// A cell that an attempt waits for.
 pub struct Unmet {
     pub cell: Cell,
     pub name: String,
@@ -15,7 +15,7 @@ pub struct Unmet {
     pub empty: bool,
 }
 
-/// Where a step was taken, and the names for it.
+/// Where an attempt was made, and the names for it.
 #[derive(Clone, Copy)]
 pub struct Look<'a> {
     pub machine: &'a Machine,
@@ -23,7 +23,7 @@ pub struct Look<'a> {
     pub taken: &'a Taken,
 }
 
-/// Why the step was waved or trapped, with the values that it read; nothing if it was neither.
+/// Why the attempt was waved or trapped, with the values that it read; nothing if it was neither.
 pub fn reason(look: Look, ending: Ending) -> String {
     let said = match ending {
         Ending::Waved => look.waits(),
@@ -85,14 +85,29 @@ impl Look<'_> {
         vec![Unmet { cell: Cell::Data(place), name, empty }]
     }
 
+    /// The names of what it waits for.
+    pub fn waited_for(&self) -> String {
+        match &self.unmet()[..] {
+            [] => "the create fault flag".to_string(),
+            unmet => unmet.iter().map(|unmet| &unmet.name[..]).collect::<Vec<_>>().join(" and "),
+        }
+    }
+
+    /// Whether it waits in the SFU queue: a step for a data word, a try for anything.
+    fn in_sfu_queue(&self, unmet: &[Unmet]) -> bool {
+        let for_data = unmet.iter().any(|unmet| matches!(unmet.cell, Cell::Data(_)));
+        self.taken.attempt == Attempt::Try || for_data
+    }
+
     fn waits(&self) -> String {
         let unmet = self.unmet();
+        let place = if self.in_sfu_queue(&unmet) { " in the SFU queue" } else { "" };
         if unmet.is_empty() {
-            return "waits: the create fault flag is up".to_string();
+            return format!("waits{place}: the create fault flag is up");
         }
         let state = |empty| if empty { "empty" } else { "full" };
         let unmet = unmet.iter().map(|unmet| format!("{} is {}", unmet.name, state(unmet.empty)));
-        format!("waits until {}", unmet.collect::<Vec<_>>().join(" and "))
+        format!("waits{place} until {}", unmet.collect::<Vec<_>>().join(" and "))
     }
 
     fn trapped(&self, kind: u8) -> String {

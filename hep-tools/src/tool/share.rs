@@ -7,12 +7,14 @@ use crate::tool::text;
 use std::fmt;
 use std::ops::{Range, RangeInclusive};
 
-/// Trap record, status words from head to tail, and the cells of the windows.
+/// Trap record, status words of both queues from head to tail, and the cells of the windows.
 #[derive(Clone, PartialEq, Eq, Debug)]
 pub struct Share {
     pub kind: u8,
     pub trapped: u64,
     pub processes: Vec<u64>,
+    /// The SFU queue.
+    pub sfu: Vec<u64>,
     pub registers: Vec<(u8, u64)>,
     pub data: Vec<(u8, u64)>,
 }
@@ -54,11 +56,15 @@ fn cells<T: Clone>(memory: &[T], addresses: Range<usize>) -> Vec<T> {
 /// The share of a listed task in an accepted image.
 pub fn share(draft: &Draft, number: u8) -> Option<Share> {
     let task = draft.tasks.iter().find(|task| task.number == number)?;
-    let own = draft.processes.iter().filter(|process| process.task == number);
+    let queue = |sfu: bool| {
+        let own = draft.processes.iter().filter(|process| process.task == number);
+        own.filter(|process| process.sfu == sfu).map(|process| process.psw).collect()
+    };
     Some(Share {
         kind: task.kind,
         trapped: task.trapped,
-        processes: own.map(|process| process.psw).collect(),
+        processes: queue(false),
+        sfu: queue(true),
         registers: cells(&draft.registers, registers(task)),
         data: cells(&draft.data, data(task)),
     })
@@ -82,6 +88,9 @@ impl Share {
         };
         for &psw in &self.processes {
             out += &format!("process {}\n", psw_shown(psw));
+        }
+        for &psw in &self.sfu {
+            out += &format!("process sfu {}\n", psw_shown(psw));
         }
         for (place, register) in self.registers.iter().enumerate() {
             out += &format!("r{place} {}\n", text::register(register));

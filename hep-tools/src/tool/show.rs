@@ -1,11 +1,15 @@
 //! What a file has: sections with their places in its bytes, tasks with their windows, processes; of refused bytes up to the fault.
 
 use super::load::{not_of_this_machine, Loaded, Reading, Trouble};
-use super::share::{meetings, window_shown, windows_of};
+use super::share::{self, meetings, window_shown, windows_of};
 use super::text::{psw_fields, Source};
 use crate::emulator::batch;
-use crate::emulator::draft::{Draft, Process, Task};
+use crate::emulator::draft::{Draft, Process, Task, SFU};
 use crate::emulator::machine::NO_TRAP;
+use std::ops::Range;
+
+/// The real addresses of one of a row's windows.
+type Window = fn(&Task) -> Range<usize>;
 
 /// A section's name, the bytes of its count, those between it and the entries (the flag), those of an entry, and the most entries.
 const SECTIONS: [(&str, usize, usize, usize, usize); 6] = [
@@ -108,7 +112,7 @@ fn tasks(draft: &Draft) -> String {
     );
     for task in &draft.tasks {
         let [registers, program, data] = windows_of(task).map(window_shown);
-        let live = draft.processes.iter().filter(|process| process.task == task.number).count();
+        let live = live_shown(draft, task.number);
         let trap = match task.kind {
             NO_TRAP => "none".to_string(),
             kind => format!("{kind:02X} {:05X}", task.trapped & 0xF_FFFF),
@@ -122,12 +126,22 @@ fn tasks(draft: &Draft) -> String {
         out += &format!("{number:<5} {registers:<12} {program:<14} {data:<14} {cb:<5} {live:<10} {trap:<9} {alone}\n");
     }
     if !draft.processes.is_empty() {
-        out += "\nPT task PSW\n";
+        out += "\nPT task queue PSW\n";
     }
-    for Process { pt, task, psw } in &draft.processes {
-        out += &format!("{pt:2} {task:4} {}\n", psw_fields(*psw));
+    for Process { pt, task, sfu, psw } in &draft.processes {
+        let queue = if *sfu { "SFU" } else { "task" };
+        out += &format!("{pt:2} {task:4} {queue:<5} {}\n", psw_fields(*psw));
     }
     out
+}
+
+/// How many processes a task has, and how many of them are in its SFU queue.
+fn live_shown(draft: &Draft, task: u8) -> String {
+    let own = || draft.processes.iter().filter(move |process| process.task == task);
+    match own().filter(|process| process.sfu).count() {
+        0 => own().count().to_string(),
+        waiting => format!("{}, {waiting} SFU", own().count()),
+    }
 }
 
 /// The rows of an image's bytes that are whole, accepted or not.
@@ -161,7 +175,8 @@ fn processes(image: &[u8]) -> Vec<Process> {
     let count = image.get(start).map_or(0, |count| usize::from(*count).min(64));
     let process = |bytes: &[u8]| {
         let psw = bytes[2..].iter().fold(0, |value, byte| value << 8 | u64::from(*byte));
-        Process { pt: bytes[0], task: bytes[1], psw }
+        let sfu = (SFU + 1..=SFU + 7).contains(&bytes[1]);
+        Process { pt: bytes[0], task: if sfu { bytes[1] - SFU } else { bytes[1] }, sfu, psw }
     };
     image.get(start + 2..).unwrap_or(&[]).chunks_exact(10).take(count).map(process).collect()
 }
@@ -193,5 +208,30 @@ pub fn notes(source: &Source) -> String {
             notes.push(format!("task {task} is not listed: its items ({count}) are idle"));
         }
     }
+    notes.extend(unreached(draft));
     notes.iter().map(|note| format!("note: {note}\n")).collect()
+}
+
+/// For each memory but the constants, which have no limit: how many of its cells lie in no task's window, and the first of them. Cells
+/// as the text fills up with, zero and full, are not counted.
+pub fn unreached(draft: &Draft) -> Vec<String> {
+    let registers = draft.registers.iter().map(|cell| *cell != (0, 0));
+    let program = draft.program.iter().map(|word| *word != 0);
+    let data = draft.data.iter().map(|cell| *cell != (1, 0));
+    let memories: [(&str, Window, Vec<bool>); 3] = [
+        ("register", share::registers, registers.collect()),
+        ("program word", share::program, program.collect()),
+        ("data word", share::data, data.collect()),
+    ];
+    let noted = memories.into_iter().filter_map(|(name, window, given)| {
+        let windows: Vec<Range<usize>> = draft.tasks.iter().map(window).collect();
+        let outside = |place: &usize| !windows.iter().any(|window| window.contains(place));
+        let mut cells = (0..given.len()).filter(|&place| given[place]).filter(outside);
+        let first = cells.next()?;
+        Some(match cells.count() {
+            0 => format!("{name} {first} lies in no task's window"),
+            more => format!("{} {name}s lie in no task's window, the first is {first}", more + 1),
+        })
+    });
+    noted.collect()
 }

@@ -1,20 +1,21 @@
-//! What a step takes, seen before it is made: process, instruction, data address.
+//! What an attempt of an item takes, a try or a step, seen before it is made: process, instruction, data address.
 
 use super::text::{self, psw_fields, Symbols};
 use crate::emulator::codes::{listed, Low, Operation, Role};
-use crate::emulator::machine::Machine;
+use crate::emulator::machine::{Attempt, Ending, Machine};
 use crate::emulator::psw;
 
-/// A cell that a step may wait for or change, at its real address.
+/// A cell that an attempt may wait for or change, at its real address.
 #[derive(Clone, Copy, PartialEq, Eq, Hash, Debug)]
 pub enum Cell {
     Register(usize),
     Data(usize),
 }
 
-/// What a task's step takes.
+/// What an attempt takes.
 #[derive(Clone, Copy, Debug)]
 pub struct Taken {
+    pub attempt: Attempt,
     pub task: u8,
     pub pt: u8,
     pub psw: u64,
@@ -34,6 +35,39 @@ pub struct Operand {
     pub cell: Option<usize>,
 }
 
+/// The queue that an attempt goes by, from head to tail: PTs and status words.
+pub fn queue(machine: &Machine, task: u8, attempt: Attempt) -> Vec<(u8, u64)> {
+    match attempt {
+        Attempt::Step => machine.processes(task),
+        Attempt::Try => machine.sfu_processes(task),
+    }
+}
+
+/// A task's live processes: those of its queue, then those of its SFU queue.
+pub fn live(machine: &Machine, task: u8) -> Vec<(u8, u64)> {
+    [queue(machine, task, Attempt::Step), queue(machine, task, Attempt::Try)].concat()
+}
+
+/// Makes an item. Of each of its attempts `before` sees what it takes, and `after` what `before` made of it and the ending.
+pub fn item<T>(
+    machine: &mut Machine,
+    task: u8,
+    mut before: impl FnMut(&Machine, Taken) -> T,
+    mut after: impl FnMut(&Machine, T, Ending),
+) -> Ending {
+    let mut ending = Ending::Idle;
+    for &attempt in machine.attempts(task) {
+        let Some(taken) = Taken::head(machine, task, attempt) else { break };
+        let seen = before(machine, taken);
+        ending = machine.attempt(task, attempt);
+        after(machine, seen, ending);
+        if let Ending::Trapped { .. } = ending {
+            break;
+        }
+    }
+    ending
+}
+
 impl Operand {
     pub fn is_constant(&self) -> bool {
         self.field & 0x4000 != 0
@@ -49,20 +83,17 @@ impl Operand {
 }
 
 impl Taken {
-    /// What the next step of a task takes, unless it will be idle.
-    pub fn next(machine: &Machine, task: u8) -> Option<Taken> {
-        if machine.trap_record(task).is_some() {
-            return None;
-        }
-        let &(pt, psw) = machine.processes(task).first()?;
-        Some(Taken::of(machine, task, pt, psw))
+    /// What an attempt takes now: the head of the task's queue, or of its SFU queue, if there is one.
+    pub fn head(machine: &Machine, task: u8, attempt: Attempt) -> Option<Taken> {
+        let &(pt, psw) = queue(machine, task, attempt).first()?;
+        Some(Taken::of(machine, attempt, task, pt, psw))
     }
 
-    /// What a process takes in this state.
-    pub fn of(machine: &Machine, task: u8, pt: u8, psw: u64) -> Taken {
+    /// What an attempt takes of a process in this state.
+    pub fn of(machine: &Machine, attempt: Attempt, task: u8, pt: u8, psw: u64) -> Taken {
         let word = machine.instruction(task, psw::pc(psw));
         let address = word.and_then(|word| machine.data_address(task, psw, word));
-        Taken { task, pt, psw, word, address }
+        Taken { attempt, task, pt, psw, word, address }
     }
 
     pub fn pc(&self) -> u64 {
@@ -132,7 +163,7 @@ impl Taken {
         (!text::is_plain_operand(word)).then_some(word)
     }
 
-    /// The cells that the step changes if it is executed.
+    /// The cells that the attempt changes if it is executed.
     pub fn changes(&self, machine: &Machine) -> Vec<Cell> {
         let (Some(word), Some(of)) = (self.word, self.operation()) else { return Vec::new() };
         let operands = self.operands(machine).into_iter();
@@ -146,7 +177,7 @@ impl Taken {
     }
 }
 
-/// Whether an executed step changes its data word: a store, or a load that sets it empty.
+/// Whether an executed attempt changes its data word: a store, or a load that sets it empty.
 pub fn writes_data(of: &Operation, word: u64) -> bool {
     of.low == Low::Store || of.low == Low::Load && word >> 50 & 3 == 2
 }

@@ -1,13 +1,14 @@
-//! A schedule as a picture (SVG): a lane for each task, each item at its place from left to right, coloured by its ending.
+//! A schedule as a picture (SVG): a lane for each task, each item at its place from left to right, coloured by its ending; below it a thin
+//! lane for the tries of its SFU queue, if it has some.
 //!
 //! A column takes as many items as make at most `COLUMNS` of them, so a picture stays small however long the schedule is. In a lane's
 //! column the colours stand in the shares of that task's items; an ending that came at all is to be seen. A trap and the create fault
 //! flag are marked at their item; below a lane stands what its processes waited for.
 
 use super::reason::{reason, Look};
-use super::taken::{place, Taken};
+use super::taken::{self, place, Taken};
 use super::text::Symbols;
-use crate::emulator::machine::{Counts, Ending, Machine};
+use crate::emulator::machine::{Attempt, Counts, Ending, Machine};
 use crate::emulator::psw;
 use std::collections::BTreeMap;
 use std::ops::Range;
@@ -19,12 +20,21 @@ const PLOT: usize = 960;
 /// Places of the lanes.
 const LEFT: usize = 80;
 const TOP: usize = 96;
-const LANE: usize = 32;
-const PITCH: usize = 64;
+const PITCH: usize = 72;
 const WIDTH: usize = LEFT + PLOT + 190;
 
-/// The least height of an ending that came in a column.
-const LEAST: usize = 3;
+/// A lane's kind: the height of its columns, and the least of an ending that came in one.
+#[derive(Clone, Copy)]
+struct Kind {
+    height: usize,
+    least: usize,
+}
+const LANE: Kind = Kind { height: 32, least: 3 };
+const THIN: Kind = Kind { height: 6, least: 2 };
+
+/// From a lane's top to the thin one's, and to the line of what was waited for.
+const THIN_TOP: usize = LANE.height + 2;
+const WAITS: usize = LANE.height + 19;
 
 /// The endings from a lane's foot up: name and colour.
 const ENDINGS: [(&str, &str); 4] = [
@@ -44,20 +54,41 @@ pub struct View<'a> {
     pub items: Range<usize>,
 }
 
+/// For each column how many items or tries ended each way, in the order of `ENDINGS`.
+type Columns = Vec<[usize; ENDINGS.len()]>;
+
 /// What a task's lane shows.
 struct Lane {
     task: u8,
-    /// For each column how many items ended each way, in the order of `ENDINGS`.
-    columns: Vec<[usize; 4]>,
+    columns: Columns,
+    tries: Columns,
     /// The item at which it trapped and why; none if it was trapped before.
     trapped_at: Option<(usize, String)>,
-    /// How many drawn items waited for each cell.
+    /// How many drawn attempts waited for each cell.
     waits: BTreeMap<String, usize>,
 }
 
 impl Lane {
     fn total(&self, ending: usize) -> usize {
         self.columns.iter().map(|column| column[ending]).sum()
+    }
+
+    fn tries(&self) -> usize {
+        self.tries.iter().flatten().sum()
+    }
+
+    /// An attempt of this item, which stands in this column if it is drawn.
+    fn note(&mut self, look: Look, ending: Ending, item: usize, column: Option<usize>) {
+        if let (Some(column), Attempt::Try) = (column, look.taken.attempt) {
+            self.tries[column][place_of(ending)] += 1;
+        }
+        match ending {
+            Ending::Waved if column.is_some() => {
+                *self.waits.entry(look.waited_for()).or_insert(0) += 1;
+            }
+            Ending::Trapped { .. } => self.trapped_at = Some((item, reason(look, ending))),
+            _ => {}
+        }
     }
 }
 
@@ -80,10 +111,14 @@ impl Picture {
         let each = items.len().div_ceil(COLUMNS).max(1);
         let listed: Vec<u8> = machine.tasks().collect();
         let shown = (1..=7).filter(|task| listed.contains(task) || schedule.contains(task));
-        let columns = vec![[0; 4]; items.len().div_ceil(each)];
-        let waits = BTreeMap::new();
-        let lane =
-            |task| Lane { task, columns: columns.clone(), trapped_at: None, waits: waits.clone() };
+        let columns: Columns = vec![[0; ENDINGS.len()]; items.len().div_ceil(each)];
+        let lane = |task| Lane {
+            task,
+            columns: columns.clone(),
+            tries: columns.clone(),
+            trapped_at: None,
+            waits: BTreeMap::new(),
+        };
         Picture { items, all, each, lanes: shown.map(lane).collect(), fault_at: None }
     }
 }
@@ -102,7 +137,10 @@ pub fn svg(machine: &mut Machine, schedule: &[u8], view: &View) -> String {
     heading(&mut out, &picture);
     for (place, lane) in picture.lanes.iter().enumerate() {
         let top = TOP + PITCH * place;
-        columns(&mut out, &picture, lane, top);
+        columns(&mut out, &picture, &lane.columns, top, LANE);
+        if lane.tries() > 0 {
+            columns(&mut out, &picture, &lane.tries, top + THIN_TOP, THIN);
+        }
         labels(&mut out, machine, lane, top);
         waits(&mut out, lane, top);
         trap(&mut out, machine, &picture, lane, top, view.symbols);
@@ -130,26 +168,18 @@ fn run(machine: &mut Machine, schedule: &[u8], view: &View) -> Picture {
     let mut picture = Picture::new(machine, schedule, view);
     for (item, &task) in schedule.iter().enumerate() {
         let flag = machine.create_fault();
-        let taken = Taken::next(machine, task);
-        let ending = machine.step(task);
-        if machine.create_fault() && !flag {
-            picture.fault_at = Some(item);
-        }
-        let (drawn, each) = (picture.items.contains(&item), picture.each);
-        let column = item.wrapping_sub(picture.items.start) / each;
+        let column =
+            picture.items.contains(&item).then(|| (item - picture.items.start) / picture.each);
         let Some(lane) = picture.lanes.iter_mut().find(|lane| lane.task == task) else { continue };
-        if drawn {
+        let note = |machine: &Machine, taken: Taken, ending: Ending| {
+            lane.note(Look { machine, symbols: view.symbols, taken: &taken }, ending, item, column);
+        };
+        let ending = taken::item(machine, task, |_, taken| taken, note);
+        if let Some(column) = column {
             lane.columns[column][place_of(ending)] += 1;
         }
-        let Some(taken) = &taken else { continue };
-        let look = Look { machine, symbols: view.symbols, taken };
-        match ending {
-            Ending::Waved if drawn => {
-                let waits = look.unmet().iter().map(|unmet| unmet.name.clone()).collect::<Vec<_>>();
-                *lane.waits.entry(waits.join(" and ")).or_insert(0) += 1;
-            }
-            Ending::Trapped { .. } => lane.trapped_at = Some((item, reason(look, ending))),
-            _ => {}
+        if machine.create_fault() && !flag {
+            picture.fault_at = Some(item);
         }
     }
     picture
@@ -209,37 +239,46 @@ fn heading(out: &mut String, picture: &Picture) {
         legend(out, place, colour, &format!("{name} {count}"));
     }
     legend(out, ENDINGS.len(), NO_ITEM, "no item of the task");
+    let tries: usize = picture.lanes.iter().map(Lane::tries).sum();
+    if tries > 0 {
+        let x = LEFT + LEGEND * (ENDINGS.len() + 1);
+        text(out, &x.to_string(), 55, "", &format!("thin lane: tries {tries}"));
+    }
 }
+
+/// From one colour's meaning to the next.
+const LEGEND: usize = 190;
 
 /// A colour and what it means.
 fn legend(out: &mut String, place: usize, colour: &str, meaning: &str) {
-    let x = LEFT + 190 * place;
+    let x = LEFT + LEGEND * place;
     *out += &format!(
         "<rect x=\"{x}\" y=\"42\" width=\"16\" height=\"16\" fill=\"{colour}\" stroke=\"#bbb\"/>\n"
     );
     text(out, &(x + 22).to_string(), 55, "", meaning);
 }
 
-/// Heights of the endings of a column: their shares of the lane, each that came at least `LEAST`.
-fn heights(column: &[usize; 4]) -> [usize; 4] {
+/// Heights of the endings of a column: their shares of the lane, each that came at least `least`.
+fn heights(column: &[usize; 4], Kind { height, least }: Kind) -> [usize; 4] {
     let all: usize = column.iter().sum();
     if all == 0 {
         return [0; 4];
     }
-    let mut heights = column.map(|n| if n == 0 { 0 } else { LEAST.max(LANE * n / all) });
+    let mut heights = column.map(|n| if n == 0 { 0 } else { least.max(height * n / all) });
     // What rounding leaves over or asks too much is the largest's.
     let largest = (0..4).max_by_key(|&i| column[i]).unwrap_or(0);
     let others: usize = (0..4).filter(|&i| i != largest).map(|i| heights[i]).sum();
-    heights[largest] = LANE - others;
+    heights[largest] = height - others;
     heights
 }
 
 /// The columns of a lane, a path for each ending; neighbours of one height are one piece.
-fn columns(out: &mut String, picture: &Picture, lane: &Lane, top: usize) {
+fn columns(out: &mut String, picture: &Picture, columns: &Columns, top: usize, kind: Kind) {
+    let lane = kind.height;
     *out += &format!(
-        "<rect x=\"{LEFT}\" y=\"{top}\" width=\"{PLOT}\" height=\"{LANE}\" fill=\"{NO_ITEM}\"/>\n"
+        "<rect x=\"{LEFT}\" y=\"{top}\" width=\"{PLOT}\" height=\"{lane}\" fill=\"{NO_ITEM}\"/>\n"
     );
-    let heights: Vec<[usize; 4]> = lane.columns.iter().map(heights).collect();
+    let heights: Columns = columns.iter().map(|column| heights(column, kind)).collect();
     for (ending, (_, colour)) in ENDINGS.iter().enumerate() {
         let mut path = String::new();
         let mut first = 0;
@@ -251,7 +290,7 @@ fn columns(out: &mut String, picture: &Picture, lane: &Lane, top: usize) {
             if height > 0 {
                 let item = |column: usize| picture.items.start + column * picture.each;
                 let (left, right) = (x_of(picture, item(first)), x_of(picture, item(end)));
-                let (x, width, y) = (tenths(left), tenths(right - left), top + LANE - foot);
+                let (x, width, y) = (tenths(left), tenths(right - left), top + lane - foot);
                 path += &format!("M{x} {y}h{width}v-{height}h-{width}z");
             }
             first = end;
@@ -270,10 +309,12 @@ fn labels(out: &mut String, machine: &Machine, lane: &Lane, top: usize) {
         idle: lane.total(1) as u64,
         waved: lane.total(2) as u64,
         trapped: lane.total(3) as u64,
+        tries: lane.tries() as u64,
     };
-    let Counts { executed, waved, trapped, idle } = counts;
+    let Counts { executed, waved, trapped, idle, tries } = counts;
     let x = (LEFT + PLOT + 10).to_string();
-    text(out, &x, top + 13, "", &format!("E{executed} W{waved} T{trapped} I{idle}"));
+    let counted = format!("E{executed} W{waved} T{trapped} I{idle} S{tries}");
+    text(out, &x, top + 13, "", &counted);
     let live = match machine.live_count(lane.task) {
         _ if machine.tasks().all(|task| task != lane.task) => "not in the image".to_string(),
         1 => "1 process at the end".to_string(),
@@ -294,7 +335,7 @@ fn waits(out: &mut String, lane: &Lane, top: usize) {
     let more =
         if waits.len() > 4 { format!(" and {} more", waits.len() - 4) } else { String::new() };
     let said = escaped(&format!("waited for {}{more}", shown.join(", ")));
-    text(out, &LEFT.to_string(), top + LANE + 13, " font-size=\"11\" fill=\"#8a5a00\"", &said);
+    text(out, &LEFT.to_string(), top + WAITS, " font-size=\"11\" fill=\"#8a5a00\"", &said);
 }
 
 /// A mark at the item that trapped, with its record, and the reason where a pointer rests on it.
@@ -315,7 +356,7 @@ fn trap(
     };
     let x = x_of(picture, item);
     let (shift, anchor) = if x > 10 * (LEFT + PLOT / 2) { (-8, "end") } else { (8, "start") };
-    let (left, tip, foot) = (tenths(x), top - 2, top + LANE + 4);
+    let (left, tip, foot) = (tenths(x), top - 2, top + LANE.height + 4);
     *out += &format!(
         "<path fill=\"{colour}\" stroke=\"{colour}\" stroke-width=\"2\" d=\"M{left} {foot}V{tip}l-5 -9h10l-5 9\"><title>{}</title></path>\n",
         escaped(why)
@@ -335,7 +376,7 @@ fn trap(
 
 /// The items below the lanes, and the flag's line through them.
 fn axis(out: &mut String, picture: &Picture) {
-    let foot = TOP + PITCH * picture.lanes.len() - (PITCH - LANE) + 20;
+    let foot = TOP + PITCH * picture.lanes.len() - (PITCH - WAITS) + 8;
     if let Some(item) = picture.fault_at.filter(|item| picture.items.contains(item)) {
         let x = tenths(x_of(picture, item));
         let line = format!(
@@ -366,14 +407,21 @@ mod tests {
 
     #[test]
     fn columns_are_filled_and_every_ending_shows() {
-        for column in [[1, 0, 0, 0], [0, 0, 0, 1], [249, 0, 1, 0], [1, 247, 1, 1], [1, 1, 1, 1]] {
-            let heights = heights(&column);
-            assert_eq!(heights.iter().sum::<usize>(), LANE);
+        let filled = |column: [usize; 4], kind: Kind| {
+            let heights = heights(&column, kind);
+            assert_eq!(heights.iter().sum::<usize>(), kind.height);
             for (n, height) in column.iter().zip(heights) {
-                assert!(if *n == 0 { height == 0 } else { height >= LEAST }, "{column:?}");
+                assert!(if *n == 0 { height == 0 } else { height >= kind.least }, "{column:?}");
             }
+        };
+        for column in [[1, 0, 0, 0], [0, 0, 0, 1], [249, 0, 1, 0], [1, 247, 1, 1], [1, 1, 1, 1]] {
+            filled(column, LANE);
         }
-        assert_eq!(heights(&[0; 4]), [0; 4]);
+        // No try is idle.
+        for column in [[1, 0, 0, 0], [249, 0, 1, 0], [1, 0, 247, 1], [1, 0, 1, 1]] {
+            filled(column, THIN);
+        }
+        assert_eq!(heights(&[0; 4], LANE), [0; 4]);
     }
 
     #[test]

@@ -1,14 +1,14 @@
-//! The steps of a schedule as lines: what each took, what it wrote, or why it waited or trapped.
+//! The attempts of a schedule's items as lines, tries and steps: what each took, what it wrote, or why it waited or trapped.
 
 use super::reason::{reason, Look};
-use super::taken::{place, psw_shown, writes_data, Taken};
+use super::taken::{item, live, place, psw_shown, writes_data, Taken};
 use super::text::{self, Symbols};
 use crate::emulator::codes::Role;
-use crate::emulator::machine::{Ending, Machine, CREATE_FAULT};
+use crate::emulator::machine::{Attempt, Ending, Machine, CREATE_FAULT};
 use crate::emulator::part::Part;
 use crate::emulator::psw;
 
-/// Which steps are shown; all are made.
+/// Which lines are shown; all attempts are made.
 #[derive(Clone, Debug)]
 pub struct Filter {
     pub task: Option<u8>,
@@ -46,72 +46,93 @@ pub fn name(ending: Ending) -> &'static str {
     }
 }
 
-/// The lines of a run, one for each item that the filter shows.
+/// The attempt's name.
+fn attempt_name(attempt: Attempt) -> &'static str {
+    match attempt {
+        Attempt::Try => "try",
+        Attempt::Step => "step",
+    }
+}
+
+/// The lines of a run, one for each attempt that the filter shows, or for an idle item.
 pub fn lines<'a>(
     machine: &'a mut Machine,
     schedule: &'a [u8],
     symbols: &'a Symbols,
     filter: &'a Filter,
 ) -> impl Iterator<Item = String> + 'a {
-    let place = if symbols.has_labels() { format!("{:<16} ", "place") } else { String::new() };
     let width = schedule.len().to_string().len().max(4);
     let heading = format!(
-        "{:>width$} task PT PC    {place}{:<32} {:<10} what it wrote, or why it waits or traps",
-        "item", "instruction", "ending"
+        "{:>width$} task attempt PT PC    {}{:<32} {:<10} what it wrote, or why it waits or traps",
+        "item",
+        column(symbols, "place"),
+        "instruction",
+        "ending"
     );
-    let steps = schedule.iter().enumerate().filter_map(move |(item, &task)| {
-        let before = Before::new(machine, task);
-        let ending = machine.step(task);
-        let shown = filter.shows(item, task, ending);
-        shown.then(|| {
-            let step = before.line(machine, symbols, ending);
-            let line = format!("{item:width$} {task:4} {step}");
-            line.trim_end().to_string()
-        })
+    let items = schedule.iter().enumerate().flat_map(move |(number, &task)| {
+        let mut lines = Vec::new();
+        let mut add = |line: String, ending: Ending| {
+            if filter.shows(number, task, ending) {
+                lines.push(format!("{number:width$} {task:4} {line}").trim_end().to_string());
+            }
+        };
+        let after = |machine: &Machine, before: Before, ending: Ending| {
+            add(before.line(machine, symbols, ending), ending);
+        };
+        if let Ending::Idle = item(machine, task, Before::new, after) {
+            let line = format!("{:<7} -- ----- {}{:<32} idle", "-", column(symbols, ""), "-");
+            add(line, Ending::Idle);
+        }
+        lines
     });
-    std::iter::once(heading).chain(steps)
+    std::iter::once(heading).chain(items)
 }
 
-/// What is seen before a step.
+/// The column of places, which is there if the text has labels.
+fn column(symbols: &Symbols, place: &str) -> String {
+    match symbols.has_labels() {
+        true => format!("{place:<16} "),
+        false => String::new(),
+    }
+}
+
+/// What is seen before an attempt.
 struct Before {
-    taken: Option<Taken>,
+    taken: Taken,
     /// The task's process numbers.
     numbers: Vec<u8>,
 }
 
 impl Before {
-    fn new(machine: &Machine, task: u8) -> Self {
-        let numbers = machine.processes(task).into_iter().map(|(pt, _)| pt).collect();
-        Before { taken: Taken::next(machine, task), numbers }
+    fn new(machine: &Machine, taken: Taken) -> Self {
+        let numbers = live(machine, taken.task).into_iter().map(|(pt, _)| pt).collect();
+        Before { taken, numbers }
     }
 
-    /// The step's line from its PT on, seen after it.
+    /// The attempt's line from its name on, seen after it.
     fn line(&self, machine: &Machine, symbols: &Symbols, ending: Ending) -> String {
-        let column = |place: String| match symbols.has_labels() {
-            true => format!("{place:<16} "),
-            false => String::new(),
-        };
-        let Some(taken) = &self.taken else {
-            return format!("-- ----- {}{:<32} idle", column(String::new()), "-");
-        };
-        let (task, pc) = (taken.task, taken.pc());
+        let taken = &self.taken;
+        let (task, pt, pc) = (taken.task, taken.pt, taken.pc());
         let said = match ending {
-            Ending::Executed | Ending::Idle => self.wrote(machine, symbols, taken).join(", "),
+            Ending::Executed | Ending::Idle => self.wrote(machine, symbols).join(", "),
             Ending::Waved | Ending::Trapped { .. } => {
                 let mut said = vec![reason(Look { machine, symbols, taken }, ending)];
                 if let Ending::Trapped { kind: CREATE_FAULT, .. } = ending {
-                    said.extend(self.wrote(machine, symbols, taken));
+                    said.extend(self.wrote(machine, symbols));
                 }
                 said.join(", ")
             }
         };
-        let place = column(place(machine, symbols, task, pc).unwrap_or_default());
+        let attempt = attempt_name(taken.attempt);
+        let place = column(symbols, &place(machine, symbols, task, pc).unwrap_or_default());
         let instruction = taken.instruction(machine, symbols);
-        format!("{:2} {pc:05X} {place}{instruction:<32} {:<10} {said}", taken.pt, shown(ending))
+        let ending = shown(ending);
+        format!("{attempt:<7} {pt:2} {pc:05X} {place}{instruction:<32} {ending:<10} {said}")
     }
 
-    /// The writes of an executed step, sources first.
-    fn wrote(&self, machine: &Machine, symbols: &Symbols, taken: &Taken) -> Vec<String> {
+    /// The writes of an executed attempt, sources first.
+    fn wrote(&self, machine: &Machine, symbols: &Symbols) -> Vec<String> {
+        let taken = &self.taken;
         let mut out = Vec::new();
         let operands = taken.operands(machine);
         for operand in operands.iter().filter(|o| o.role == Role::Source && o.access() == 2) {
@@ -130,7 +151,7 @@ impl Before {
 
     /// The process that a create has added.
     fn joined(&self, machine: &Machine, symbols: &Symbols, task: u8) -> Option<String> {
-        let now = machine.processes(task);
+        let now = live(machine, task);
         let (pt, psw) = now.into_iter().find(|(pt, _)| !self.numbers.contains(pt))?;
         Some(format!("PT {pt} joins at {}", psw_shown(machine, symbols, task, psw)))
     }
@@ -165,10 +186,9 @@ fn show_part(Part { width, place }: Part) -> String {
     }
 }
 
-/// The process's status word, if the step didn't just add 1 to PC.
+/// The process's status word, if the attempt didn't just add 1 to PC.
 fn next(machine: &Machine, symbols: &Symbols, taken: &Taken) -> Option<String> {
-    let queue = machine.processes(taken.task);
-    match queue.into_iter().find(|(pt, _)| *pt == taken.pt) {
+    match live(machine, taken.task).into_iter().find(|(pt, _)| *pt == taken.pt) {
         None => Some(format!("PT {} leaves", taken.pt)),
         Some((_, psw)) if psw == psw::next(taken.psw) => None,
         Some((_, psw)) => Some(format!("goes to {}", psw_shown(machine, symbols, taken.task, psw))),

@@ -1,12 +1,13 @@
 //! Where each live process stands at the end of a run: what it waits for and who last changed that cell, or why it trapped.
 
 use super::reason::{reason, Look};
-use super::taken::{place, Cell, Taken};
+use super::taken::{item, live, place, queue, Cell, Taken};
 use super::text::{psw_fields, Symbols};
-use crate::emulator::machine::{Ending, Machine, CREATE_FAULT, SUPERVISOR_CALL};
+use crate::emulator::machine::{Attempt, Ending, Machine, CREATE_FAULT, SUPERVISOR_CALL};
 use std::collections::HashMap;
 
-/// A step of the run that changed a cell or trapped.
+/// An attempt of the run that changed a cell or trapped.
+#[derive(Clone, Copy)]
 struct Made {
     item: usize,
     taken: Taken,
@@ -16,9 +17,9 @@ struct Made {
 struct Ran<'a> {
     machine: Machine,
     symbols: &'a Symbols,
-    /// The last step that changed each cell.
+    /// The last attempt that changed each cell.
     changed: HashMap<Cell, Made>,
-    /// The step that trapped in each task.
+    /// The attempt that trapped in each task.
     trapped: HashMap<u8, Made>,
     /// The item that raised the create fault flag.
     fault_at: Option<usize>,
@@ -38,67 +39,94 @@ pub fn why(machine: Machine, schedule: &[u8], symbols: &Symbols) -> (String, Mac
     (out, ran.machine)
 }
 
-fn run<'a>(machine: Machine, schedule: &[u8], symbols: &'a Symbols) -> Ran<'a> {
-    let (changed, trapped) = (HashMap::new(), HashMap::new());
-    let mut ran = Ran { machine, symbols, changed, trapped, fault_at: None };
-    for (item, &task) in schedule.iter().enumerate() {
-        let flag = ran.machine.create_fault();
-        let taken = Taken::next(&ran.machine, task);
-        let cells = taken.map(|taken| taken.changes(&ran.machine)).unwrap_or_default();
-        let (ending, Some(taken)) = (ran.machine.step(task), taken) else { continue };
-        if let Ending::Executed | Ending::Trapped { kind: CREATE_FAULT, .. } = ending {
-            ran.changed.extend(cells.into_iter().map(|cell| (cell, Made { item, taken })));
-        }
-        if let Ending::Trapped { .. } = ending {
-            ran.trapped.insert(task, Made { item, taken });
-        }
-        if ran.machine.create_fault() && !flag {
-            ran.fault_at = Some(item);
+fn run<'a>(mut machine: Machine, schedule: &[u8], symbols: &'a Symbols) -> Ran<'a> {
+    let (mut changed, mut trapped) = (HashMap::new(), HashMap::new());
+    let mut fault_at = None;
+    for (number, &task) in schedule.iter().enumerate() {
+        let before = |machine: &Machine, taken: Taken| (taken, taken.changes(machine));
+        let after = |_: &Machine, (taken, cells): (Taken, Vec<Cell>), ending: Ending| {
+            let made = Made { item: number, taken };
+            if let Ending::Executed | Ending::Trapped { kind: CREATE_FAULT, .. } = ending {
+                changed.extend(cells.into_iter().map(|cell| (cell, made)));
+            }
+            if let Ending::Trapped { .. } = ending {
+                trapped.insert(task, made);
+            }
+        };
+        let flag = machine.create_fault();
+        item(&mut machine, task, before, after);
+        if machine.create_fault() && !flag {
+            fault_at = Some(number);
         }
     }
-    ran
+    Ran { machine, symbols, changed, trapped, fault_at }
 }
 
 impl Ran<'_> {
     /// The lines of a task.
     fn task(&mut self, task: u8) -> String {
-        let processes = self.machine.processes(task);
-        let live = match processes.len() {
-            1 => "1 process".to_string(),
-            n => format!("{n} processes"),
-        };
+        let count = live(&self.machine, task).len();
+        let processes = self.processes_told(task);
         let Some((kind, psw)) = self.machine.trap_record(task) else {
-            let lines = (0..processes.len()).map(|i| self.process(task, i)).collect::<String>();
-            return format!("task {task}: {live}\n{lines}");
+            let lines = [Attempt::Step, Attempt::Try].map(|attempt| self.queue(task, attempt));
+            return format!("task {task}: {processes}\n{}", lines.concat());
         };
         let (when, taken) = match self.trapped.get(&task) {
             Some(made) => (format!("at item {}", made.item), Some(made.taken)),
             None => ("before the run".to_string(), self.trapped_before(task, kind, psw)),
         };
-        let mut out = format!("task {task}: {live}, trapped {kind:02X} {when}\n");
+        let mut out = format!("task {task}: {processes}, trapped {kind:02X} {when}\n");
         if let Some(taken) = taken {
             out += &self.standing(&taken, Ending::Trapped { kind, psw });
         }
-        let still = processes.len().saturating_sub(1);
+        let still = count.saturating_sub(1);
         if still > 0 {
-            out += &format!("  the others ({still}) stand still: a trapped task takes no step\n");
+            out += &format!(
+                "  the others ({still}) stand still: a trapped task neither tries nor steps\n"
+            );
         }
         out
     }
 
-    /// The head process of a task that was trapped before the run, where PC is still at the instruction.
-    fn trapped_before(&self, task: u8, kind: u8, psw: u64) -> Option<Taken> {
-        let (pt, _) = *self.machine.processes(task).first()?;
-        let there = !matches!(kind, SUPERVISOR_CALL | CREATE_FAULT);
-        there.then(|| Taken::of(&self.machine, task, pt, psw))
+    /// How many processes a task has, and how many of them are in its SFU queue.
+    fn processes_told(&self, task: u8) -> String {
+        let all = match live(&self.machine, task).len() {
+            1 => "1 process".to_string(),
+            n => format!("{n} processes"),
+        };
+        match queue(&self.machine, task, Attempt::Try).len() {
+            0 => all,
+            n => format!("{all}, {n} in the SFU queue"),
+        }
     }
 
-    /// A process of a task that is not trapped, by its place in the queue: its next step is tried on a copy.
-    fn process(&self, task: u8, place: usize) -> String {
+    /// The head of the queue in which a task was trapped before the run, where PC is still at the instruction: the one with the trapped
+    /// status word, of the task's queue if neither or both have it.
+    fn trapped_before(&self, task: u8, kind: u8, psw: u64) -> Option<Taken> {
+        let heads = [Attempt::Step, Attempt::Try].map(|attempt| {
+            let head = queue(&self.machine, task, attempt).first().copied();
+            head.map(|(pt, own)| (attempt, pt, own == psw))
+        });
+        let mut heads: Vec<(Attempt, u8, bool)> = heads.into_iter().flatten().collect();
+        heads.sort_by_key(|(_, _, same)| !same);
+        let &(attempt, pt, _) = heads.first()?;
+        let there = !matches!(kind, SUPERVISOR_CALL | CREATE_FAULT);
+        there.then(|| Taken::of(&self.machine, attempt, task, pt, psw))
+    }
+
+    /// The processes of one of the queues of a task that is not trapped.
+    fn queue(&self, task: u8, attempt: Attempt) -> String {
+        let count = queue(&self.machine, task, attempt).len();
+        (0..count).map(|place| self.process(task, attempt, place)).collect()
+    }
+
+    /// A process by its place in its queue: its next attempt is made on a copy.
+    fn process(&self, task: u8, attempt: Attempt, place: usize) -> String {
         let mut copy = self.machine.clone();
-        (0..place).for_each(|_| copy.rows[usize::from(task)].rotate());
-        let Some(taken) = Taken::next(&copy, task) else { return String::new() };
-        let ending = copy.step(task);
+        let row = &mut copy.rows[usize::from(task)];
+        (0..place).for_each(|_| row.attempted(attempt).rotate());
+        let Some(taken) = Taken::head(&copy, task, attempt) else { return String::new() };
+        let ending = copy.attempt(task, attempt);
         let mut out = self.standing(&taken, ending);
         if ending == Ending::Waved {
             let look = Look { machine: &self.machine, symbols: self.symbols, taken: &taken };
@@ -109,22 +137,26 @@ impl Ran<'_> {
         out
     }
 
-    /// Where a process stands, and what its step comes to.
+    /// Where a process stands, and what its attempt comes to.
     fn standing(&self, taken: &Taken, ending: Ending) -> String {
         let at = self.place(taken);
         let instruction = taken.instruction(&self.machine, self.symbols);
         let look = Look { machine: &self.machine, symbols: self.symbols, taken };
+        let (queue, next) = match taken.attempt {
+            Attempt::Step => ("", "item"),
+            Attempt::Try => (" (SFU queue)", "try"),
+        };
         let said = match ending {
-            Ending::Executed | Ending::Idle => "goes on at its next item".to_string(),
+            Ending::Executed | Ending::Idle => format!("goes on at its next {next}"),
             Ending::Waved => reason(look, ending),
             Ending::Trapped { kind, .. } if self.machine.trap_record(taken.task).is_some() => {
                 format!("trap {kind:02X}: {}", reason(look, ending))
             }
             Ending::Trapped { kind, .. } => {
-                format!("will trap {kind:02X} at its next item: {}", reason(look, ending))
+                format!("will trap {kind:02X} at its next {next}: {}", reason(look, ending))
             }
         };
-        format!("  PT {} at {at}: {instruction}\n      {said}\n", taken.pt)
+        format!("  PT {}{queue} at {at}: {instruction}\n      {said}\n", taken.pt)
     }
 
     fn place(&self, taken: &Taken) -> String {

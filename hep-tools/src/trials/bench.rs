@@ -2,9 +2,12 @@
 //! changes after.
 //!
 //! The bench has task 1 over all of its 8 registers, 16 instructions (NOP) and 32 data
-//! words, all full and zero, no constants, and process 0 at PC 0. Endings are E, W, I and
-//! T with a kind, `2:` before one is an item of task 2. What the endings say of the queue,
-//! PC and the trap record needs no change; all else stays as it was.
+//! words, all full and zero, no constants, and process 0 at PC 0. Endings are E, I, T with a
+//! kind, W, and WD for a wait for a data word; `2:` before one is an item of task 2. What the
+//! endings say of the queues, PC and the trap record needs no change; all else stays as it was.
+//!
+//! A line is two trials: in the second every process starts in the SFU queue, so that the
+//! first item is a try.
 
 use super::Trial;
 use crate::emulator::batch::Answer;
@@ -13,8 +16,8 @@ use crate::emulator::machine::{EMPTY, NO_TRAP};
 use crate::tool::text::{instruction, Error, Line, Names};
 
 /// What a line changes.
-struct State {
-    draft: Draft,
+pub struct State {
+    pub draft: Draft,
     /// The process that steps, once it is taken from its queue.
     stepping: Option<Process>,
     joins: Option<Process>,
@@ -22,10 +25,10 @@ struct State {
 }
 
 impl State {
-    fn new() -> Self {
+    pub fn new() -> Self {
         let draft = Draft {
             tasks: vec![Task { rb: 0, rl: 3, pb: 0, pl: 0, db: 0, dl: 0, ..Task::empty(1) }],
-            processes: vec![Process { pt: 0, task: 1, psw: 0 }],
+            processes: vec![Process::new(0, 1, 0)],
             registers: vec![(0, 0); 8],
             program: vec![0; 16],
             data: vec![(1, 0); 32],
@@ -59,12 +62,12 @@ impl State {
             "live" => {
                 let psw = self.draft.processes[0].psw;
                 let count = names.number(line, key, 64)? as u8;
-                self.draft.processes = (0..count).map(|pt| Process { pt, task: 1, psw }).collect();
+                self.draft.processes = (0..count).map(|pt| Process::new(pt, 1, psw)).collect();
             }
             "flag" => self.draft.flag = names.number(line, key, 1)? as u8,
             "joins" => {
                 let pt = names.number(line, key, 63)? as u8;
-                self.joins = Some(Process { pt, task: 1, psw: names.psw(line)? });
+                self.joins = Some(Process::new(pt, 1, names.psw(line)?));
             }
             "registers" => {
                 self.draft.registers.resize(names.number(line, key, 2_048)? as usize, (0, 0))
@@ -122,7 +125,18 @@ impl State {
         Ok(())
     }
 
-    fn changes(&mut self, text: &str) -> Result<(), Error> {
+    /// Puts these instructions, with `/` between them, at the start of the program.
+    pub fn program(&mut self, text: &str) -> Result<(), Error> {
+        for (place, text) in text.split('/').enumerate().filter(|(_, text)| !text.trim().is_empty())
+        {
+            let line = &mut Line::new(1, text);
+            self.draft.program[place] = instruction::parse(line, &Names::none())?;
+            line.end()?;
+        }
+        Ok(())
+    }
+
+    pub fn changes(&mut self, text: &str) -> Result<(), Error> {
         let line = &mut Line::new(1, text);
         while !line.is_done() {
             self.change(line)?;
@@ -139,8 +153,18 @@ fn put(psw: &mut u64, shift: u32, mask: u64, value: u64) {
     *psw = *psw & !(mask << shift) | (value & mask) << shift;
 }
 
-/// The trial of a line.
-pub fn trial(line: &str) -> Result<Trial, String> {
+/// The trials of a line.
+pub fn trials(line: &str) -> Result<Vec<Trial>, String> {
+    let mut trials = vec![trial(line, false)?];
+    let tried = trial(line, true)?;
+    if tried.input != trials[0].input {
+        trials.push(tried);
+    }
+    Ok(trials)
+}
+
+/// The trial of a line; `sfu` puts every process into the SFU queue.
+fn trial(line: &str, sfu: bool) -> Result<Trial, String> {
     let parts: Vec<&str> = line.split('|').map(str::trim).collect();
     let [name, before, program, endings, after] = parts[..] else {
         return Err("a trial has five parts".to_string());
@@ -148,21 +172,20 @@ pub fn trial(line: &str) -> Result<Trial, String> {
     let mut state = State::new();
     let told = |error: Error| format!("{name}: {}", error.reason);
     state.changes(before).map_err(told)?;
-    for (i, text) in program.split('/').enumerate() {
-        if !text.trim().is_empty() {
-            let line = &mut Line::new(1, text);
-            state.draft.program[i] = instruction::parse(line, &Names::none()).map_err(told)?;
-            line.end().map_err(told)?;
-        }
-    }
+    state.program(program).map_err(told)?;
+    state.draft.processes.iter_mut().for_each(|process| process.sfu = sfu);
     let image = state.draft.bytes();
     let (schedule, endings) = items(endings)?;
-    run(&mut state, &endings);
+    if sfu && schedule.len() > 1 && state.draft.processes.len() > 1 {
+        return Err(format!("{name}: several processes and items"));
+    }
+    let tries = run(&mut state, &endings);
     state.changes(after).map_err(told)?;
     settle(&mut state, &endings);
-    let output = report(&state.draft, &endings).into_bytes();
+    let output = report(&state.draft, &endings, tries).into_bytes();
     let expected = Answer { output, image: Some(state.draft.bytes()) };
-    Ok(Trial { name: name.to_string(), input: batch_input(&schedule, &image), expected })
+    let name = format!("{name}{}", if sfu { ", in a try" } else { "" });
+    Ok(Trial { name, input: batch_input(&schedule, &image), expected })
 }
 
 /// Items and endings of `E 2:I T14`.
@@ -175,16 +198,24 @@ pub fn items(text: &str) -> Result<(Vec<u8>, Vec<&str>), String> {
     Ok(items.map_err(|_| "a bad item")?.into_iter().unzip())
 }
 
-/// Takes the head process and adds 1 to PC for each executed step.
-fn run(state: &mut State, endings: &[&str]) {
-    if endings.iter().all(|ending| *ending == "I") {
-        return;
+/// Takes the head process, adds 1 to PC for each executed attempt, and says in which queue it
+/// ends; gives how many of the attempts were tries.
+fn run(state: &mut State, endings: &[&str]) -> usize {
+    let mut tries = 0;
+    for ending in endings.iter().filter(|ending| **ending != "I") {
+        let process = state.stepping.get_or_insert_with(|| state.draft.processes.remove(0));
+        tries += usize::from(process.sfu);
+        match *ending {
+            "E" => {
+                let pc = process.psw + 1;
+                put(&mut process.psw, 0, 0xF_FFFF, pc);
+                process.sfu = false;
+            }
+            "WD" => process.sfu = true,
+            _ => {}
+        }
     }
-    let mut process = state.draft.processes.remove(0);
-    let executed = endings.iter().filter(|ending| **ending == "E").count() as u64;
-    let pc = process.psw + executed;
-    put(&mut process.psw, 0, 0xF_FFFF, pc);
-    state.stepping = Some(process);
+    tries
 }
 
 /// Puts the process where the last ending leaves it, and records a trap.
@@ -201,13 +232,19 @@ fn settle(state: &mut State, endings: &[&str]) {
         None => state.draft.processes.push(process),
     }
     state.draft.processes.extend(state.joins);
+    in_order(&mut state.draft.processes);
 }
 
-/// The report by document 01.
-fn report(draft: &Draft, endings: &[&str]) -> String {
+/// Puts processes into the order of an image, each queue as it is.
+pub fn in_order(processes: &mut [Process]) {
+    processes.sort_by_key(|process| (process.task, process.sfu));
+}
+
+/// The report by documents 01 and 02.
+pub fn report(draft: &Draft, endings: &[&str], tries: usize) -> String {
     let own = |task: u8| draft.processes.iter().filter(move |process| process.task == task);
     let lines = draft.tasks.iter().map(|task| task_line(task, own(task.number).count()));
-    lines.collect::<String>() + &counts_line(draft, endings)
+    lines.collect::<String>() + &counts_line(draft, endings, tries)
 }
 
 /// A task's line of the report, with so many live processes.
@@ -219,8 +256,8 @@ pub fn task_line(task: &Task, live: usize) -> String {
 }
 
 /// The report's last line.
-pub fn counts_line(draft: &Draft, endings: &[&str]) -> String {
+pub fn counts_line(draft: &Draft, endings: &[&str], tries: usize) -> String {
     let count = |first| endings.iter().filter(|ending| ending.starts_with(first)).count();
     let (executed, waved, trapped, idle) = (count('E'), count('W'), count('T'), count('I'));
-    format!("E{executed} W{waved} T{trapped} I{idle} CF{}\n", draft.flag)
+    format!("E{executed} W{waved} T{trapped} I{idle} S{tries} CF{}\n", draft.flag)
 }

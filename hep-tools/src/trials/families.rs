@@ -335,7 +335,7 @@ fn part_lines(
             let registers = addressed(name, address);
             let before = format!("{WINDOW}, r0=7 quality=3, {registers}, d{place}={state}0x{word}");
             let after = match left {
-                None => "W |".to_string(),
+                None => "WD |".to_string(),
                 Some(full) if load => {
                     let state = if full { "" } else { "empty " };
                     format!("E | r0=0x{}, d{place}={state}0x{word}", loaded(part, word))

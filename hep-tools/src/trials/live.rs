@@ -1,10 +1,11 @@
 //! Live counts: lines of creates and quits in several tasks.
 //!
 //! A line is name | queues | endings | live counts. `4=2q+19c` is the queue of task 4 from head to tail: two processes at a QT, then 19
-//! at a CREATE; `n` is a NOP. Behind the queues `first=5` lets their process numbers ascend from 5, and from 63 go on at 0; `flag=1` is the
-//! create fault flag. Endings stand as in a line of the bench. The live counts are those that the report must show.
+//! at a CREATE; `n` is a NOP; behind a slash stands its SFU queue, `4=2q/3c`. Behind the queues `first=5` lets their process numbers ascend
+//! from 5, and from 63 go on at 0; `flag=1` is the create fault flag. Endings stand as in a line of both queues. The live counts are those
+//! that the report must show.
 
-use super::{bench, Trial};
+use super::{bench, queues, Trial};
 use crate::emulator::batch::Answer;
 use crate::emulator::draft::{batch_input, Draft, Process, Task};
 use crate::emulator::machine::{CREATE_FAULT, PROCESSES};
@@ -26,7 +27,7 @@ fn instruction(letter: char) -> u64 {
 }
 
 /// The trial of a line.
-pub fn trial(line: &str) -> Result<Trial, String> {
+pub fn trials(line: &str) -> Result<Vec<Trial>, String> {
     let parts: Vec<&str> = line.split('|').map(str::trim).collect();
     let [name, queues, endings, live] = parts[..] else {
         return Err("a trial of live counts has four parts".to_string());
@@ -34,12 +35,15 @@ pub fn trial(line: &str) -> Result<Trial, String> {
     let mut draft = before(queues).ok_or("bad queues")?;
     let image = draft.bytes();
     let (schedule, endings) = bench::items(endings)?;
-    for (&task, ending) in schedule.iter().zip(&endings) {
-        settle(&mut draft, task, ending).ok_or(format!("task {task} can't end with {ending}"))?;
+    for (&task, item) in schedule.iter().zip(&endings) {
+        let wrong = || format!("task {task} can't end with {item}");
+        for (ending, sfu) in queues::attempts(item) {
+            settle(&mut draft, task, sfu, ending).ok_or_else(wrong)?;
+        }
     }
     let output = report(&draft, live, &endings).ok_or("bad live counts")?;
     let expected = Answer { output: output.into_bytes(), image: Some(draft.bytes()) };
-    Ok(Trial { name: name.to_string(), input: batch_input(&schedule, &image), expected })
+    Ok(vec![Trial { name: name.to_string(), input: batch_input(&schedule, &image), expected }])
 }
 
 /// Keys and values of `1=20c, flag=1`.
@@ -59,8 +63,12 @@ fn before(queues: &str) -> Option<Draft> {
             task => {
                 let task = task.parse().ok()?;
                 draft.tasks.push(Task { pb: 0, pl: 0, ..Task::empty(task) });
-                let processes = status_words(value)?.into_iter();
-                draft.processes.extend(processes.map(|psw| Process { pt: 0, task, psw }));
+                let (own, waiting) = value.split_once('/').unwrap_or((value, "0"));
+                for (queue, sfu) in [(own, false), (waiting, true)] {
+                    let processes = status_words(queue)?.into_iter();
+                    let process = |psw| Process { sfu, ..Process::new(0, task, psw) };
+                    draft.processes.extend(processes.map(process));
+                }
             }
         }
     }
@@ -81,35 +89,33 @@ fn status_words(queue: &str) -> Option<Vec<u64>> {
     Some(psws)
 }
 
-/// What an item that ends so leaves by document 01.
-fn settle(draft: &mut Draft, task: u8, ending: &str) -> Option<()> {
+/// What an attempt that ends so leaves by documents 01 and 02; `sfu` tells of a try.
+fn settle(draft: &mut Draft, task: u8, sfu: bool, ending: &str) -> Option<()> {
     if ending == "I" {
         return Some(());
     }
     let used = |pt: &u8| draft.processes.iter().any(|process| process.pt == *pt);
     let lowest_free = (0..).find(|pt| !used(pt))?;
-    let (mut queue, others): (Vec<Process>, Vec<Process>) =
-        draft.processes.iter().partition(|process| process.task == task);
-    let head = *queue.first()?;
-    queue.remove(0);
-    let next = Process { psw: head.psw + 1, ..head };
+    let heads = |process: &Process| (process.task, process.sfu) == (task, sfu);
+    let place = draft.processes.iter().position(heads)?;
+    let head = draft.processes.remove(place);
+    let next = Process { sfu: false, psw: head.psw + 1, ..head };
     let created = Process { pt: lowest_free, ..next };
     match (ending, draft.program[head.psw as usize]) {
-        ("E", CREATE) => queue.extend([next, created]),
+        ("E", CREATE) => draft.processes.extend([next, created]),
         ("E", QT) => {}
-        ("E", _) => queue.push(next),
-        ("W", CREATE) => queue.push(head),
+        ("E", _) => draft.processes.push(next),
+        ("W", CREATE) => draft.processes.push(head),
         ("T00", CREATE) => {
-            queue.insert(0, next);
-            queue.push(created);
+            draft.processes.insert(place, Process { sfu, ..next });
+            draft.processes.push(created);
             let row = draft.tasks.iter_mut().find(|row| row.number == task)?;
             (row.kind, row.trapped) = (CREATE_FAULT, next.psw);
             draft.flag = 1;
         }
         _ => return None,
     }
-    draft.processes = [others, queue].concat();
-    draft.processes.sort_by_key(|process| process.task);
+    bench::in_order(&mut draft.processes);
     Some(())
 }
 
@@ -121,5 +127,5 @@ fn report(draft: &Draft, live: &str, endings: &[&str]) -> Option<String> {
         let own = *number == task.number.to_string();
         out += &bench::task_line(task, live.parse().ok().filter(|_| own)?);
     }
-    (counts.len() == draft.tasks.len()).then_some(out + &bench::counts_line(draft, endings))
+    (counts.len() == draft.tasks.len()).then_some(out + &queues::counts_line(draft, endings))
 }

@@ -29,7 +29,7 @@ refused-text none r e h = let z : _≡_ {A = ℕ} 0 1 = cc in absurd (omega arit
 refused-text (some d) r e h = let q : d ≡ e = cc in rw q
 
 counted-text : (x : Option Refusal) (r : Ran) (s : State) (c : Counts) → runAnswered (unless x (r .counts)) ≡ Counted c → (x ≡ none → s ≡ r .state)
-    → rowLines (s .table) (s .rows) ++ countsLine c (s .table .flag) ≡ runText x r
+    → rowLines (s .table) (s .rows) ++ countsLine c (s .table .users .flag) ≡ runText x r
 unfolding runAnswered unless runText reportOf
 counted-text none r s c h l = let q : r .counts ≡ c = cc in rw (l refl, q)
 counted-text (some d) r s c h l = let z : _≡_ {A = ℕ} 0 1 = cc in absurd (omega arith)
@@ -42,7 +42,7 @@ module _ (n : Sizes) (b b′ : Buffers) (l : List ℕ) (a : RunAnswer) (runs : R
 
   -- a run that none stops, from what it answers and leaves
   pub run-counted : (c : Counts) → a ≡ Counted c
-      → rowLines (b′ .table) (take (n .rows) (b′ .rows)) ++ countsLine c (b′ .table .flag) ≡ runText (runRefusal n b l) (run l (fieldsIn n b))
+      → rowLines (b′ .table) (take (n .rows) (b′ .rows)) ++ countsLine c (b′ .table .users .flag) ≡ runText (runRefusal n b l) (run l (fieldsIn n b))
   unfolding runAnswer fieldsIn
   run-counted c q =
       counted-text (runRefusal n b l) (run l (fieldsIn n b)) (fieldsIn n b′) c (sym (runs .answer) ∙ q)

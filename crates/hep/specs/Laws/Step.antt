@@ -7,8 +7,8 @@ use Rattle.window.specs.declared.Row.{Row}
 use Rattle.operation.specs.Decide.{decide}
 use Rattle.step.specs.declared.Ending.{Ending}
 use Rattle.step.specs.State.{State}
-use Rattle.step.specs.Step.{step}
-use Rattle.step.specs.Laws.Lengths.{step-lengths}
+use Rattle.step.specs.Step.{item}
+use Rattle.step.specs.Laws.Item.{item-lengths}
 use Rattle.library.specs.declared.StepAnswer.{StepAnswer}
 use Rattle.library.specs.declared.Rows.{Rows}
 use Rattle.library.specs.declared.Sizes.{Sizes}
@@ -29,14 +29,14 @@ module _ (b : Buffers) (n : Sizes) (t : ℕ) where
   rest = drop 7 (b .rows)
 
   abbrev ending : State → Ending
-  ending x = step t x .ending
+  ending x = item t x .ending
 
   abbrev after : State → State
-  after x = step t x .state
+  after x = item t x .state
 
   keeps : (x : State) → length (after x .rows) ≡ length (x .rows)
-  unfolding step
-  keeps x = step-lengths decide t x .rows
+  unfolding item
+  keeps x = item-lengths decide t x .rows
 
   step-seven : (r : StepAnswer) (a : Buffers) → StepPromise n (seven b) t r a → StepPromise n b t r (behind rest a)
   unfolding stepRefusal stepAnswer stepLeaves

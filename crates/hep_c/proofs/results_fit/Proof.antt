@@ -3,7 +3,7 @@
 use Prim.Native.Nat.{_+_}
 use native.Mathlib.Omega.{arith}
 use borrow.Author.Tests.{le-leb, lt-leb}
-use Rattle.hep_c.specs.Answers.{growth, resultsFit}
+use Rattle.hep_c.specs.Answers.{growth, countNumbers, resultsFit}
 use Rattle.hep_c.proofs.results_fit.Statement.{statement}
 use Rattle.hep_c.proofs.results_fit.Tie as tie
 
@@ -21,7 +21,7 @@ returns-3 c = let a = c .before .before .before .args in simp (le-leb (a .image 
 
 returns-4 : tie.Need-returns-4
 unfolding resultsFit
-returns-4 c = let a = c .before .before .before .args in rw (le-leb (a .image + growth) (a .output) (omega (arith, c .before .before .if1 .left, c .before .if2 .left)), le-leb 6 (a .counts) (c .if3 .left))
+returns-4 c = let a = c .before .before .before .args in rw (le-leb (a .image + growth) (a .output) (omega (arith, c .before .before .if1 .left, c .before .if2 .left)), le-leb countNumbers (a .counts) (c .if3 .left))
 
 pub results-fit-spec : {M : Type 1} → statement M
 results-fit-spec = tie.close (tie.spec returns returns-2 returns-3 returns-4)

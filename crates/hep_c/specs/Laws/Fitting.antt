@@ -16,7 +16,7 @@ use Rattle.library.specs.declared.Sizes.{Sizes}
 use Rattle.library.specs.Buffers.{Room, fits}
 use Rattle.library.specs.Calls.{orElse}
 use Rattle.library.specs.Trials.{numbered}
-use Rattle.hep_c.specs.Answers.{growth, resultsFit, lengthsRefusal}
+use Rattle.hep_c.specs.Answers.{growth, countNumbers, resultsFit, lengthsRefusal}
 use Rattle.report_text.specs.Texts.{reportRoom}
 
 -- ---- a schedule
@@ -55,7 +55,7 @@ module _ (schedule : List ℕ) (n : Sizes) (memories : Room) (image output count
     pub memories-fit : fits n memories ≡ true
     pub schedule-taken : scheduleRefusal schedule ≡ none
     pub output-fits : image + growth ≤ output
-    pub counts-fit : 6 ≤ counts
+    pub counts-fit : countNumbers ≤ counts
     pub report-fits : reportRoom ≤ report
 
   pub accepted : lengthsRefusal schedule n memories image output counts report ≡ none → Accepted
@@ -65,7 +65,7 @@ module _ (schedule : List ℕ) (n : Sizes) (memories : Room) (image output count
       go : (m : Bool) → fits n memories ≡ m → (r : Bool) → resultsFit image output counts report ≡ r
           → orElse (cond (m && r) none (some ShortBuffer)) (scheduleRefusal schedule) ≡ none → Accepted
       go true p true q h =
-          let u = both (leb-true (image + growth) output) (both (leb-true 6 counts) (leb-true reportRoom report)) q in
+          let u = both (leb-true (image + growth) output) (both (leb-true countNumbers counts) (leb-true reportRoom report)) q in
           record { memories-fit = p; schedule-taken = h; output-fits = u .0; counts-fit = u .1 .0; report-fits = u .1 .1 }
       go true p false q h = absurd (none-some ShortBuffer (sym h))
       go false p r q h = absurd (none-some ShortBuffer (sym h))

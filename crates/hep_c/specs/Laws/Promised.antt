@@ -14,7 +14,7 @@ use Rattle.library.specs.Buffers.{sizesOf}
 use Rattle.library.specs.Calls.{Answer, answers, unless, checkAnswer}
 use Rattle.library.specs.Promises.{readAnswered}
 use Rattle.library.specs.Trials.{numbered}
-use Rattle.hep_c.specs.Answers.{numberAnswered, Slices, imageRunRefusal, imageRunAnswer, imageRunLeft, ImageRunPromise}
+use Rattle.hep_c.specs.Answers.{numberAnswered, Slices, countNumbers, imageRunRefusal, imageRunAnswer, imageRunLeft, ImageRunPromise}
 use Rattle.hep_c.specs.Laws.Fitting.{accepted}
 use Rattle.hep_c.specs.Laws.Numbers.{found-bad, found-good, numbered-unless, refused-stays}
 
@@ -52,6 +52,6 @@ module _ (image schedule : List ℕ) (l : Slices) where
       answered z (decode image) (f .image) (f .is) (f .sizes) ∙ ap (λ (o : Option Refusal). unless o (run schedule (stateOf (f .image)))) e in
       record { answer = ap numberAnswered (sym a); leaves = k }
 
-  pub counts-roomy : (n : Sizes) → imageRunRefusal image schedule n l ≡ none → 6 ≤ length (l .counts)
+  pub counts-roomy : (n : Sizes) → imageRunRefusal image schedule n l ≡ none → countNumbers ≤ length (l .counts)
   unfolding imageRunRefusal
   counts-roomy n e = accepted schedule n _ (length image) (length (l .output)) (length (l .counts)) (length (l .report)) e .counts-fit

@@ -115,7 +115,7 @@ ascends before (k ∷ ks) = leb before k && ascends k ks
 
 byte-fits : (rows : List Row) (b : ℕ) → byteSound rows b ≡ true → b < 256 ^ 1
 unfolding byteSound
-byte-fits rows b g = omega (arith, ltb-true b 16 (and-left (ltb b 16) (hasRow (b % 16) rows) g))
+byte-fits rows b g = omega (arith, ltb-true b 32 (and-left (ltb b 32) (hasRow (b % 16) rows) g))
 
 module _ (rows : List Row) where
   process-ok : (before : ℕ) (p : Process)

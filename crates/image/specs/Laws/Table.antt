@@ -2,19 +2,19 @@
 use Prim.Native.Nat.{ℕ, zero, suc, _+_, _-_, _*_, _/_, _%_, _≤_, _<_}
 use mathlib.Core.Path.{_≡_, refl, sym, ap, _∙_}
 use mathlib.Core.Logic.{_≢_}
-use mathlib.Core.Bool.{Bool, true, false, cond, _&&_}
+use mathlib.Core.Bool.{Bool, true, false, cond}
 use mathlib.Core.List.{List, [], _∷_, _++_, map}
 use native.Mathlib.Omega.{arith}
 use lib.ListN.{length, getD, take, drop, replicate, length-append, length-replicate, length-set}
 use lib.Seq.{drop-cons, take-append-seam}
-use lib.Dec.{eqb, ltb}
-use borrow.Author.Tests.{eq-eqb, ne-eqb, ltb-true, lt-ltb, le-ltb}
-use Rattle.word.specs.Laws.Bools.{Eq?, same, differ, eq?, and-left, and-right, clash}
+use lib.Dec.{eqb}
+use borrow.Author.Tests.{eq-eqb, ne-eqb, ltb-true, lt-ltb}
+use Rattle.word.specs.Laws.Bools.{and-left, and-right, clash}
 use Rattle.word.specs.Laws.Conjunctions.{both}
 use Rattle.window.specs.declared.Row.{Row}
 use Rattle.step.specs.declared.Queue.{Queue}
 use Rattle.step.specs.Queues.{ring, listOf}
-use Rattle.step.specs.Soundness.{every, hasRow, rowsSound, mayHold}
+use Rattle.step.specs.Soundness.{every, rowsSound, mayHold}
 use Rattle.step.specs.Laws.Sound.{hasRow-range}
 use Rattle.image.specs.declared.Process.{Process}
 use Rattle.image.specs.Image.{queueOfByte, byteOfQueue, byteSound, processQueue, ptsOf, queueOf, queuesOf, pswTable}
@@ -97,19 +97,15 @@ number-byte b h =
 pub byte-range : (rows : List Row) → rowsSound 0 rows ≡ true → (b : ℕ) → byteSound rows b ≡ true → (b < 32) × (queueOfByte b < 16)
 unfolding byteSound queueOfByte
 byte-range rows o b e =
-    let u = both (ltb-true b 16) (λ x. x) e in
+    let u = both (ltb-true b 32) (λ x. x) e in
     let k = hasRow-range 0 (b % 16) rows o (u .1) .1 in
     (omega (arith, u .0), omega (arith, u .0, k))
 
 pub byte-holds : (rows : List Row) (k : ℕ) → k < 16 → byteSound rows (byteOfQueue k) ≡ mayHold rows k
 unfolding byteSound byteOfQueue mayHold
-byte-holds rows k h = go (eqb (k % 2) 0) (eq? (k % 2) 0)
-  where
-    go : (b : Bool) → Eq? (k % 2) 0 b → ltb (k / 2 + 16 * (k % 2)) 16 && hasRow ((k / 2 + 16 * (k % 2)) % 16) rows ≡ b && hasRow (k / 2) rows
-    go true (same e) =
-        let a : (k / 2 + 16 * (k % 2)) % 16 ≡ k / 2 = omega (arith, e) in
-        rw (lt-ltb (k / 2 + 16 * (k % 2)) 16 (omega (arith, e)), a)
-    go false (differ n) = rw (le-ltb (k / 2 + 16 * (k % 2)) 16 (omega (arith, n)))
+byte-holds rows k h =
+    let a : (k / 2 + 16 * (k % 2)) % 16 ≡ k / 2 = omega arith in
+    rw (lt-ltb (k / 2 + 16 * (k % 2)) 32 (omega arith), a)
 
 -- ---- PSWs
 

@@ -5,8 +5,8 @@ use mathlib.Core.Bool.{_&&_}
 use lib.Dec.{leb}
 use Rattle.word.specs.Fields.{pswSound}
 use Rattle.refusal.specs.declared.Refusal.the-variants.{ProcessField}
-use Rattle.step.specs.Soundness.{ptSound, hasRow}
-use Rattle.image.specs.Image.{processCodec, toProcess, fromProcess}
+use Rattle.step.specs.Soundness.{ptSound}
+use Rattle.image.specs.Image.{queueOfByte, byteSound, processCodec, toProcess, fromProcess}
 use Rattle.image_bytes.specs.Laws.Spans.{num-spans}
 use Rattle.image_bytes.specs.Laws.Scans.{number-scan, field-scan, then-scan, via-scan}
 use Rattle.image_check.specs.Code.Places.{rowsAt}
@@ -49,7 +49,7 @@ returns c =
     let s = a .s .now in
     sym (via-scan toProcess fromProcess _ s (a .c)
     ∙ then-scan (num-spans 1 ProcessField _) s (a .c) (check-below .ensures) _
-    ∙ field-scan 1 ProcessField (λ t. leb (a .before) t && hasRow t (rowsAt (a .n) s)) (omega arith) s (check-below .result) (value .ensures .0)
+    ∙ field-scan 1 ProcessField (λ b. leb (a .before) (queueOfByte b) && byteSound (rowsAt (a .n) s) b) (omega arith) s (check-below .result) (value .ensures .0)
     (task-listed .ensures) (check-number .ensures) _
     ∙ number-scan 8 ProcessField pswSound (omega arith) s (check-number .result) (value2 .ensures .0) (psw-sound .ensures)
     (c .check-number2 .ensures))

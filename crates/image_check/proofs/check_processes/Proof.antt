@@ -4,7 +4,7 @@ use mathlib.Core.Path.{refl, sym, ap, _∙_}
 use Rattle.refusal.specs.declared.Refusal.the-variants.{ProcessField}
 use Rattle.step.specs.Soundness.{flagSound}
 use Rattle.image.specs.Codec.{decMany}
-use Rattle.image.specs.Image.{processCodec, processTask, processesCodec}
+use Rattle.image.specs.Image.{processCodec, queueAfter, processesCodec}
 use Rattle.image_bytes.specs.Code.Scanning.{scan}
 use Rattle.image_bytes.specs.Laws.Spans.{num-spans}
 use Rattle.image_bytes.specs.Laws.Scans.{within, number-scan, section-scan}
@@ -44,9 +44,9 @@ returns c =
     let s = args .s .now in
     let rows = rowsAt (args .n) s in
     c .check-each-process .ensures
-    ∙ sym (section-scan (processCodec rows) processTask s 1 64 (omega arith) (args .c) (value .ensures .0) refl (check-number .ensures)
+    ∙ sym (section-scan (processCodec rows) queueAfter s 1 64 (omega arith) (args .c) (value .ensures .0) refl (check-number .ensures)
     (num-spans 1 ProcessField flagSound) 0
-    ∙ ap (scan (decMany (processCodec rows) processTask 0 (value .result)) s) (number-scan 1 ProcessField flagSound (omega arith) s
+    ∙ ap (scan (decMany (processCodec rows) queueAfter 0 (value .result)) s) (number-scan 1 ProcessField flagSound (omega arith) s
     (check-number .result) (value2 .ensures .0) refl (check-number2 .ensures)))
 
 pub check-processes-spec : {M : Type 1} → statement M

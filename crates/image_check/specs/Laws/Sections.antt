@@ -14,7 +14,7 @@ use Rattle.window.specs.Sound.{bits, tagSound, stateSound, qualitySound}
 use Rattle.step.specs.Soundness.{taskSound, kindSound, recordSound, ptSound, flagSound}
 use Rattle.refusal.specs.declared.Refusal.the-variants.{TaskField, ProcessField}
 use Rattle.image.specs.Codec.{field, uniformSection, noState}
-use Rattle.image.specs.Image.{rowCodec, toRow, fromRow, rowTask, tasksCodec, processCodec, toProcess, fromProcess, processTask, processesCodec, rowLength, processLength}
+use Rattle.image.specs.Image.{rowCodec, toRow, fromRow, rowTask, tasksCodec, processCodec, toProcess, fromProcess, queueAfter, processesCodec, rowLength, processLength}
 use Rattle.image.specs.Image.{wordsCodec, cellsCodec, imageCodec, toImage, fromImage, memoryOf, stateOf}
 use Rattle.image_bytes.specs.Code.Reading.{fieldAt, listed, wordsAt, cellFrom, cellsAt}
 use Rattle.image_bytes.specs.Laws.Listed.{length-listed, listed-at}
@@ -70,7 +70,7 @@ tasks-spans = listSection-spans rowTask row-spans 1 7 0
 pub processes-spans : (rows : List Row)
     → Spans (processesCodec rows) (λ b. (field 1 (drop 1 b), listed processLength (λ p. processAt 0 (drop p b)) (field 1 b) 2)) (λ b. 2 + processLength * field 1 b)
 unfolding processesCodec
-processes-spans rows = section-spans processTask (process-spans rows) (num-spans 1 ProcessField flagSound) 1 64 0
+processes-spans rows = section-spans queueAfter (process-spans rows) (num-spans 1 ProcessField flagSound) 1 64 0
 
 pub words-spans : (w most : ℕ) → Spans (wordsCodec w most) (λ b. listed 8 (λ p. field 8 (drop p b)) (field w b) w) (λ b. w + 8 * field w b)
 unfolding wordsCodec uniformSection

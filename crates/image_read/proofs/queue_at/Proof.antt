@@ -1,7 +1,8 @@
 -- Skeleton and paths (.before ..) are generated: docs/PROOFS.md.
 -- `image_read::queue_at` meets its contract: by the laws of `Table`.
-use mathlib.Core.Path.{sym, _∙_}
+use mathlib.Core.Path.{sym, ap, _∙_}
 use mathlib.Core.Logic.{⊎-elim}
+use Rattle.image.specs.Image.{queueOfByte}
 use Rattle.image_bytes.specs.Code.Reading.{numberAt}
 use Rattle.image_read.proofs.Table.{Queueing, queue-start, queue-taken, queue-skipped, queue-done}
 use borrow.Author.Needs.{needs}
@@ -22,6 +23,9 @@ add-number-at c = search needs
 
 number-at-requires : tie.Need-number-at-requires Inv-loop μ-loop
 number-at-requires c κs = search needs
+
+queue-of-byte-requires : tie.Need-queue-of-byte-requires Inv-loop μ-loop
+queue-of-byte-requires c κs = search needs
 
 number-at-requires-2 : tie.Need-number-at-requires-2 Inv-loop μ-loop
 number-at-requires-2 c κs = search needs
@@ -47,10 +51,11 @@ loop-less c = search needs
 loop-again : tie.Need-loop-again Inv-loop μ-loop
 unfolding numberAt
 loop-again c =
-    let q = c .before .before .before .loop .inv in
-    let more = c .before .before .loop-test .taken in
-    ⊎-elim (λ w. rw (w .2, w .3) (queue-taken _ _ _ _ _ _ _ _ q more (sym (c .before .number-at .ensures .0) ∙ w .0 .taken) (w .1 .ensures .0)))
-    (λ w. rw (w .1, w .2) (queue-skipped _ _ _ _ _ _ _ _ q more (λ e. w .0 .left (c .before .number-at .ensures .0 ∙ e)))) (c .if1 .came)
+    let q = c .before .before .before .before .loop .inv in
+    let more = c .before .before .before .loop-test .taken in
+    let named = c .before .queue-of-byte .ensures ∙ ap queueOfByte (c .before .before .number-at .ensures .0) in
+    ⊎-elim (λ w. rw (w .2, w .3) (queue-taken _ _ _ _ _ _ _ _ q more (sym named ∙ w .0 .taken) (w .1 .ensures .0)))
+    (λ w. rw (w .1, w .2) (queue-skipped _ _ _ _ _ _ _ _ q more (λ e. w .0 .left (named ∙ e)))) (c .if1 .came)
 
 returns : tie.Need-returns Inv-loop μ-loop
 returns c = queue-done _ _ _ _ _ _ _ _ (c .before .loop .inv) (c .loop-test .left)
@@ -58,4 +63,4 @@ returns c = queue-done _ _ _ _ _ _ _ _ (c .before .loop .inv) (c .loop-test .lef
 pub queue-at-spec : {M : Type 1} → statement M
 queue-at-spec =
     tie.close
-    (tie.spec Inv-loop μ-loop loop-holds add-number-at number-at-requires number-at-requires-2 cast-pts array-write-pts add-len add-p sub-k loop-less loop-again returns)
+    (tie.spec Inv-loop μ-loop loop-holds add-number-at number-at-requires queue-of-byte-requires number-at-requires-2 cast-pts array-write-pts add-len add-p sub-k loop-less loop-again returns)

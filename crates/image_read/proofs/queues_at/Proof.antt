@@ -1,36 +1,56 @@
--- Skeleton and paths (.before ..) are generated: docs/PROOFS.md.
--- `image_read::queues_at` meets its contract: one queue after another.
+use Prim.Native.Nat.{_-_, _≤_}
+use mathlib.Core.Path.{_≡_, refl, _∙_}
+use native.Mathlib.Omega.{arith}
+use lib.ListN.{length, take, length-set}
 use Rattle.image.specs.Image.{queuesOf}
+use Rattle.image_check.specs.Code.Places.{processesAt}
+use Rattle.image_read.proofs.Table.{queues-go, queues-full}
 use borrow.Author.Needs.{needs}
 use Rattle.image_read.proofs.queues_at.Statement.{statement}
 use Rattle.image_read.proofs.queues_at.Tie as tie
 
-queue-at-requires : tie.Need-queue-at-requires
+abbrev Inv-loop : tie.InvT-loop
+Inv-loop image at m queues₀ k₀ queues k = (k ≤ 16) × (length queues ≡ 16) × (take k queues ≡ queuesOf k 0 (processesAt m at image))
+
+abbrev μ-loop : tie.MeasureT-loop
+μ-loop image at m queues₀ k₀ queues k = 16 - k
+
+loop-holds : tie.Need-loop-holds Inv-loop μ-loop
+unfolding queuesOf
+loop-holds c = (omega arith, refl, refl)
+
+queue-at-requires : tie.Need-queue-at-requires Inv-loop μ-loop
 queue-at-requires c κs = search needs
 
-queue-at-requires-2 : tie.Need-queue-at-requires-2
-queue-at-requires-2 c κs = search needs
+mul-queues : tie.Need-mul-queues Inv-loop μ-loop
+mul-queues c = omega arith
 
-queue-at-requires-3 : tie.Need-queue-at-requires-3
-queue-at-requires-3 c κs = search needs
+array-set-from-queues : tie.Need-array-set-from-queues Inv-loop μ-loop
+array-set-from-queues c = omega arith
 
-queue-at-requires-4 : tie.Need-queue-at-requires-4
-queue-at-requires-4 c κs = search needs
+add-k : tie.Need-add-k Inv-loop μ-loop
+add-k c = omega arith
 
-queue-at-requires-5 : tie.Need-queue-at-requires-5
-queue-at-requires-5 c κs = search needs
+loop-less : tie.Need-loop-less Inv-loop μ-loop
+loop-less c = omega arith
 
-queue-at-requires-6 : tie.Need-queue-at-requires-6
-queue-at-requires-6 c κs = search needs
+loop-again : tie.Need-loop-again Inv-loop μ-loop
+loop-again c = let l = c .before .before .loop in (omega arith, length-set (l .queues) (l .k) _ ∙ l .inv .1, queues-go (l .queues) (l .k) _ _ (omega arith) (c .queue-at .ensures) (l .inv .2))
 
-queue-at-requires-7 : tie.Need-queue-at-requires-7
-queue-at-requires-7 c κs = search needs
-
-returns : tie.Need-returns
-unfolding queuesOf
-returns c = rw (c .queue-at7 .ensures, c .before .queue-at6 .ensures, c .before .before .queue-at5 .ensures, c .before .before .before .queue-at4 .ensures, c .before .before .before .before .queue-at3 .ensures, c .before .before .before .before .before .queue-at2 .ensures, c .before .before .before .before .before .before .queue-at .ensures)
+returns : tie.Need-returns Inv-loop μ-loop
+returns c = let l = c .before .loop in queues-full (l .queues) (l .k) _ (l .inv .1) (omega arith) (l .inv .2)
 
 pub queues-at-spec : {M : Type 1} → statement M
 queues-at-spec =
     tie.close
-    (tie.spec queue-at-requires queue-at-requires-2 queue-at-requires-3 queue-at-requires-4 queue-at-requires-5 queue-at-requires-6 queue-at-requires-7 returns)
+    (tie.spec
+    Inv-loop
+    μ-loop
+    loop-holds
+    queue-at-requires
+    mul-queues
+    array-set-from-queues
+    add-k
+    loop-less
+    loop-again
+    returns)

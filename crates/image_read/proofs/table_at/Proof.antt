@@ -1,6 +1,7 @@
 -- Skeleton and paths (.before ..) are generated: docs/PROOFS.md.
 -- `image_read::table_at` meets its contract.
 use Rattle.image_bytes.specs.Code.Reading.{numberAt}
+use Rattle.image_read.proofs.Table.{queues-fit}
 use borrow.Author.Needs.{needs}
 use Rattle.image_read.proofs.table_at.Statement.{statement}
 use Rattle.image_read.proofs.table_at.Tie as tie
@@ -31,7 +32,7 @@ live-counts-requires c κs = search needs
 
 returns : tie.Need-returns
 unfolding numberAt
-returns c = rw (c .live-counts .ensures, c .before .queues-at .ensures, c .before .before .psws-at .ensures, c .before .before .before .number-at .ensures .0)
+returns c = rw (c .live-counts .ensures (queues-fit _ _ _ _ (c .before .queues-at .ensures) (c .before .before .before .before .before .pre .1)), c .before .queues-at .ensures, c .before .before .psws-at .ensures, c .before .before .before .number-at .ensures .0)
 
 pub table-at-spec : {M : Type 1} → statement M
 table-at-spec =

@@ -12,7 +12,7 @@ use Rattle.step.specs.Soundness.{flagSound}
 use Rattle.refusal.specs.declared.Refusal.the-variants.{InputEnds, CountOverLimit, ProcessField}
 use Rattle.image.specs.declared.Process.{Process}
 use Rattle.image.specs.Codec.{Codec, refused, accepted, field, bind, num, count, seq, via, decMany, section, noHeader, listSection}
-use Rattle.image.specs.Image.{Image, Decoded, good, stateOf, toImage, rowCodec, rowTask, tasksCodec, processCodec, processTask, processesCodec, imageCodec, decode, rowLength, processLength}
+use Rattle.image.specs.Image.{Image, Decoded, good, stateOf, toImage, rowCodec, rowTask, tasksCodec, processCodec, queueAfter, processesCodec, imageCodec, decode, rowLength, processLength}
 use Rattle.image.specs.Laws.Codec.{bind-elim}
 use Rattle.image.specs.Laws.Accepted.{after-good}
 use Rattle.image_bytes.specs.Laws.Listed.{length-listed}
@@ -66,7 +66,7 @@ tasks-few b rows r h =
 
 processes-few : (rows : List Row) (b : List ℕ) (p : ℕ × List Process) (r : List ℕ) → processesCodec rows .dec b ≡ accepted p r → length (p .1) ≤ 64
 unfolding processesCodec
-processes-few rows b p r h = section-few (processCodec rows) processTask (num 1 ProcessField flagSound) 1 64 0 b p r h
+processes-few rows b p r h = section-few (processCodec rows) queueAfter (num 1 ProcessField flagSound) 1 64 0 b p r h
 
 image-few : (b : List ℕ) (i : Image) (r : List ℕ) → imageCodec .dec b ≡ accepted i r → (length (i .rows) ≤ 7) × (length (i .processes) ≤ 64)
 unfolding imageCodec via seq

@@ -61,9 +61,9 @@ put-processes-requires : tie.Need-put-processes-requires
 unfolding stateIn
 put-processes-requires c κs =
     let s = c .before .before .before .before .before .before .before .before .before .before .before .before .before in
-    let t = s .args .table in
+    let t = s .args .table .users in
     let z = z₁ (c .before .before .before) in
-    let f = room 0 _ _ z {xs = processesSection (t .flag) (processesFrom (t .psw) 1 (t .queues))} (record { is = refl }) in
+    let f = room 0 _ _ z {xs = processesSection (t .flag) (processesFrom (t .psw) 0 (t .queues))} (record { is = refl }) in
     (s .pre .0 .1 .0, rw (processes-size (t .psw) (t .flag) (t .queues) (s .args .m) (s .pre .0 .1 .0)) at f)
 
 put-cells-requires : tie.Need-put-cells-requires

@@ -31,9 +31,9 @@ same-length c = search needs
 returns : tie.Need-returns
 returns c =
     let s = c .before .before .before .before .before .before .before .before .before .before .before .before .before .before .before .before in
-    let t = s .args .table in
+    let t = s .args .users in
     let e = c .before .before .put-queues .ensures in
-    (omega (arith, e .0, s .pre, processes-size (t .psw) (t .flag) (t .queues) (s .args .m) (s .pre .0), processes-length (processesFrom (t .psw) 1 (t .queues)), from-length (t .psw) 1 (t .queues)), processes-put _ _ _ _ (s .pre .0) _ _ (s .pre .1) (c .before .before .before .before .before .before .before .before .before .before .before .put-number .ensures) (c .before .before .before .before .before .before .put-number2 .ensures) (e .1))
+    (omega (arith, e .0, s .pre, processes-size (t .psw) (t .flag) (t .queues) (s .args .m) (s .pre .0), processes-length (processesFrom (t .psw) 0 (t .queues)), from-length (t .psw) 0 (t .queues)), processes-put _ _ _ _ (s .pre .0) _ _ (s .pre .1) (c .before .before .before .before .before .before .before .before .before .before .before .put-number .ensures) (c .before .before .before .before .before .before .put-number2 .ensures) (e .1))
 
 pub put-processes-spec : {M : Type 1} → statement M
 put-processes-spec =

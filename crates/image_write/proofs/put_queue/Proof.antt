@@ -11,15 +11,15 @@ use Rattle.image_write.proofs.put_queue.Statement.{statement}
 use Rattle.image_write.proofs.put_queue.Tie as tie
 
 abbrev Inv-loop : tie.InvT-loop
-Inv-loop out₀ at psw task q p₀ head₀ left₀ out p head left = (head < 64) × Going at (processesBytes (processesIn psw task (listOf q))) out₀ out p (ringBytes psw task (q .pts) head left)
+Inv-loop out₀ at psw k q p₀ head₀ left₀ out p head left = (head < 64) × Going at (processesBytes (processesIn psw k (listOf q))) out₀ out p (ringBytes psw k (q .pts) head left)
 
 abbrev μ-loop : tie.MeasureT-loop
-μ-loop out₀ at psw task q p₀ head₀ left₀ out p head left = left
+μ-loop out₀ at psw k q p₀ head₀ left₀ out p head left = left
 
 loop-holds : tie.Need-loop-holds Inv-loop μ-loop
 loop-holds c =
     let s = c .before in
-    (omega arith, spelled _ _ _ (start _ _ _ (omega (arith, s .pre, queue-length (s .args .psw) (s .args .task) (s .args .t5)))) (ring-starts _ _ _))
+    (omega arith, spelled _ _ _ (start _ _ _ (omega (arith, s .pre, queue-length (s .args .psw) (s .args .k) (s .args .t5)))) (ring-starts _ _ _))
 
 element-copy-out-pt : tie.Need-element-copy-out-pt Inv-loop μ-loop
 element-copy-out-pt c = omega arith

@@ -11,16 +11,16 @@ use Rattle.image_write.proofs.put_queues.Statement.{statement}
 use Rattle.image_write.proofs.put_queues.Tie as tie
 
 abbrev Inv-loop : tie.InvT-loop
-Inv-loop out₀ at psw queues p₀ task₀ k₀ out p task k = (k ≤ 7) × ((task ≡ k + 1) × Going at (processesBytes (processesFrom psw 1 queues)) out₀ out p (processesBytes (processesFrom psw task (drop k queues))))
+Inv-loop out₀ at psw queues p₀ task₀ k₀ out p task k = (k ≤ 16) × ((task ≡ k) × Going at (processesBytes (processesFrom psw 0 queues)) out₀ out p (processesBytes (processesFrom psw task (drop k queues))))
 
 abbrev μ-loop : tie.MeasureT-loop
-μ-loop out₀ at psw queues p₀ task₀ k₀ out p task k = 7 - k
+μ-loop out₀ at psw queues p₀ task₀ k₀ out p task k = 16 - k
 
 loop-holds : tie.Need-loop-holds Inv-loop μ-loop
 loop-holds c =
     let s = c .before in
     let a = s .args in
-    (omega arith, (refl, start _ _ _ (omega (arith, s .pre, processes-length (processesFrom (a .psw) 1 (a .t4)), from-length (a .psw) 1 (a .t4)))))
+    (omega arith, (refl, start _ _ _ (omega (arith, s .pre, processes-length (processesFrom (a .psw) 0 (a .t4)), from-length (a .psw) 0 (a .t4)))))
 
 mul-put-queue : tie.Need-mul-put-queue Inv-loop μ-loop
 mul-put-queue c = omega arith
@@ -31,8 +31,8 @@ array-copy-out-put-queue c = omega arith
 put-queue-requires : tie.Need-put-queue-requires Inv-loop μ-loop
 put-queue-requires c κs = let l = c .before .before .before in queues-room _ _ (l .before .before .args .t4) (l .loop .k) (l .loop .inv .1 .1) (omega arith)
 
-add-task : tie.Need-add-task Inv-loop μ-loop
-add-task c = omega arith
+add-number : tie.Need-add-number Inv-loop μ-loop
+add-number c = omega arith
 
 add-k : tie.Need-add-k Inv-loop μ-loop
 add-k c = omega arith
@@ -61,7 +61,7 @@ put-queues-spec =
     mul-put-queue
     array-copy-out-put-queue
     put-queue-requires
-    add-task
+    add-number
     add-k
     loop-less
     loop-again

@@ -49,7 +49,7 @@ cellsSection w tags words = digits w (length words) ++ cellBytes tags words
 unfoldable pub imageBytes : State → List ℕ
 imageBytes s =
     tasksSection (s .rows)
-    ++ (processesSection (s .table .flag) (processesFrom (s .table .psw) 1 (s .table .queues))
+    ++ (processesSection (s .table .users .flag) (processesFrom (s .table .users .psw) 0 (s .table .users .queues))
     ++ (cellsSection 2 (s .constants .tags) (s .constants .words)
     ++ (cellsSection 2 (s .registers .tags) (s .registers .words)
     ++ (wordsSection 4 (s .program)

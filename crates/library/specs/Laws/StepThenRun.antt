@@ -12,7 +12,7 @@ use Rattle.refusal.specs.declared.Refusal.{Refusal}
 use Rattle.refusal.specs.declared.Refusal.the-variants.{ListTooLong, ItemOutOfRange}
 use Rattle.step.specs.State.{State}
 use Rattle.step.specs.Soundness.{every}
-use Rattle.step.specs.Step.{item}
+use Rattle.step.specs.Step.{accountOf, item}
 use Rattle.step.specs.Laws.Rows.{none-some}
 use Rattle.step.specs.Laws.Item.{item-sound}
 use Rattle.run.specs.declared.Counts.{Counts}
@@ -96,7 +96,7 @@ module _ (n : Sizes) (b : Buffers) (t : ℕ) (ts : List ℕ) (e : runRefusal n b
   pub others-answer : runAnswer n (stepLeaves n b t) ts ≡ answers (run ts s′ .counts)
   others-answer = run-answers n (stepLeaves n b t) ts others-unrefused ∙ ap (λ (x : State). answers (run ts x .counts)) found
 
-  pub all-answers : runAnswer n b (t ∷ ts) ≡ answers (counted (item t s .ending) (run ts s′ .counts))
+  pub all-answers : runAnswer n b (t ∷ ts) ≡ answers (counted (accountOf (item t s)) (run ts s′ .counts))
   all-answers = run-answers n b (t ∷ ts) e ∙ ap (λ (c : Counts). answers c) (run-first-counts t ts s)
 
   after : run ts (fieldsIn n (stepLeaves n b t)) .state ≡ run (t ∷ ts) s .state

@@ -1,6 +1,4 @@
-use mathlib.Core.Path.{ap}
-use Rattle.report_text.specs.Code.Pushes.{appended}
-use Rattle.report_text.specs.Laws.Lines.{counts-joined}
+use Rattle.report.specs.Report.{countsLine}
 use Rattle.report_text.specs.Laws.Texts.{appended-twice}
 use borrow.Author.Needs.{needs}
 use Rattle.report_text.proofs.push_counts.Statement.{statement}
@@ -18,23 +16,21 @@ push-next-requires-2 c κs = search needs
 push-next-requires-3 : tie.Need-push-next-requires-3
 push-next-requires-3 c κs = search needs
 
+push-next-requires-4 : tie.Need-push-next-requires-4
+push-next-requires-4 c κs = search needs
+
+push-flag-requires : tie.Need-push-flag-requires
+push-flag-requires c κs = search needs
+
 push-requires : tie.Need-push-requires
 push-requires c κs = search needs
-
-push-requires-2 : tie.Need-push-requires-2
-push-requires-2 c κs = search needs
-
-push-count-requires-2 : tie.Need-push-count-requires-2
-push-count-requires-2 c κs = search needs
-
-push-requires-3 : tie.Need-push-requires-3
-push-requires-3 c κs = search needs
 
 same-length : tie.Need-same-length
 same-length c = search needs
 
 returns : tie.Need-returns
-returns c = simp (c .before .before .push3 .ensures, c .before .before .before .before .before .before .push-count2 .ensures, c .before .before .before .before .before .before .before .before .before .before .push2 .ensures, c .before .before .before .before .before .before .before .before .before .before .before .before .before .before .push .ensures, c .before .before .before .before .before .before .before .before .before .before .before .before .before .before .before .before .before .before .push-next3 .ensures, c .before .before .before .before .before .before .before .before .before .before .before .before .before .before .before .before .before .before .before .before .before .before .push-next2 .ensures, c .before .before .before .before .before .before .before .before .before .before .before .before .before .before .before .before .before .before .before .before .before .before .before .before .before .before .push-next .ensures, c .before .before .before .before .before .before .before .before .before .before .before .before .before .before .before .before .before .before .before .before .before .before .before .before .before .before .before .before .before .before .push-count .ensures, appended-twice) (ap (appended _) (counts-joined (c .before .before .before .before .before .before .before .before .before .before .before .before .before .before .before .before .before .before .before .before .before .before .before .before .before .before .before .before .before .before .before .before .before .args .counts) (c .before .before .before .before .before .before .before .before .before .before .before .before .before .before .before .before .before .before .before .before .before .before .before .before .before .before .before .before .before .before .before .before .before .args .flag)))
+unfolding countsLine
+returns c = simp (c .before .before .push .ensures, c .before .before .before .before .before .before .push-flag .ensures, c .before .before .before .before .before .before .before .before .before .before .push-next4 .ensures, c .before .before .before .before .before .before .before .before .before .before .before .before .before .before .push-next3 .ensures, c .before .before .before .before .before .before .before .before .before .before .before .before .before .before .before .before .before .before .push-next2 .ensures, c .before .before .before .before .before .before .before .before .before .before .before .before .before .before .before .before .before .before .before .before .before .before .push-next .ensures, c .before .before .before .before .before .before .before .before .before .before .before .before .before .before .before .before .before .before .before .before .before .before .before .before .before .before .push-count .ensures, appended-twice)
 
 pub push-counts-spec : {M : Type 1} → statement M
 push-counts-spec =
@@ -44,9 +40,8 @@ push-counts-spec =
     push-next-requires
     push-next-requires-2
     push-next-requires-3
+    push-next-requires-4
+    push-flag-requires
     push-requires
-    push-requires-2
-    push-count-requires-2
-    push-requires-3
     same-length
     returns)

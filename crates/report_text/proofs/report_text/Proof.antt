@@ -18,7 +18,7 @@ same-length : tie.Need-same-length
 same-length c = search needs
 
 returns : tie.Need-returns
-returns c = let a = c .before .before .before .before .before .before .before .before .before .args in let small : a .table .flag < 256 = search needs in let few = length-counts (a .counts) (a .table .flag) small in promised _ _ _ _ (simp (c .before .before .push-counts .ensures, c .before .before .before .before .before .before .push-rows .ensures .1, appended-twice)) (omega (arith, length-append (rowLines (a .table) (take (a .n) (a .rows))) (countsLine (a .counts) (a .table .flag)), c .before .before .before .before .before .before .push-rows .ensures .0, few))
+returns c = let a = c .before .before .before .before .before .before .before .before .before .args in let small : a .table .users .flag < 256 = search needs in let few = length-counts (a .counts) (a .table .users .flag) small in promised _ _ _ _ (simp (c .before .before .push-counts .ensures, c .before .before .before .before .before .before .push-rows .ensures .1, appended-twice)) (omega (arith, length-append (rowLines (a .table) (take (a .n) (a .rows))) (countsLine (a .counts) (a .table .users .flag)), c .before .before .before .before .before .before .push-rows .ensures .0, few))
 
 pub report-text-spec : {M : Type 1} → statement M
 report-text-spec = tie.close (tie.spec push-rows-requires push-counts-requires same-length returns)

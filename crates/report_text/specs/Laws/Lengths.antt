@@ -4,21 +4,18 @@ use mathlib.Core.Path.{_≡_, refl}
 use mathlib.Core.Bool.{Bool, true, false, cond}
 use mathlib.Core.List.{List, [], _∷_, _++_}
 use native.Mathlib.Omega.{arith}
-use borrow.Author.Tests.{ltb-true, ltb-false, lt-ltb}
+use borrow.Author.Tests.{lt-ltb}
 use lib.Dec.{ltb, eqb}
-use lib.ListN.{length, getD, replicate, length-append, List·getD-eq-default}
+use lib.ListN.{length, getD, replicate, length-append}
 use Rattle.word.specs.Fields.{pcOf}
 use Rattle.window.specs.declared.Row.{Row}
 use Rattle.step.specs.declared.ProcessTable.{ProcessTable}
+use Rattle.step.specs.Queues.{taskPlace}
 use Rattle.step.specs.State.{liveCount}
 use Rattle.run.specs.declared.Counts.{Counts}
+use Rattle.run.specs.Run.{counts}
 use Rattle.report.specs.Report.{decimalBy, decimal, hexDigit, hex, kindText, pcText, rowLine, rowLines, countsLine, newline}
 use Rattle.report_text.specs.Texts.{longestRow, longestCounts, longestReport}
-
--- past the counts there are none
-pub no-count : (table : ProcessTable) (task : ℕ) → length (table .live) ≡ 7 → 7 ≤ task - 1 → liveCount table task ≡ 0
-unfolding liveCount
-no-count table task q h = List·getD-eq-default (table .live) 0 {n = task - 1} (omega arith)
 
 -- ---- digits
 
@@ -73,20 +70,17 @@ length-pc : (kind psw : ℕ) → length (pcText kind psw) ≡ 5
 unfolding pcText
 length-pc kind psw = dashed (eqb kind 255) (45 ∷ 45 ∷ 45 ∷ 45 ∷ 45 ∷ []) (hex 5 (pcOf psw)) 5 refl (length-hex 5 (pcOf psw))
 
--- a task with a count has one digit, one without has no processes
-length-task : (table : ProcessTable) (task : ℕ) → length (table .live) ≡ 7 → task < 256 → length (decimal task) + length (decimal (liveCount table task)) ≤ 21
-unfolding decimal
-length-task table task q h = go (ltb task 8) refl
-  where
-    go : (b : Bool) → ltb task 8 ≡ b → length (decimal task) + length (decimal (liveCount table task)) ≤ 21
-    go true e = omega (arith, digits-1 20 task (omega (arith, ltb-true task 8 e)), digits-at-most 20 (liveCount table task))
-    go false e =
-        rw (no-count table task q (omega (arith, ltb-false task 8 e)))
-        (omega (arith, digits-3 20 task (omega arith), digits-1 20 0 (omega arith)))
-
-pub length-row : (table : ProcessTable) (r : Row) → length (table .live) ≡ 7 → r .task < 256 → length (rowLine table r) ≤ longestRow
-unfolding rowLine
-length-row table r q h = simp length-append (omega (arith, length-task table (r .task) q h, length-kind (r .kind), length-pc (r .kind) (r .psw)))
+pub length-row : (table : ProcessTable) (r : Row) → r .task < 256 → length (rowLine table r) ≤ longestRow
+unfolding rowLine decimal
+length-row table r h =
+    simp length-append
+    (omega (
+      arith,
+      digits-3 20 (r .task) (omega arith),
+      digits-at-most 20 (liveCount (table .users) (r .task)),
+      length-kind (r .kind),
+      length-pc (r .kind) (r .psw),
+    ))
 
 pub length-counts : (c : Counts) (flag : ℕ) → flag < 256 → length (countsLine c flag) ≤ longestCounts
 unfolding countsLine decimal
@@ -98,6 +92,7 @@ length-counts c flag h =
       digits-at-most 20 (c .waved),
       digits-at-most 20 (c .trapped),
       digits-at-most 20 (c .idle),
+      digits-at-most 20 (c .tries),
       digits-3 20 flag (omega arith),
     ))
 
@@ -111,12 +106,12 @@ unfoldable pub largest : ℕ
 largest = 2 ^ 64 - 1
 
 unfoldable pub longRow : Row
-longRow = record { task = 1; cb = 0; rb = 0; rl = 0; pb = 0; pl = 0; db = 0; dl = 0; kind = 255; psw = 0 }
+longRow = record { task = 255; cb = 0; rb = 0; rl = 0; pb = 0; pl = 0; db = 0; dl = 0; kind = 255; psw = 0 }
 
-pub longest-row : (table : ProcessTable) → getD (table .live) 0 0 ≡ largest → length (rowLine table longRow) ≡ longestRow
-unfolding largest longRow rowLine liveCount decimal decimalBy kindText pcText
+pub longest-row : (table : ProcessTable) → getD (table .users .live) 7 0 ≡ largest → length (rowLine table longRow) ≡ longestRow
+unfolding largest longRow rowLine liveCount taskPlace decimal decimalBy kindText pcText
 longest-row table h = rw h
 
-pub longest-report : (table : ProcessTable) → getD (table .live) 0 0 ≡ largest → length (rowLines table (replicate 7 longRow) ++ countsLine (record { executed = largest; waved = largest; trapped = largest; idle = largest }) 255) ≡ longestReport
+pub longest-report : (table : ProcessTable) → getD (table .users .live) 7 0 ≡ largest → length (rowLines table (replicate 7 longRow) ++ countsLine (counts largest largest largest largest largest) 255) ≡ longestReport
 unfolding largest rowLines countsLine decimal decimalBy
 longest-report table h = simp (length-append, longest-row table h)

@@ -3,7 +3,7 @@ use mathlib.Core.Path.{_≡_, refl, sym, ap, _∙_, subst}
 use mathlib.Core.Bool.{true, false≢true}
 use mathlib.Core.Option.{Option, none, some}
 use mathlib.Core.List.{List, [], _∷_}
-use Prim.Native.Nat.{ℕ, suc, _+_}
+use Prim.Native.Nat.{ℕ, suc, _+_, _≤_}
 use native.Mathlib.Omega.{arith}
 use lib.ListN.{length}
 use Rattle.refusal.specs.declared.Refusal.{Refusal}
@@ -13,24 +13,39 @@ use Rattle.operation.specs.Decide.{decide}
 use Rattle.step.specs.declared.Ending.{Ending}
 use Rattle.step.specs.declared.Ending.the-variants.{Executed, Waved, Trapped, Idle}
 use Rattle.step.specs.State.{State}
-use Rattle.step.specs.Step.{itemBy, item}
+use Rattle.step.specs.Step.{Account, accountOf, itemBy, item}
 use Rattle.step.specs.LiveCounts.{Counted, item-keeps-counted}
-use Rattle.step.specs.Laws.Item.{item-flag-kept, item-lengths}
+use Rattle.step.specs.Laws.Item.{item-tries, item-flag-kept, item-lengths}
 use Rattle.step.specs.Laws.Lengths.{SameLengths, same-lengths, lengths-join}
 use Rattle.run.specs.declared.Counts.{Counts}
 use Rattle.run.specs.Schedule.{scheduleRefusal, accepts, scheduleSound}
-use Rattle.run.specs.Run.{counted, noCounts, runBy, run}
+use Rattle.run.specs.Run.{plus, countsOf, counted, noCounts, runBy, run}
 
 -- executed + waved + trapped + idle
 abbrev pub sum : Counts → ℕ
 sum c = c .executed + c .waved + c .trapped + c .idle
 
-pub sum-counted : (e : Ending) (c : Counts) → sum (counted e c) ≡ suc (sum c)
-unfolding counted
-sum-counted Executed c = omega arith
-sum-counted Waved c = omega arith
-sum-counted (Trapped k p) c = omega arith
-sum-counted Idle c = omega arith
+sum-of : (e : Ending) (n : ℕ) → sum (countsOf e n) ≡ 1
+unfolding countsOf
+sum-of Executed n = refl
+sum-of Waved n = refl
+sum-of (Trapped k p) n = refl
+sum-of Idle n = refl
+
+pub sum-counted : (a : Account) (c : Counts) → sum (counted a c) ≡ suc (sum c)
+unfolding counted plus
+sum-counted a c = omega (arith, sum-of (a .ending) (a .tries))
+
+tries-of : (e : Ending) (n : ℕ) → countsOf e n .tries ≡ n
+unfolding countsOf
+tries-of Executed n = refl
+tries-of Waved n = refl
+tries-of (Trapped k p) n = refl
+tries-of Idle n = refl
+
+pub tries-counted : (a : Account) (c : Counts) → counted a c .tries ≡ c .tries + a .tries
+unfolding counted plus
+tries-counted a c = ap (λ n. c .tries + n) (tries-of (a .ending) (a .tries))
 
 -- a schedule that is accepted isn't refused
 pub sound-unrefused : (schedule : List ℕ) → scheduleSound schedule ≡ true → scheduleRefusal schedule ≡ none
@@ -41,25 +56,23 @@ sound-unrefused schedule e = go (scheduleRefusal schedule) e
     go none k = refl
     go (some x) k = absurd (false≢true k)
 
--- the order in which two endings are counted doesn't matter
-counted-turned : (e f : Ending) (c : Counts) → counted e (counted f c) ≡ counted f (counted e c)
+-- the order in which two items are counted doesn't matter
+plus-turned : (c d e : Counts) → plus (plus c d) e ≡ plus (plus c e) d
+unfolding plus
+plus-turned c d e = λ i. record {
+  executed = turned-sum (c .executed) (d .executed) (e .executed) i;
+  waved = turned-sum (c .waved) (d .waved) (e .waved) i;
+  trapped = turned-sum (c .trapped) (d .trapped) (e .trapped) i;
+  idle = turned-sum (c .idle) (d .idle) (e .idle) i;
+  tries = turned-sum (c .tries) (d .tries) (e .tries) i;
+}
+  where
+    turned-sum : (x y z : ℕ) → x + y + z ≡ x + z + y
+    turned-sum x y z = omega arith
+
+counted-turned : (a b : Account) (c : Counts) → counted a (counted b c) ≡ counted b (counted a c)
 unfolding counted
-counted-turned Executed Executed c = refl
-counted-turned Executed Waved c = refl
-counted-turned Executed (Trapped k p) c = refl
-counted-turned Executed Idle c = refl
-counted-turned Waved Executed c = refl
-counted-turned Waved Waved c = refl
-counted-turned Waved (Trapped k p) c = refl
-counted-turned Waved Idle c = refl
-counted-turned (Trapped k p) Executed c = refl
-counted-turned (Trapped k p) Waved c = refl
-counted-turned (Trapped k p) (Trapped k′ p′) c = refl
-counted-turned (Trapped k p) Idle c = refl
-counted-turned Idle Executed c = refl
-counted-turned Idle Waved c = refl
-counted-turned Idle (Trapped k p) c = refl
-counted-turned Idle Idle c = refl
+counted-turned a b c = plus-turned c (countsOf (b .ending) (b .tries)) (countsOf (a .ending) (a .tries))
 
 module _ (instructions : Environment → Decision) where
   -- the state after a schedule
@@ -70,21 +83,28 @@ module _ (instructions : Environment → Decision) where
   pub run-after : (ts : List ℕ) (s : State) (c : Counts) → runBy instructions ts s c .state ≡ after ts s
   unfolding runBy after
   run-after [] s c = refl
-  run-after (t ∷ ts) s c = run-after ts (itemBy instructions t s .state) (counted (itemBy instructions t s .ending) c)
+  run-after (t ∷ ts) s c = run-after ts (itemBy instructions t s .state) (counted (accountOf (itemBy instructions t s)) c)
 
   -- an ending counted before a run is counted behind it
-  run-counted : (e : Ending) (ts : List ℕ) (s : State) (c : Counts) → runBy instructions ts s (counted e c) .counts ≡ counted e (runBy instructions ts s c .counts)
+  run-counted : (e : Account) (ts : List ℕ) (s : State) (c : Counts) → runBy instructions ts s (counted e c) .counts ≡ counted e (runBy instructions ts s c .counts)
   unfolding runBy
   run-counted e [] s c = refl
   run-counted e (t ∷ ts) s c =
       let x = itemBy instructions t s in
-      ap (λ (d : Counts). runBy instructions ts (x .state) d .counts) (counted-turned (x .ending) e c) ∙ run-counted e ts (x .state) (counted (x .ending) c)
+      ap (λ (d : Counts). runBy instructions ts (x .state) d .counts) (counted-turned (accountOf x) e c) ∙ run-counted e ts (x .state) (counted (accountOf x) c)
 
   sum-run : (ts : List ℕ) (s : State) (c : Counts) → sum (runBy instructions ts s c .counts) ≡ length ts + sum c
   unfolding runBy
   sum-run [] s c = omega arith
   sum-run (t ∷ ts) s c =
-      sum-run ts (itemBy instructions t s .state) (counted (itemBy instructions t s .ending) c) ∙ omega (arith, sum-counted (itemBy instructions t s .ending) c)
+      sum-run ts (itemBy instructions t s .state) (counted (accountOf (itemBy instructions t s)) c) ∙ omega (arith, sum-counted (accountOf (itemBy instructions t s)) c)
+
+  tries-run : (ts : List ℕ) (s : State) (c : Counts) → runBy instructions ts s c .counts .tries ≤ length ts + c .tries
+  unfolding runBy
+  tries-run [] s c = omega arith
+  tries-run (t ∷ ts) s c =
+      let x = itemBy instructions t s in
+      omega (arith, tries-run ts (x .state) (counted (accountOf x) c), tries-counted (accountOf x) c, item-tries instructions t s)
 
   -- the flag stays or goes up
   pub after-kept : (P : ℕ → Type 0) → P 1 → (ts : List ℕ) (s : State) → P (s .table .users .flag) → P (after ts s .table .users .flag)
@@ -107,16 +127,16 @@ module _ (instructions : Environment → Decision) where
   after-lengths [] s = same-lengths s
   after-lengths (t ∷ ts) s = lengths-join (after-lengths ts (itemBy instructions t s .state)) (item-lengths instructions t s)
 
--- a run of a list is a step of its first item and a run of the others
+-- a run of a list is its first item and a run of the others
 pub run-first-state : (t : ℕ) (ts : List ℕ) (s : State) → run (t ∷ ts) s .state ≡ run ts (item t s .state) .state
 unfolding run item runBy
 run-first-state t ts s =
     let x = itemBy decide t s in
-    run-after decide ts (x .state) (counted (x .ending) noCounts) ∙ sym (run-after decide ts (x .state) noCounts)
+    run-after decide ts (x .state) (counted (accountOf x) noCounts) ∙ sym (run-after decide ts (x .state) noCounts)
 
-pub run-first-counts : (t : ℕ) (ts : List ℕ) (s : State) → run (t ∷ ts) s .counts ≡ counted (item t s .ending) (run ts (item t s .state) .counts)
+pub run-first-counts : (t : ℕ) (ts : List ℕ) (s : State) → run (t ∷ ts) s .counts ≡ counted (accountOf (item t s)) (run ts (item t s .state) .counts)
 unfolding run item runBy
-run-first-counts t ts s = let x = itemBy decide t s in run-counted decide (x .ending) ts (x .state) noCounts
+run-first-counts t ts s = let x = itemBy decide t s in run-counted decide (accountOf x) ts (x .state) noCounts
 
 -- a run changes the length of no memory, and not how many rows there are
 pub run-lengths : (schedule : List ℕ) (s : State) → SameLengths (run schedule s .state) s
@@ -127,6 +147,11 @@ run-lengths schedule s = subst (λ (x : State). SameLengths x s) (sym (run-after
 pub run-counts : (schedule : List ℕ) (s : State) → sum (run schedule s .counts) ≡ length schedule
 unfolding run
 run-counts schedule s = sum-run decide schedule s noCounts ∙ omega arith
+
+-- at most as many tries as items
+pub run-tries : (schedule : List ℕ) (s : State) → run schedule s .counts .tries ≤ length schedule
+unfolding run
+run-tries schedule s = omega (arith, tries-run decide schedule s noCounts)
 
 -- a run never lowers the flag: down at the end, it was down at the start; up at the start, it is up at the end
 pub run-flag : (schedule : List ℕ) (s : State) → run schedule s .state .table .users .flag ≡ 0 → s .table .users .flag ≡ 0

@@ -1,20 +1,21 @@
 -- Skeleton and paths (.before ..) are generated: docs/PROOFS.md.
-use Prim.Native.Nat.{_-_, _^_, _≤_}
+use Prim.Native.Nat.{_-_, _≤_}
 use mathlib.Core.Path.{_≡_, refl}
 use native.Mathlib.Omega.{arith}
 use borrow.Author.Needs.{needs}
 use lib.ListN.{drop}
-use Rattle.step.specs.Queues.{livePts}
+use Rattle.step.specs.Queues.{queueCount, livePts}
 use Rattle.step_queue.specs.Code.Mask.{freeAfter}
+use Rattle.run_rings.specs.Code.Mask.{freeWord}
 use Rattle.run_rings.specs.Laws.Live.{queues-go, queues-end}
 use Rattle.run_rings.proofs.free_mask.Statement.{statement}
 use Rattle.run_rings.proofs.free_mask.Tie as tie
 
 abbrev Inv-loop : tie.InvT-loop
-Inv-loop queues free₀ k₀ free k = (k ≤ 7) × (freeAfter (livePts (drop k queues)) free ≡ freeAfter (livePts queues) (2 ^ 64 - 1))
+Inv-loop queues free₀ k₀ free k = (k ≤ queueCount) × (freeAfter (livePts (drop k queues)) free ≡ freeWord queues)
 
 abbrev μ-loop : tie.MeasureT-loop
-μ-loop queues free₀ k₀ free k = 7 - k
+μ-loop queues free₀ k₀ free k = queueCount - k
 
 loop-holds : tie.Need-loop-holds Inv-loop μ-loop
 loop-holds c = (omega arith, refl)

@@ -4,17 +4,17 @@ use Prim.Native.Nat.{_-_, _≤_}
 use mathlib.Core.Path.{_≡_, refl, sym, _∙_}
 use native.Mathlib.Omega.{arith}
 use lib.ListN.{length, take, length-set}
-use Rattle.run_rings.specs.Code.Rings.{queuesFrom, ringPlaces}
+use Rattle.run_rings.specs.Code.Rings.{queuesFrom, ringCount, ringPlaces}
 use Rattle.run_rings.specs.Laws.Copies.{queues-go, queues-full}
 use borrow.Author.Needs.{needs}
 use Rattle.run_rings.proofs.queues_of.Statement.{statement}
 use Rattle.run_rings.proofs.queues_of.Tie as tie
 
 abbrev Inv-loop : tie.InvT-loop
-Inv-loop pts heads lens queues₀ i₀ queues i = (i ≤ 7) × (length queues ≡ 7) × (take i queues ≡ queuesFrom i 1 pts heads lens)
+Inv-loop pts heads lens queues₀ i₀ queues i = (i ≤ ringCount) × (length queues ≡ ringCount) × (take i queues ≡ queuesFrom i 0 pts heads lens)
 
 abbrev μ-loop : tie.MeasureT-loop
-μ-loop pts heads lens queues₀ i₀ queues i = 7 - i
+μ-loop pts heads lens queues₀ i₀ queues i = ringCount - i
 
 loop-holds : tie.Need-loop-holds Inv-loop μ-loop
 unfolding queuesFrom
@@ -24,16 +24,13 @@ slice-aggregate-queue-of : tie.Need-slice-aggregate-queue-of Inv-loop μ-loop
 slice-aggregate-queue-of c = let f : length (c .before .before .before .args .t1) ≡ ringPlaces = search needs in sym f
 
 slice-aggregate-queue-of-2 : tie.Need-slice-aggregate-queue-of-2 Inv-loop μ-loop
-slice-aggregate-queue-of-2 c = let f : length (c .before .before .before .before .args .t2) ≡ 8 = search needs in sym f
+slice-aggregate-queue-of-2 c = let f : length (c .before .before .before .before .args .t2) ≡ ringCount = search needs in sym f
 
 slice-aggregate-queue-of-3 : tie.Need-slice-aggregate-queue-of-3 Inv-loop μ-loop
-slice-aggregate-queue-of-3 c = let f : length (c .before .before .before .before .before .args .t3) ≡ 8 = search needs in sym f
-
-add-queue-of : tie.Need-add-queue-of Inv-loop μ-loop
-add-queue-of c = omega arith
+slice-aggregate-queue-of-3 c = let f : length (c .before .before .before .before .before .args .t3) ≡ ringCount = search needs in sym f
 
 queue-of-requires : tie.Need-queue-of-requires Inv-loop μ-loop
-queue-of-requires c κs = let a = c .before .before .before .before .before .args in let f : length (a .t1) ≡ ringPlaces = search needs in let g : length (a .t2) ≡ 8 = search needs in let h : length (a .t3) ≡ 8 = search needs in (omega arith, omega arith, omega arith)
+queue-of-requires c κs = let a = c .before .before .before .before .before .args in let f : length (a .t1) ≡ ringPlaces = search needs in let g : length (a .t2) ≡ ringCount = search needs in let h : length (a .t3) ≡ ringCount = search needs in (omega arith, omega arith, omega arith)
 
 mul-queues : tie.Need-mul-queues Inv-loop μ-loop
 mul-queues c = omega arith
@@ -63,7 +60,6 @@ queues-of-spec =
     slice-aggregate-queue-of
     slice-aggregate-queue-of-2
     slice-aggregate-queue-of-3
-    add-queue-of
     queue-of-requires
     mul-queues
     array-set-from-queues

@@ -6,18 +6,18 @@ use lib.ListN.{set, replicate}
 use lib.Seq.{paste}
 use Rattle.window.specs.declared.Row.{Row}
 use Rattle.step.specs.declared.Queue.{Queue}
-use Rattle.step.specs.Queues.{places}
+use Rattle.step.specs.Queues.{places, numbers}
 use Rattle.step.specs.State.{findRow}
 use Rattle.run_rings.specs.declared.Rings.{Rings}
 use Rattle.run_rings.specs.declared.Tasks.{Tasks}
-use Rattle.run_rings.specs.Code.Spans.{windowsLaid}
-use Rattle.run_rings.specs.Code.Rings.{ringPlaces}
+use Rattle.run_rings.specs.Code.Spans.{allSpanPlaces, windowsLaid}
+use Rattle.run_rings.specs.Code.Rings.{ringCount, ringPlaces}
 
 abbrev pub rings : (pts heads lens : List ℕ) → Rings
 rings pts heads lens = record { pts = pts; heads = heads; lens = lens }
 
 abbrev pub noRings : Rings
-noRings = rings (replicate ringPlaces 0) (replicate 8 0) (replicate 8 0)
+noRings = rings (replicate ringPlaces 0) (replicate ringCount 0) (replicate ringCount 0)
 
 -- a queue into ring k
 unfoldable pub queueLaid : (k : ℕ) → Queue → Rings → Rings
@@ -32,14 +32,14 @@ abbrev pub taskNumbers : (kinds stored spans : List ℕ) → Tasks
 taskNumbers kinds stored spans = record { kinds = kinds; stored = stored; spans = spans }
 
 abbrev pub noTasks : Tasks
-noTasks = taskNumbers (replicate 8 0) (replicate 8 0) (replicate 64 0)
+noTasks = taskNumbers (replicate numbers 0) (replicate numbers 0) (replicate allSpanPlaces 0)
 
 -- the trap record and the windows of the row of task t; they stay where it is unlisted
 unfoldable pub rowLaid : (t : ℕ) → Option Row → Tasks → Tasks
 rowLaid t none x = x
 rowLaid t (some r) x = taskNumbers (set (x .kinds) t (r .kind)) (set (x .stored) t (r .psw)) (windowsLaid (x .spans) t r)
 
--- those of n taskNumbers, task t first
+-- those of n tasks, task t first
 unfoldable pub tasksLaid : (n t : ℕ) → List Row → Tasks → Tasks
 tasksLaid zero t rows x = x
 tasksLaid (suc n) t rows x = tasksLaid n (suc t) rows (rowLaid t (findRow t rows) x)

@@ -5,12 +5,11 @@ use mathlib.Core.List.{List, [], _∷_}
 use Prim.Native.Nat.{ℕ, zero, suc, _+_, _*_}
 use lib.ListN.{getD, take, drop}
 use Rattle.step.specs.declared.Queue.{Queue}
-use Rattle.step.specs.Queues.{places}
-use Rattle.window.specs.Limits.{tasks}
+use Rattle.step.specs.Queues.{places, queueCount}
 
--- rings by task number: ring 0 is none's
+-- rings by number of queue: 2 t the queue of task t, 2 t + 1 its SFU queue
 abbrev pub ringCount : ℕ
-ringCount = tasks + 1
+ringCount = queueCount
 
 abbrev pub ringPlaces : ℕ
 ringPlaces = ringCount * places
@@ -24,9 +23,9 @@ unfoldable pub queuesFrom : (n k : ℕ) (pts heads lens : List ℕ) → List Que
 queuesFrom zero k pts heads lens = []
 queuesFrom (suc n) k pts heads lens = queueAt pts heads lens k ∷ queuesFrom n (suc k) pts heads lens
 
--- the queues of taskNumbers 1 to 7 in rings 1 to 7
+-- the queues in all rings
 unfoldable pub queuesIn : (pts heads lens : List ℕ) → List Queue
-queuesIn pts heads lens = queuesFrom tasks 1 pts heads lens
+queuesIn pts heads lens = queuesFrom ringCount 0 pts heads lens
 
 -- f is done to the queue in ring k, and the queues in all other rings stay
 pub record Moves (k : ℕ) (f : Queue → Queue) (pts heads lens pts′ heads′ lens′ : List ℕ) : Type 0 where

@@ -11,7 +11,15 @@ use Rattle.window.specs.declared.Window.{Window}
 use Rattle.window.specs.Windows.{registerWindow, programWindow, dataWindow}
 use Rattle.window.specs.Code.Spans.{endOf, Span}
 use Rattle.operand.specs.Code.Spans.{Spans}
+use Rattle.step.specs.Queues.{numbers}
 use Rattle.step.specs.State.{findRow}
+
+-- the numbers of a task's windows, and of all tasks'
+abbrev pub spanPlaces : ℕ
+spanPlaces = 8
+
+abbrev pub allSpanPlaces : ℕ
+allSpanPlaces = numbers * spanPlaces
 
 -- the numbers of task t are the windows of this row
 pub record Windows (spans : List ℕ) (t : ℕ) (r : Row) : Type 0 where
@@ -41,7 +49,7 @@ windowNumbers r =
 
 -- the numbers with those of a row at task t
 abbrev pub windowsLaid : List ℕ → (t : ℕ) → Row → List ℕ
-windowsLaid l t r = paste l (8 * t) (windowNumbers r) 8
+windowsLaid l t r = paste l (spanPlaces * t) (windowNumbers r) spanPlaces
 
 -- what the numbers say of the row of task t
 pub record Tells (kinds stored spans : List ℕ) (t : ℕ) (r : Row) : Type 0 where
@@ -49,6 +57,6 @@ pub record Tells (kinds stored spans : List ℕ) (t : ℕ) (r : Row) : Type 0 wh
   pub psw : getD stored t 0 ≡ r .psw
   pub windows : Windows spans t r
 
--- they say it of the rows of the taskNumbers below m
+-- they say it of the rows of the tasks below m
 pub record Told (rows : List Row) (kinds stored spans : List ℕ) (m : ℕ) : Type 0 where
   pub tells : (t : ℕ) (r : Row) → 1 ≤ t → t < m → findRow t rows ≡ some r → Tells kinds stored spans t r

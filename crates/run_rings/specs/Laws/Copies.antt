@@ -79,44 +79,44 @@ queues-snoc (suc n) k a b c =
     ap (λ (l : List Queue). queueAt a b c k ∷ l)
     (queues-snoc n (suc k) a b c ∙ ap (λ (x : ℕ). queuesFrom n (suc k) a b c ++ (queueAt a b c x ∷ [])) e)
 
-pub rings-start : (qs : List Queue) (k : ℕ) (a b c : List ℕ) → queuesFrom 0 k a b c ≡ take 0 qs
+pub rings-start : (qs : List Queue) (a b c : List ℕ) → queuesFrom 0 0 a b c ≡ take 0 qs
 unfolding queuesFrom
-rings-start qs k a b c = refl
+rings-start qs a b c = refl
 
--- the first i queues are in the rings from k on, and the next one comes
-pub rings-go : (qs : List Queue) (k i : ℕ) (a b c a′ b′ c′ : List ℕ) → i < length qs → Moves (i + k) (λ _. getD qs i noQueue) a b c a′ b′ c′
-    → queuesFrom i k a b c ≡ take i qs → queuesFrom (i + 1) k a′ b′ c′ ≡ take (i + 1) qs
-rings-go qs k i a b c a′ b′ c′ h m e =
+-- the first i queues are in the rings, and the next one comes
+pub rings-go : (qs : List Queue) (i : ℕ) (a b c a′ b′ c′ : List ℕ) → i < length qs → Moves i (λ _. getD qs i noQueue) a b c a′ b′ c′
+    → queuesFrom i 0 a b c ≡ take i qs → queuesFrom (i + 1) 0 a′ b′ c′ ≡ take (i + 1) qs
+rings-go qs i a b c a′ b′ c′ h m e =
     let s : suc i ≡ i + 1 = omega arith in
-    let t : k + i ≡ i + k = omega arith in
-    ap (λ (n : ℕ). queuesFrom n k a′ b′ c′) (sym s)
-    ∙ queues-snoc i k a′ b′ c′
+    let t : 0 + i ≡ i = omega arith in
+    ap (λ (n : ℕ). queuesFrom n 0 a′ b′ c′) (sym s)
+    ∙ queues-snoc i 0 a′ b′ c′
     ∙ ap₂ {C = List Queue} (λ x y. x ++ (y ∷ []))
-    (rings-stay i k a b c a′ b′ c′ (λ j l r. m .others j (λ q. omega (arith, q, l, r))) ∙ e)
+    (rings-stay i 0 a b c a′ b′ c′ (λ j l r. m .others j (λ q. omega (arith, q, r))) ∙ e)
     (ap (queueAt a′ b′ c′) t ∙ m .mine)
     ∙ sym (take-suc qs i noQueue h)
     ∙ ap (λ (n : ℕ). take n qs) s
 
-pub rings-full : (qs : List Queue) (i : ℕ) (a b c : List ℕ) → length qs ≡ 7 → i ≡ 7 → queuesFrom i 1 a b c ≡ take i qs → queuesIn a b c ≡ qs
+pub rings-full : (qs : List Queue) (i : ℕ) (a b c : List ℕ) → length qs ≡ 16 → i ≡ 16 → queuesFrom i 0 a b c ≡ take i qs → queuesIn a b c ≡ qs
 unfolding queuesIn
 rings-full qs i a b c h e s =
-    ap (λ (n : ℕ). queuesFrom n 1 a b c) (sym e) ∙ s ∙ take-all i qs (omega arith)
+    ap (λ (n : ℕ). queuesFrom n 0 a b c) (sym e) ∙ s ∙ take-all i qs (omega arith)
 
 -- the queues of the first i rings are taken, and the next one comes
-pub queues-go : (qs : List Queue) (i : ℕ) (a b c : List ℕ) (q : Queue) → i < length qs → q ≡ queueAt a b c (i + 1) → take i qs ≡ queuesFrom i 1 a b c
-    → take (i + 1) (set qs i q) ≡ queuesFrom (i + 1) 1 a b c
+pub queues-go : (qs : List Queue) (i : ℕ) (a b c : List ℕ) (q : Queue) → i < length qs → q ≡ queueAt a b c i → take i qs ≡ queuesFrom i 0 a b c
+    → take (i + 1) (set qs i q) ≡ queuesFrom (i + 1) 0 a b c
 queues-go qs i a b c q h p e =
     let s : suc i ≡ i + 1 = omega arith in
-    let t : i + 1 ≡ 1 + i = omega arith in
+    let t : i ≡ 0 + i = omega arith in
     ap (λ (n : ℕ). take n (set qs i q)) (sym s)
     ∙ take-suc-set qs i q h
     ∙ ap₂ {C = List Queue} (λ x y. x ++ (y ∷ [])) e (p ∙ ap (queueAt a b c) t)
-    ∙ sym (queues-snoc i 1 a b c)
-    ∙ ap (λ (n : ℕ). queuesFrom n 1 a b c) s
+    ∙ sym (queues-snoc i 0 a b c)
+    ∙ ap (λ (n : ℕ). queuesFrom n 0 a b c) s
 
-pub queues-full : (qs : List Queue) (i : ℕ) (a b c : List ℕ) → length qs ≡ 7 → i ≡ 7 → take i qs ≡ queuesFrom i 1 a b c → qs ≡ queuesIn a b c
+pub queues-full : (qs : List Queue) (i : ℕ) (a b c : List ℕ) → length qs ≡ 16 → i ≡ 16 → take i qs ≡ queuesFrom i 0 a b c → qs ≡ queuesIn a b c
 unfolding queuesIn
-queues-full qs i a b c h e s = sym (take-all i qs (omega arith)) ∙ s ∙ ap (λ (n : ℕ). queuesFrom n 1 a b c) e
+queues-full qs i a b c h e s = sym (take-all i qs (omega arith)) ∙ s ∙ ap (λ (n : ℕ). queuesFrom n 0 a b c) e
 
 -- ---- a ring into a queue
 

@@ -19,23 +19,22 @@ use Rattle.run_rings.specs.Laws.Spans.{told-past, told-next}
 
 -- the queues from the ith on are left
 module _ (qs : List Queue) (i : ℕ) (x : Rings) where
-  pub queue-goes : (y : Rings) {z : Rings} → i < length qs → y ≡ queueLaid (i + 1) (getD qs i noQueue) x → queuesLaid (i + 1) (drop i qs) x ≡ z
-      → queuesLaid (i + 1 + 1) (drop (i + 1) qs) y ≡ z
+  pub queue-goes : (y : Rings) {z : Rings} → i < length qs → y ≡ queueLaid i (getD qs i noQueue) x → queuesLaid i (drop i qs) x ≡ z
+      → queuesLaid (i + 1) (drop (i + 1) qs) y ≡ z
   unfolding queuesLaid
   queue-goes y h e p =
-      rw (add-one (i + 1), e)
-      (sym (ap (λ (l : List Queue). queuesLaid (i + 1) l x) (drop-cons qs i noQueue h ∙ ap (λ (j : ℕ). getD qs i noQueue ∷ drop j qs) (sym (add-one i)))) ∙ p)
+      rw (add-one i, e) (sym (ap (λ (l : List Queue). queuesLaid i l x) (drop-cons qs i noQueue h)) ∙ p)
 
-  pub queues-done : {z : Rings} → length qs ≤ i → queuesLaid (i + 1) (drop i qs) x ≡ z → x ≡ z
+  pub queues-done : {z : Rings} → length qs ≤ i → queuesLaid i (drop i qs) x ≡ z → x ≡ z
   unfolding queuesLaid
-  queues-done h p = sym (ap (λ (l : List Queue). queuesLaid (i + 1) l x) (drop-of-length-le qs h)) ∙ p
+  queues-done h p = sym (ap (λ (l : List Queue). queuesLaid i l x) (drop-of-length-le qs h)) ∙ p
 
 pub lens-laid : (k : ℕ) (qs : List Queue) (x : Rings) → length (queuesLaid k qs x .lens) ≡ length (x .lens)
 unfolding queuesLaid queueLaid
 lens-laid k [] x = refl
 lens-laid k (q ∷ qs) x = lens-laid (suc k) qs (queueLaid k q x) ∙ length-set (x .lens) k (q .len)
 
--- the taskNumbers from t on are left
+-- the tasks from t on are left
 module _ (rs : List Row) (t : ℕ) (x : Tasks) where
   pub task-goes : (y : Tasks) {z : Tasks} → t < 8 → y ≡ rowLaid t (findRow t rs) x → tasksLaid (8 - t) t rs x ≡ z → tasksLaid (8 - (t + 1)) (t + 1) rs y ≡ z
   unfolding tasksLaid
@@ -48,7 +47,7 @@ module _ (rs : List Row) (t : ℕ) (x : Tasks) where
   unfolding tasksLaid
   tasks-done h p = let s : 8 - t ≡ 0 = omega (arith, h) in sym (ap (λ (m : ℕ). tasksLaid m t rs x) s) ∙ p
 
--- numbers of eight taskNumbers
+-- numbers of eight tasks
 pub record Eight (x : Tasks) : Type 0 where
   pub kinds : length (x .kinds) ≡ 8
   pub stored : length (x .stored) ≡ 8

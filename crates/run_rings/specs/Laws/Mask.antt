@@ -14,7 +14,7 @@ use Rattle.step.specs.Queues.{hit, occ, freeFrom}
 use Rattle.step.specs.Laws.Occurrences.{hit-same, hit-differ, occ-nil, occ-cons, occ-append}
 use Rattle.step_queue.specs.Laws.Digits.{half, digit-le}
 use Rattle.step_queue.specs.Code.Mask.{without, freeAfter}
-use Rattle.run_rings.specs.Code.Mask.{none, Frees}
+use Rattle.run_rings.specs.Code.Mask.{allFree, none, Frees}
 
 lowest-one : (n i z : ℕ) (l : List ℕ) → ((j : ℕ) → j < n → z / 2 ^ j % 2 ≡ none (occ (i + j) l)) → i + trailingZeros n z ≡ freeFrom n i l
 unfolding none trailingZeros freeFrom
@@ -165,16 +165,16 @@ frees-given z p l m f h a = record { small = given-lt z p l m f h a; digit = λ 
         raised-other p j z (λ s. e (sym s)) zero-digit ∙ f .digit j k ∙ ap none o
 
 -- where no PT is live all are free
-all-free : (j : ℕ) → j < 64 → (2 ^ 64 - 1) / 2 ^ j % 2 ≡ 1
+all-free : (j : ℕ) → j < 64 → allFree / 2 ^ j % 2 ≡ 1
 all-free j h =
-    let s : 2 ^ 64 - 1 ≡ (2 ^ suc (63 - j) - 1) * 2 ^ j + (2 ^ j - 1) = ap (λ (k : ℕ). 2 ^ k - 1) whole ∙ ones-split (suc (63 - j)) j in
-    let t : (2 ^ 64 - 1) / 2 ^ j ≡ 2 ^ suc (63 - j) - 1 = ap (λ (x : ℕ). x / 2 ^ j) s ∙ high (2 ^ suc (63 - j) - 1) j (ones-lt j) in
+    let s : allFree ≡ (2 ^ suc (63 - j) - 1) * 2 ^ j + (2 ^ j - 1) = ap (λ (k : ℕ). 2 ^ k - 1) whole ∙ ones-split (suc (63 - j)) j in
+    let t : allFree / 2 ^ j ≡ 2 ^ suc (63 - j) - 1 = ap (λ (x : ℕ). x / 2 ^ j) s ∙ high (2 ^ suc (63 - j) - 1) j (ones-lt j) in
     ap (λ (x : ℕ). x % 2) t ∙ omega (arith, pow-suc 2 (63 - j), pow-pos (63 - j))
   where
     whole : 64 ≡ suc (63 - j) + j
     whole = omega arith
 
-frees-none : Frees (2 ^ 64 - 1) []
+frees-none : Frees allFree []
 unfolding none occ
 frees-none = record { small = omega arith; digit = λ p h. all-free p h }
 
@@ -214,9 +214,26 @@ after-frees (p ∷ ps) m z f =
     (λ j. omega (arith, occ-append j ps (p ∷ m), occ-append j ps m, occ-cons j p m, occ-cons j p (ps ++ m)))
 
 -- all PTs without those of a list
-frees-after : (l : List ℕ) → Frees (freeAfter l (2 ^ 64 - 1)) l
+pub frees-after : (l : List ℕ) → Frees (freeAfter l allFree) l
 frees-after l =
-    frees-same (freeAfter l (2 ^ 64 - 1)) (l ++ []) l (after-frees l [] (2 ^ 64 - 1) frees-none) (λ j. omega (arith, occ-append j l [], occ-nil j))
+    frees-same (freeAfter l allFree) (l ++ []) l (after-frees l [] allFree frees-none) (λ j. omega (arith, occ-append j l [], occ-nil j))
 
-pub frees-made : (z : ℕ) (l : List ℕ) → z ≡ freeAfter l (2 ^ 64 - 1) → Frees z l
+pub frees-made : (z : ℕ) (l : List ℕ) → z ≡ freeAfter l allFree → Frees z l
 frees-made z l e = subst (λ (z : ℕ). Frees z l) (sym e) (frees-after l)
+
+-- ---- no other word says it
+
+digits-same : (n z y : ℕ) → z < 2 ^ n → y < 2 ^ n → ((j : ℕ) → j < n → z / 2 ^ j % 2 ≡ y / 2 ^ j % 2) → z ≡ y
+digits-same zero z y h k d = omega (arith, h, k)
+digits-same (suc n) z y h k d =
+    let a : z / 2 ^ 0 ≡ z = omega (arith, div-one z) in
+    let b : y / 2 ^ 0 ≡ y = omega (arith, div-one y) in
+    let e : z % 2 ≡ y % 2 = ap (λ (x : ℕ). x % 2) (sym a) ∙ d 0 (omega arith) ∙ ap (λ (x : ℕ). x % 2) b in
+    let f : z / 2 ≡ y / 2 =
+    digits-same n (z / 2) (y / 2) (omega (arith, pow-suc 2 n, h)) (omega (arith, pow-suc 2 n, k))
+    (λ j l. ap (λ (x : ℕ). x % 2) (sym (half z j)) ∙ d (suc j) (omega (arith, l)) ∙ ap (λ (x : ℕ). x % 2) (half y j)) in
+    omega (arith, e, f)
+
+pub frees-only : (z : ℕ) (l : List ℕ) → Frees z l → freeAfter l allFree ≡ z
+frees-only z l f =
+    digits-same 64 (freeAfter l allFree) z (frees-after l .small) (f .small) (λ j h. frees-after l .digit j h ∙ sym (f .digit j h))

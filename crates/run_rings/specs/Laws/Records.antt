@@ -16,7 +16,7 @@ use Rattle.step.specs.Code.Parts.{rowAfter}
 use Rattle.step.specs.Laws.Rows.{find-here, find-there, put-here, put-there, here, there, found, put-same, none-some}
 use Rattle.run_rings.specs.Code.Records.{withRecord, rowIn, rowsIn, kindsAfter, storedAfter}
 
--- the taskNumbers rise, all above b
+-- the numbers of the tasks rise, all above b
 pub data Rising : ℕ → List Row → Type 0 where
   ends : {b : ℕ} → Rising b []
   goes : {b : ℕ} {r : Row} {rs : List Row} → b < r .task → Rising (r .task) rs → Rising b (r ∷ rs)

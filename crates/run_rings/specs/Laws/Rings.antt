@@ -5,15 +5,16 @@ use mathlib.Core.Bool.{Bool, true, false, cond}
 use mathlib.Core.List.{List, _∷_}
 use Prim.Native.Nat.{ℕ, zero, suc, _+_, _-_, _*_, _%_, _≤_, _<_}
 use native.Mathlib.Omega.{arith}
-use native.Mathlib.Nat.{add-zero}
+use native.Mathlib.Nat.{add-zero, zero-add}
 use lib.Dec.{ltb}
 use lib.ListN.{length, getD, set, take, drop}
 use lib.Seq.{getD-set-same, getD-set-other, getD-take, getD-drop, take-set-lt, take-set-le, drop-set-add, drop-set-lt}
 use borrow.Author.Tests.{lt-ltb, le-ltb, lt-leb, ne-eqb, ltb-true, ltb-false}
 use Rattle.step.specs.declared.Queue.{Queue}
 use Rattle.step.specs.Queues.{headOf, afterHead, tailIndex, turned, shifted, joined}
-use Rattle.step.specs.State.{noQueue}
-use Rattle.run_rings.specs.Code.Rings.{queueAt, queuesFrom, Moves}
+use Rattle.step.specs.State.{noQueue, queueIn, withQueue}
+use Rattle.step.specs.Act.{turnedAt, leftAt, joinedAt, passedTo}
+use Rattle.run_rings.specs.Code.Rings.{queueAt, queuesFrom, queuesIn, Moves}
 
 abbrev pub queue : List ℕ → ℕ → ℕ → Queue
 queue a h n = record { pts = a; head = h; len = n }
@@ -174,3 +175,54 @@ moved-from (suc n) k m f a b c a′ b′ c′ l h x =
         ap₂ {C = List Queue} (λ x y. x ∷ y) (x .others k (λ t. omega (arith, t, e)))
         (ih (omega (arith, e))
         ∙ ap (λ (i : ℕ). set (queuesFrom n (suc k) a b c) i (f (queueAt a b c m))) s)
+
+-- ---- the queues in all rings
+
+pub in-ring : (a b c : List ℕ) (k : ℕ) → k < 16 → queueIn (queuesIn a b c) k ≡ queueAt a b c k
+unfolding queueIn queuesIn
+in-ring a b c k h = queue-of-ring 16 0 k a b c h ∙ ap (queueAt a b c) (zero-add k)
+
+pub moved-in : (m : ℕ) (f : Queue → Queue) (a b c a′ b′ c′ : List ℕ) → m < 16 → Moves m f a b c a′ b′ c′
+    → queuesIn a′ b′ c′ ≡ withQueue (queuesIn a b c) m (f (queueIn (queuesIn a b c) m))
+unfolding queuesIn withQueue
+moved-in m f a b c a′ b′ c′ h x =
+    let e : m - 0 ≡ m = omega arith in
+    moved-from 16 0 m f a b c a′ b′ c′ (omega arith) h x ∙ ap (λ (i : ℕ). set (queuesFrom 16 0 a b c) i (f (queueAt a b c m))) e ∙ ap (λ (q : Queue). set (queuesFrom 16 0 a b c) m (f q)) (sym (in-ring a b c m h))
+
+pub turned-in : (k : ℕ) (a b c a′ b′ c′ : List ℕ) → k < 16 → Moves k turned a b c a′ b′ c′ → queuesIn a′ b′ c′ ≡ turnedAt (queuesIn a b c) k
+unfolding turnedAt
+turned-in k a b c a′ b′ c′ h x = moved-in k turned a b c a′ b′ c′ h x
+
+pub left-in : (k : ℕ) (a b c a′ b′ c′ : List ℕ) → k < 16 → Moves k shifted a b c a′ b′ c′ → queuesIn a′ b′ c′ ≡ leftAt (queuesIn a b c) k
+unfolding leftAt
+left-in k a b c a′ b′ c′ h x = moved-in k shifted a b c a′ b′ c′ h x
+
+pub joined-in : (k p : ℕ) (a b c a′ b′ c′ : List ℕ) → k < 16 → Moves k (λ q. joined q p) a b c a′ b′ c′ → queuesIn a′ b′ c′ ≡ joinedAt (queuesIn a b c) k p
+unfolding joinedAt
+joined-in k p a b c a′ b′ c′ h x = moved-in k (λ q. joined q p) a b c a′ b′ c′ h x
+
+-- the head of ring j leaves and joins ring k
+pub passed-in : (j k p : ℕ) (a b c a′ b′ c′ a″ b″ c″ : List ℕ) → j < 16 → k < 16 → p ≡ headOf (queueAt a b c j) → Moves j shifted a b c a′ b′ c′
+    → Moves k (λ q. joined q p) a′ b′ c′ a″ b″ c″ → queuesIn a″ b″ c″ ≡ passedTo (queuesIn a b c) j k
+unfolding passedTo
+passed-in j k p a b c a′ b′ c′ a″ b″ c″ h i e x y =
+    joined-in k p a′ b′ c′ a″ b″ c″ i y
+    ∙ ap (λ (qs : List Queue). joinedAt qs k p) (left-in j a b c a′ b′ c′ h x)
+    ∙ ap (joinedAt (leftAt (queuesIn a b c) j) k) (e ∙ ap headOf (sym (in-ring a b c j h)))
+
+pub length-in : (a b c : List ℕ) → length (queuesIn a b c) ≡ 16
+unfolding queuesIn
+length-in a b c = length-queues 16 0 a b c
+
+pub len-in : (a b c : List ℕ) (k : ℕ) → k < 16 → queueIn (queuesIn a b c) k .len ≡ getD c k 0
+unfolding queueAt
+len-in a b c k h = ap (λ (q : Queue). q .len) (in-ring a b c k h)
+
+-- a move in one ring leaves the length of another
+pub moves-len : (k j : ℕ) (f : Queue → Queue) (a b c a′ b′ c′ : List ℕ) → j ≢ k → Moves k f a b c a′ b′ c′ → getD c′ j 0 ≡ getD c j 0
+unfolding queueAt
+moves-len k j f a b c a′ b′ c′ n m = ap (λ (q : Queue). q .len) (m .others j n)
+
+-- a PT joins ring k behind another motion
+pub then-joined : (k p : ℕ) (qs : List Queue) (a b c a′ b′ c′ : List ℕ) → k < 16 → queuesIn a b c ≡ qs → Moves k (λ q. joined q p) a b c a′ b′ c′ → queuesIn a′ b′ c′ ≡ joinedAt qs k p
+then-joined k p qs a b c a′ b′ c′ h e m = joined-in k p a b c a′ b′ c′ h m ∙ ap (λ (x : List Queue). joinedAt x k p) e

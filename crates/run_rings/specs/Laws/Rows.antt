@@ -4,23 +4,23 @@ use mathlib.Core.Logic.{_≢_}
 use mathlib.Core.Bool.{Bool, true, false, cond, _||_, false≢true}
 use mathlib.Core.Option.{Option, none, some}
 use mathlib.Core.List.{List, [], _∷_, _++_}
-use Prim.Native.Nat.{ℕ, zero, suc, _+_, _-_, _*_, _≤_, _<_, _^_}
+use Prim.Native.Nat.{ℕ, zero, suc, _+_, _*_, _/_, _≤_, _<_, _^_}
 use native.Mathlib.Omega.{arith}
 use lib.Dec.{eqb, leb, ltb}
 use lib.ListN.{length, getD, set, take, drop, drop-of-length-le}
 use lib.Seq.{length-take-le, take-all, take-suc, drop-cons, append-snoc, set-at, take-at, drop-at}
 use borrow.Author.Tests.{leb-true, ltb-true}
-use Rattle.word.specs.Laws.Bools.{and-left, and-right, Eq?, same, differ, eq?}
+use Rattle.word.specs.Laws.Bools.{and-left, and-right}
 use Rattle.window.specs.declared.Row.{Row}
 use Rattle.window.specs.declared.Window.{Window}
 use Rattle.window.specs.Windows.{windowOf, registerWindow, programWindow, dataWindow, dataWordWindow}
 use Rattle.window.specs.Code.Spans.{endOf}
 use Rattle.window.specs.Sound.{bits}
 use Rattle.step.specs.declared.Queue.{Queue}
-use Rattle.step.specs.State.{findRow, noQueue}
-use Rattle.step.specs.Soundness.{taskSound, basesSound, rowSound, rowsSound, hasRow, endsIn, rowEndsIn, windowsSound, queuesSound}
+use Rattle.step.specs.State.{findRow, queueIn}
+use Rattle.step.specs.Soundness.{taskSound, basesSound, rowSound, rowsSound, hasRow, endsIn, rowEndsIn, windowsSound, mayHold, queuesSound}
 use Rattle.step.specs.Laws.Rows.{find-here, find-there, here, there, found, find-task, none-some}
-use Rattle.step.specs.Laws.Sound.{found-hasRow, hasRow-range, queues-parts}
+use Rattle.step.specs.Laws.Sound.{found-hasRow, hasRow-range, nonempty-holds}
 use Rattle.run_rings.specs.Code.Records.{withRecord, rowIn, rowsIn, rowsWith}
 use Rattle.run_rings.specs.Code.Spans.{Narrow}
 use Rattle.run_rings.specs.Laws.Records.{Rising, ends, goes}
@@ -88,32 +88,20 @@ has-none t (r ∷ rs) e = go (eqb (r .task) t) (λ f. has-none t rs f) e
     go true ih e = absurd (none-some r (sym e))
     go false ih e = ih e
 
-queue-listed : (rows : List Row) (t i : ℕ) (qs : List Queue) → queuesSound rows t qs ≡ true → i < length qs → getD qs i noQueue .len ≢ 0 → hasRow (i + t) rows ≡ true
-queue-listed rows t i [] e h n = absurd (omega arith)
-queue-listed rows t zero (q ∷ qs) e h n =
-    let s : t ≡ 0 + t = omega arith in
-    ap (λ (u : ℕ). hasRow u rows) (sym s) ∙ go (eqb (q .len) 0) (eq? (q .len) 0) (queues-parts rows t q qs e .0 .1)
-  where
-    go : (b : Bool) → Eq? (q .len) 0 b → b || hasRow t rows ≡ true → hasRow t rows ≡ true
-    go true (same z) p = absurd (n z)
-    go false (differ z) p = p
-queue-listed rows t (suc i) (q ∷ qs) e h n =
-    let s : i + suc t ≡ suc i + t = omega arith in
-    ap (λ (u : ℕ). hasRow u rows) (sym s) ∙ queue-listed rows (suc t) i qs (queues-parts rows t q qs e .1) (omega arith) n
-
 -- the row of a task with processes
 pub record Row-of (t : ℕ) (rs : List Row) : Type 0 where
   pub row : Row
   pub finds : findRow t rs ≡ some row
 
-pub live-row : (rows : List Row) (t : ℕ) (qs : List Queue) → queuesSound rows 1 qs ≡ true → 1 ≤ t → t < 1 + length qs
-    → getD qs (t - 1) noQueue .len ≢ 0 → Row-of t rows
-live-row rows t qs e l u n = go (findRow t rows) refl
+-- of which queue k holds one
+pub live-row : (rows : List Row) (t k : ℕ) (qs : List Queue) → queuesSound rows 0 qs ≡ true → k < length qs → k / 2 ≡ t → queueIn qs k .len ≢ 0 → Row-of t rows
+unfolding mayHold
+live-row rows t k qs e l u n = go (findRow t rows) refl
   where
     go : (o : Option Row) → findRow t rows ≡ o → Row-of t rows
     go none f =
-        let s : t - 1 + 1 ≡ t = omega (arith, l) in
-        absurd (false≢true (sym (has-none t rows f) ∙ ap (λ (u : ℕ). hasRow u rows) (sym s) ∙ queue-listed rows 1 (t - 1) qs e (omega (arith, l, u)) n))
+        let s : k + 0 ≡ k = omega arith in
+        absurd (false≢true (sym (has-none t rows f) ∙ ap (λ (u : ℕ). hasRow u rows) (sym u) ∙ ap (mayHold rows) (sym s) ∙ nonempty-holds rows 0 qs e k l n))
     go (some r) f = record { row = r; finds = f }
 
 -- ---- the numbers of a sound row fit in 32 bits

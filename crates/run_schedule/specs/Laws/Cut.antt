@@ -1,17 +1,21 @@
 -- A run of slices that are cut to their sizes is a run of the state in the buffers.
 use Prim.Native.Nat.{ℕ, min, _≤_}
-use mathlib.Core.Path.{_≡_, sym, ap, _∙_, subst}
+use mathlib.Core.Path.{_≡_, refl, sym, ap, _∙_}
 use mathlib.Core.Bool.{true, false}
 use mathlib.Core.List.{List, _++_}
 use native.Mathlib.Omega.{arith}
 use lib.ListN.{length, take, drop, length-take, length-drop}
+use lib.Dec.{leb}
 use borrow.Author.Tests.{not-false}
+use Rattle.word.specs.Laws.Bools.{and-right}
 use Rattle.window.specs.Memories.{memory}
 use Rattle.window.specs.declared.Row.{Row}
+use Rattle.step.specs.declared.Processes.{Processes}
 use Rattle.step.specs.declared.ProcessTable.{ProcessTable}
 use Rattle.step.specs.Queues.{liveTotal}
 use Rattle.step.specs.State.{State}
 use Rattle.step.specs.Act.{tableOf}
+use Rattle.step.specs.Soundness as soundness
 use Rattle.step.specs.Soundness.{every, liveSound}
 use Rattle.step.specs.Laws.Counted.{live-counted, live-made}
 use Rattle.run.specs.declared.Counts.{Counts}
@@ -31,6 +35,15 @@ use Rattle.library.specs.Laws.Places.{Fitting, fitting, over-first, over-cut, o
 use Rattle.library.specs.Laws.Held.{before, lengths, room-held, accepted, accepted-live}
 use Rattle.library.specs.Laws.Numbers.{run-promise}
 use Rattle.library_state.specs.Laws.Cut.{cut, cut-fields, cut-refused}
+use Rattle.run_rings.specs.Code.Records.{rowsIn}
+use Rattle.run_next.specs.Code.Numbers.{Cells, cells, stateFrom}
+use Rattle.run_next.specs.Code.Tally.{countsIn}
+use Rattle.run_schedule.specs.declared.Carried.{Carried}
+use Rattle.run_rings.specs.declared.Tasks.{Tasks}
+use Rattle.run_rings.specs.Code.Laid.{noTasks, tasksLaid}
+use Rattle.run_rings.specs.Laws.Laid.{tasks-eight}
+use Rattle.run_schedule.specs.Code.Carried.{openState, Opens, Opened, Ends, usersOf}
+use Rattle.run_schedule.specs.Laws.Carried.{users-end, opens}
 use Rattle.run_schedule.specs.Laws.Answers.{runs}
 
 module _ (v : Rows) (table : ProcessTable) (constantTags constantWords tags words program dataTags dataWords : List ℕ) (n : Sizes) (seven : length (v .at) ≡ 7)
@@ -49,20 +62,46 @@ module _ (v : Rows) (table : ProcessTable) (constantTags constantWords tags word
   sizes-fit = fitting n (lengths v table constantTags constantWords tags words program dataTags dataWords) fit
 
   -- the table is the one that is made of its PSWs, queues and flag
-  counted : liveSound table ≡ true
+  counted : liveSound (table .users) ≡ true
   counted = accepted-live n held sound
 
-  abbrev made : ProcessTable
-  made = tableOf (table .psw) (table .queues) (table .flag)
+  table-made : table ≡ tableOf (table .users .psw) (table .users .queues) (table .users .flag)
+  table-made = ap (λ (u : Processes). record { users = u }) (live-made (table .users) counted)
 
-  pub total-counted : table .processes ≡ liveTotal (table .queues)
-  total-counted = live-counted table counted .1
+  pub total-counted : table .users .count ≡ liveTotal (table .users .queues)
+  total-counted = live-counted (table .users) counted .1
 
-  -- the state that is cut, with this table, is sound
-  pub cut-sound : soundIn (n .rows) (cut v made constantTags constantWords tags words program dataTags dataWords n) ≡ true
+  -- the memories that are cut
+  abbrev pub cutCells : Cells
+  cutCells =
+      cells (memory (take (n .constants) constantTags) (take (n .constants) constantWords)) (memory (take (n .registers) tags) (take (n .registers) words)) (take (n .program) program)
+      (memory (take (n .data_words) dataTags) (take (n .data_words) dataWords))
+
+  open-given : openState (take (n .rows) (v .at)) (table .users) cutCells ≡ given
+  unfolding openState stateIn
+  open-given = ap (λ (t : ProcessTable). cut v t constantTags constantWords tags words program dataTags dataWords n) (sym table-made)
+
+  -- the state that is cut is sound
+  pub cut-sound : soundness.sound (openState (take (n .rows) (v .at)) (table .users) cutCells) ≡ true
+  unfolding soundIn
   cut-sound =
-      subst (λ (t : ProcessTable). soundIn (n .rows) (cut v t constantTags constantWords tags words program dataTags dataWords n) ≡ true) (live-made table counted)
+      ap soundness.sound open-given
+      ∙ and-right (leb (n .rows) 7) (soundness.sound given)
       (not-false (soundIn (n .rows) given) (cut-refused v table constantTags constantWords tags words program dataTags dataWords n seven fit ∙ sound))
+
+  -- the rows in numbers
+  pub cut-opens : (x : Tasks) → x ≡ tasksLaid 7 1 (take (n .rows) (v .at)) noTasks → Opens (take (n .rows) (v .at)) (table .users) x cutCells
+  cut-opens x e = opens (take (n .rows) (v .at)) (table .users) cutCells cut-sound x e total-counted
+
+  pub cut-opened : (x : Tasks) → x ≡ tasksLaid 7 1 (take (n .rows) (v .at)) noTasks → Opened (table .users) x cutCells
+  cut-opened x e = record {
+    rows = take (n .rows) (v .at);
+    wide = ap (λ (y : Tasks). length (y .spans)) e ∙ tasks-eight (take (n .rows) (v .at)) 7 1 noTasks (omega arith) (record { kinds = refl; stored = refl; spans = refl }) .spans;
+    opens = cut-opens x e;
+  }
+
+  pub rows-few : n .rows ≤ length (v .at)
+  rows-few = let h : n .rows ≤ min (v .n) 7 = sizes-fit .rows in omega (arith, h, seven)
 
   -- the rows that are not held stay
   pub rows-beyond : (rows′ : List Row) → drop (n .rows) rows′ ≡ drop (n .rows) (v .at) → drop (v .n) rows′ ≡ drop (v .n) (v .at)
@@ -80,14 +119,15 @@ module _ (v : Rows) (table : ProcessTable) (constantTags constantWords tags word
         lentBuffers (take (v .n) rows′) table′ constantTags constantWords (tags′ ++ drop (n .registers) tags) (words′ ++ drop (n .registers) words) program
         (dataTags′ ++ drop (n .data_words) dataTags) (dataWords′ ++ drop (n .data_words) dataWords)
 
-    -- a run from the table that is made to one that is made
-    pub run-made : table′ ≡ tableOf (table′ .psw) (table′ .queues) (table′ .flag)
-        → record { state = cutFrom (tableOf (table′ .psw) (table′ .queues) (table′ .flag)); counts = c } ≡ run l (cut v made constantTags constantWords tags words program dataTags dataWords n)
+    -- what the numbers say at the end is the run's state
+    pub ran-cut : (spans : List ℕ) (r : Carried)
+        → Ends (take (n .rows) (v .at)) spans l (openState (take (n .rows) (v .at)) (table .users) cutCells) r
+        (cells (memory (take (n .constants) constantTags) (take (n .constants) constantWords)) (memory tags′ words′) (take (n .program) program) (memory dataTags′ dataWords′))
+        → take (n .rows) rows′ ≡ rowsIn (r .kinds) (r .stored) (take (n .rows) (v .at)) → table′ ≡ record { users = usersOf r } → c ≡ countsIn (r .tally)
         → record { state = cutAfter; counts = c } ≡ run l given
-    run-made e s =
-        ap (λ (t : ProcessTable). record { state = cutFrom t; counts = c }) e
-        ∙ s
-        ∙ ap (λ (t : ProcessTable). run l (cut v t constantTags constantWords tags words program dataTags dataWords n)) (sym (live-made table counted))
+    unfolding stateIn stateFrom
+    ran-cut spans r e k t q =
+        rw (k, t ∙ users-end (take (n .rows) (v .at)) spans r _ (e .numbers), q) (e .ran) ∙ ap (run l) open-given
 
     -- there are seven rows still
     pub rows-left : record { state = cutAfter; counts = c } ≡ run l given → drop (n .rows) rows′ ≡ drop (n .rows) (v .at) → length rows′ ≡ 7

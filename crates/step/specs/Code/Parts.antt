@@ -17,6 +17,7 @@ use Rattle.operation.specs.declared.Fate.the-variants.{Continues, Quits, Create
 use Rattle.operation.specs.declared.Decision.{Decision}
 use Rattle.operation.specs.declared.Decision.the-variants.{Waits, Traps, Executes}
 use Rattle.operation.specs.declared.Wait.{Wait}
+use Rattle.operation.specs.declared.Wait.the-variants.{Access, Data, Create}
 use Rattle.step.specs.declared.Attempt.{Attempt}
 use Rattle.step.specs.declared.Attempt.the-variants.{Step, Try}
 use Rattle.step.specs.declared.Queue.{Queue}
@@ -62,7 +63,10 @@ createdMotion Step free = TurnsAndJoins free
 createdMotion Try free = PassesAndJoins free
 
 unfoldable pub wavedMotion : Attempt → Wait → Motion
-wavedMotion a w = Turns
+wavedMotion Step Access = Turns
+wavedMotion Step Data = Passes
+wavedMotion Step Create = Turns
+wavedMotion Try w = Turns
 
 -- how it ends, and what becomes of the queues
 unfoldable pub fateResult : Attempt → (free : ℕ) → (below : Bool) → Fate → StepResult

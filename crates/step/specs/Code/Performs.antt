@@ -10,6 +10,8 @@ use Rattle.window.specs.Windows.{registerWindow, dataWordWindow}
 use Rattle.window.specs.Memories.{Memory, written}
 use Rattle.operation.specs.declared.Trap.{Trap}
 use Rattle.operation.specs.declared.Trap.the-variants as trap
+use Rattle.operation.specs.declared.Wait.{Wait}
+use Rattle.operation.specs.declared.Wait.the-variants as wait
 use Rattle.operation.specs.declared.Fate.{Fate}
 use Rattle.operation.specs.declared.Fate.the-variants as fate
 use Rattle.operation.specs.declared.Decision.{Decision}
@@ -21,7 +23,7 @@ use Rattle.step.specs.declared.Ending.the-variants.{Executed, Waved, Tra
 use Rattle.step.specs.declared.Motion.the-variants.{Stays, Turns, Leaves, Joins}
 use Rattle.step.specs.declared.StepResult.{StepResult}
 use Rattle.step.specs.Act.{registerWrites, dataWrites}
-use Rattle.step.specs.Code.Parts.{result, decisionPsws, executedMotion, createdMotion}
+use Rattle.step.specs.Code.Parts.{result, decisionPsws, executedMotion, createdMotion, wavedMotion}
 
 unfoldable pub trapCourse : Trap → Course
 trapCourse trap.CreateFault = go.CreateFault
@@ -37,8 +39,13 @@ fateCourse (fate.Continues p) = go.Continues
 fateCourse fate.Quits = go.Quits
 fateCourse (fate.Creates p new) = go.Creates
 
+abbrev pub waitCourse : Wait → Course
+waitCourse wait.Access = go.Waits
+waitCourse wait.Data = go.WaitsForData
+waitCourse wait.Create = go.Waits
+
 unfoldable pub courseOf : Decision → Course
-courseOf (decision.Waits w) = go.Waits
+courseOf (decision.Waits w) = waitCourse w
 courseOf (decision.Traps k p) = trapCourse k
 courseOf (decision.Executes e) = fateCourse (e .fate)
 
@@ -52,6 +59,7 @@ pub record Performs (row : Row) (d : Decision) (pt fresh : ℕ) (r : Course) (ps
 unfoldable pub courseResult : Attempt → (free : ℕ) → (below : Bool) → (p : ℕ) → Course → StepResult
 courseResult a free below p go.Continues = result Executed (executedMotion a)
 courseResult a free below p go.Waits = result Waved Turns
+courseResult a free below p go.WaitsForData = result Waved (wavedMotion a wait.Data)
 courseResult a free below p go.Quits = result Executed Leaves
 courseResult a free below p go.Creates = cond below (result Executed (createdMotion a free)) (result (Trapped trap.CreateFault p) (Joins free))
 courseResult a free below p go.CreateFault = result (Trapped trap.CreateFault p) Stays

@@ -43,9 +43,6 @@ pub made-live : (psw : List ℕ) (queues : List Queue) (flag : ℕ) → liveSoun
 unfolding liveSound
 made-live psw queues flag = also (alike-self (liveCounts queues)) (eq-eqb (liveTotal queues) (liveTotal queues) refl)
 
-pub made-total : (psw : List ℕ) (queues : List Queue) (flag : ℕ) → withCounts psw queues flag .count ≡ liveTotal queues
-made-total psw queues flag = refl
-
 -- so a table whose counts pass is the one that is made of its PSWs, queues and flag
 pub live-made : (t : Processes) → liveSound t ≡ true → t ≡ withCounts (t .psw) (t .queues) (t .flag)
 live-made t e =

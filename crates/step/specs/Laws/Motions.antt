@@ -1,6 +1,6 @@
 -- The queues with their PSWs, in which every PT stands once; and what each motion does to that, to the processes of the queue that moves, and to
 -- those of the others.
-use mathlib.Core.Path.{_≡_, refl, sym, ap, _∙_, subst}
+use mathlib.Core.Path.{_≡_, sym, ap, _∙_, subst}
 use mathlib.Core.Logic.{_≢_}
 use mathlib.Core.Bool.{Bool, true, false}
 use mathlib.Core.List.{List, [], _∷_, _++_}
@@ -14,7 +14,7 @@ use Rattle.step.specs.declared.Queue.{Queue}
 use Rattle.step.specs.Queues.{occ, hit, listOf, headOf, turned, shifted, joined, livePts}
 use Rattle.step.specs.State.{queueIn, withQueue, noQueue, pswsOf, processesAt}
 use Rattle.step.specs.Act.{turnedAt, leftAt, joinedAt, passedTo}
-use Rattle.step.specs.Laws.Occurrences.{occ-rot, occ-snoc, occ-cons, hit-same, hit-differ, rot, rest, first, head-to, Distinct, Heads, Free, length-once, occ-rest-heads, psws-set, psws-rot, psws-rest, psws-first, psws-head, psws-other, psws-append, psws-one}
+use Rattle.step.specs.Laws.Occurrences.{occ-rot, occ-snoc, occ-cons, hit-same, hit-differ, rot, rest, first, head-to, Distinct, Heads, Free, length-once, occ-rest, psws-set, psws-rot, psws-rest, psws-first, psws-head, psws-other, psws-append, psws-one}
 use Rattle.step.specs.Laws.Queues.{Shaped, heads, turned-list, shifted-list, joined-list, turned-shaped, shifted-shaped, joined-shaped, turned-len, shifted-len, joined-len, occ-set, occ-get, occ-two, length-live, len-get}
 
 pub record Tidy (psw : List ℕ) (qs : List Queue) : Type 0 where
@@ -27,19 +27,19 @@ pub record Tidy (psw : List ℕ) (qs : List Queue) : Type 0 where
 -- ---- another queue for the one with number k
 
 module _ (qs : List Queue) (k : ℕ) (x : Queue) where
-  pub at-same : k < length qs → queueIn (withQueue qs k x) k ≡ x
+  at-same : k < length qs → queueIn (withQueue qs k x) k ≡ x
   unfolding queueIn withQueue
   at-same h = getD-set-same qs k x noQueue h
 
-  pub at-other : (j : ℕ) → j ≢ k → queueIn (withQueue qs k x) j ≡ queueIn qs j
+  at-other : (j : ℕ) → j ≢ k → queueIn (withQueue qs k x) j ≡ queueIn qs j
   unfolding queueIn withQueue
   at-other j n = getD-set-other qs k j x noQueue n
 
-  pub occ-with : (p : ℕ) → k < length qs → occ p (livePts (withQueue qs k x)) + occ p (listOf (queueIn qs k)) ≡ occ p (livePts qs) + occ p (listOf x)
+  occ-with : (p : ℕ) → k < length qs → occ p (livePts (withQueue qs k x)) + occ p (listOf (queueIn qs k)) ≡ occ p (livePts qs) + occ p (listOf x)
   unfolding queueIn withQueue
   occ-with p h = occ-set p qs k x h
 
-  pub length-with : k < length qs → length (livePts (withQueue qs k x)) + queueIn qs k .len ≡ length (livePts qs) + x .len
+  length-with : k < length qs → length (livePts (withQueue qs k x)) + queueIn qs k .len ≡ length (livePts qs) + x .len
   unfolding queueIn withQueue
   length-with h = length-live qs k x h
 
@@ -71,14 +71,14 @@ module _ (qs : List Queue) (k : ℕ) (x : Queue) where
   other-with psw j n = ap (λ (q : Queue). pswsOf psw (listOf q)) (at-other j n)
 
 module _ {psw : List ℕ} {qs : List Queue} (tidy : Tidy psw qs) (k : ℕ) (high : k < 16) where
-  pub inside : k < length qs
+  inside : k < length qs
   inside = omega (arith, high, tidy .sixteen)
 
   pub le : (p : ℕ) → occ p (listOf (queueIn qs k)) ≤ occ p (livePts qs)
   unfolding queueIn
   le p = occ-get p qs k inside
 
-  pub two : (j : ℕ) → j < 16 → j ≢ k → (p : ℕ) → occ p (listOf (queueIn qs k)) + occ p (listOf (queueIn qs j)) ≤ occ p (livePts qs)
+  two : (j : ℕ) → j < 16 → j ≢ k → (p : ℕ) → occ p (listOf (queueIn qs k)) + occ p (listOf (queueIn qs j)) ≤ occ p (livePts qs)
   unfolding queueIn
   two j h n p = occ-two p qs k j (λ e. n (sym e)) inside (omega (arith, h, tidy .sixteen))
 
@@ -160,7 +160,7 @@ module _ {psw : List ℕ} {qs : List Queue} (tidy : Tidy psw qs) (k : ℕ) (high
     pub leave-occ : (p : ℕ) → occ p (livePts (leftAt qs k)) + hit p (headOf (queueIn qs k)) ≡ occ p (livePts qs)
     unfolding leftAt
     leave-occ p =
-        omega (arith, occ-with qs k (shifted (queueIn qs k)) p inside, ap (occ p) (shifted-list (queueIn qs k)), occ-rest-heads p (headOf (queueIn qs k)) (listOf (queueIn qs k)) front)
+        omega (arith, occ-with qs k (shifted (queueIn qs k)) p inside, ap (occ p) (shifted-list (queueIn qs k)), occ-rest p (headOf (queueIn qs k)) (listOf (queueIn qs k)) front)
 
     pub leave-length : suc (length (livePts (leftAt qs k))) ≡ length (livePts qs)
     unfolding leftAt
@@ -191,7 +191,7 @@ module _ {psw : List ℕ} {qs : List Queue} (tidy : Tidy psw qs) (k : ℕ) (high
         own-with qs k (shifted (queueIn qs k)) psw inside ∙ ap (pswsOf psw) (shifted-list (queueIn qs k)) ∙ psws-rest psw (listOf (queueIn qs k))
 
     -- the PSW of the head
-    pub head-psw : (getD psw (headOf (queueIn qs k)) 0 ∷ []) ≡ first (processesAt psw qs k)
+    head-psw : (getD psw (headOf (queueIn qs k)) 0 ∷ []) ≡ first (processesAt psw qs k)
     unfolding processesAt
     head-psw = psws-first psw (headOf (queueIn qs k)) (listOf (queueIn qs k)) front
 

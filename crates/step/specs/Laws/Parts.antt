@@ -1,5 +1,5 @@
 -- The parts of a step or a try make it.
-use mathlib.Core.Path.{_≡_, refl, sym, ap, ap₂, _∙_, subst}
+use mathlib.Core.Path.{_≡_, refl, sym, ap, _∙_, subst}
 use mathlib.Core.Logic.{_≢_}
 use mathlib.Core.Bool.{Bool, true, false, cond}
 use mathlib.Core.Option.{Option, none, some}
@@ -16,19 +16,19 @@ use Rattle.operation.specs.declared.Decision.{Decision}
 use Rattle.operation.specs.declared.Decision.the-variants.{Waits, Traps, Executes}
 use Rattle.operation.specs.Decide.{decide}
 use Rattle.operation.specs.declared.Wait.{Wait}
+use Rattle.operation.specs.declared.Wait.the-variants.{Access, Data, Create}
 use Rattle.step.specs.declared.Attempt.{Attempt}
 use Rattle.step.specs.declared.Attempt.the-variants.{Step, Try}
 use Rattle.step.specs.declared.Queue.{Queue}
 use Rattle.step.specs.declared.Processes.{Processes}
 use Rattle.step.specs.declared.Ending.{Ending}
-use Rattle.step.specs.declared.Ending.the-variants.{Trapped}
 use Rattle.step.specs.declared.Ending.the-variants as ending
 use Rattle.step.specs.declared.Decided.{Decided}
 use Rattle.step.specs.declared.Decided.the-variants.{Idle, Decides}
 use Rattle.step.specs.declared.StepResult.{StepResult}
 use Rattle.step.specs.Queues.{actingNumber, belowTotal, listOf, headOf, lowestFree}
 use Rattle.step.specs.State.{State, state, findRow, putRow, actingQueue, pswsOf, processesActing, environment}
-use Rattle.step.specs.Act.{registerWrites, dataWrites, trappedRow, withCounts, executedQueues, wavedQueues, actorPsws, Change, Stepped, changeOf, fateIn, createdIn, faultIn, createdPsws, act}
+use Rattle.step.specs.Act.{registerWrites, dataWrites, withCounts, executedQueues, wavedQueues, actorPsws, Change, Stepped, changeOf, fateIn, createdIn, faultIn, createdPsws, act}
 use Rattle.step.specs.Step.{noTrap, headDecides, rowDecides, acted, attemptRow, attemptBy}
 use Rattle.step.specs.Code.Parts.{decidedAs, fateCreates, creates, fateResult, decisionResult, resultOf, fatePsws, decisionPsws, pswsAfter, registersWritten, dataWritten, otherNumber, executedMotion, createdMotion, wavedMotion, movedQueues, flagAfter, rowAfter, Acts}
 use Rattle.step.specs.Laws.Occurrences.{Heads}
@@ -73,7 +73,10 @@ module _ (table : Processes) (r : Row) (free : ℕ) (below : Bool) where
   change-parts a (Waits w) g h = waits a w
     where
       waits : (a : Attempt) (w : Wait) → changeOf table a r (Waits w) ≡ changed table a r (decisionResult a free below (Waits w)) (table .psw)
-      waits a w = refl
+      waits Step Access = refl
+      waits Step Data = refl
+      waits Step Create = refl
+      waits Try w = refl
   change-parts a (Traps k p) g h = refl
   change-parts a (Executes e) g h = fate-parts a (e .fate) g h
 

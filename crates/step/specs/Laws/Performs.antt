@@ -12,6 +12,7 @@ use Rattle.window.specs.Memories.{Memory, written, storedAll}
 use Rattle.operation.specs.declared.Trap.{Trap}
 use Rattle.operation.specs.declared.Trap.the-variants as trap
 use Rattle.operation.specs.declared.Wait.{Wait}
+use Rattle.operation.specs.declared.Wait.the-variants as wait
 use Rattle.operation.specs.declared.Effects.{Effects}
 use Rattle.operation.specs.declared.Fate.{Fate}
 use Rattle.operation.specs.declared.Fate.the-variants as fate
@@ -20,19 +21,20 @@ use Rattle.operation.specs.declared.Decision.the-variants as decision
 use Rattle.operation.specs.declared.Course.{Course}
 use Rattle.operation.specs.declared.Course.the-variants as go
 use Rattle.step.specs.declared.Attempt.{Attempt}
-use Rattle.step.specs.declared.Ending.the-variants.{Executed, Trapped}
+use Rattle.step.specs.declared.Attempt.the-variants.{Step, Try}
+use Rattle.step.specs.declared.Ending.the-variants.{Executed, Waved, Trapped}
 use Rattle.step.specs.declared.Motion.the-variants.{Stays, Joins}
 use Rattle.step.specs.declared.Decided.the-variants.{Decides}
 use Rattle.step.specs.Act.{registerWrites, dataWrites}
 use Rattle.step.specs.Code.Parts.{result, createdMotion, wavedMotion, fateResult, decisionResult, resultOf, fatePsws, decisionPsws, pswsAfter, registersWritten, dataWritten, Acts}
-use Rattle.step.specs.Code.Performs.{trapCourse, fateCourse, courseOf, Performs, courseResult}
+use Rattle.step.specs.Code.Performs.{trapCourse, waitCourse, fateCourse, courseOf, Performs, courseResult}
 
 pub performs-along : (row : Row) (d d′ : Decision) (pt fresh : ℕ) (r : Course) (psw psw′ : List ℕ) (m m′ n n′ : Memory) → d ≡ d′
     → Performs row d pt fresh r psw psw′ m m′ n n′ → Performs row d′ pt fresh r psw psw′ m m′ n n′
 performs-along row d d′ pt fresh r psw psw′ m m′ n n′ e p = subst (λ (x : Decision). Performs row x pt fresh r psw psw′ m m′ n n′) e p
 
 module _ (row : Row) (pt fresh : ℕ) (psw : List ℕ) (m n : Memory) where
-  pub performs-waits : (w : Wait) → Performs row (decision.Waits w) pt fresh go.Waits psw psw m m n n
+  pub performs-waits : (w : Wait) → Performs row (decision.Waits w) pt fresh (waitCourse w) psw psw m m n n
   unfolding courseOf decisionPsws registerWrites dataWrites written storedAll
   performs-waits w = record { course = refl; psws = refl; registers = refl; dataWords = refl }
 
@@ -72,9 +74,18 @@ module _ (a : Attempt) (pt free : ℕ) (room : Bool) (psw : List ℕ) (here : pt
       let e : getD (set (set psw pt p) free new) pt 0 ≡ p = getD-set-other (set psw pt p) free pt new 0 other ∙ getD-set-same psw pt p 0 here in
       ap (λ (q : ℕ). cond room (result Executed (createdMotion a free)) (result (Trapped trap.CreateFault q) (Joins free))) (sym e)
 
+  wait-result : (a : Attempt) (w : Wait) (p : ℕ) → result Waved (wavedMotion a w) ≡ courseResult a free room p (waitCourse w)
+  unfolding courseResult wavedMotion
+  wait-result Step wait.Access p = refl
+  wait-result Step wait.Data p = refl
+  wait-result Step wait.Create p = refl
+  wait-result Try wait.Access p = refl
+  wait-result Try wait.Data p = refl
+  wait-result Try wait.Create p = refl
+
   course-result : (d : Decision) → decisionResult a free room d ≡ courseResult a free room (getD (decisionPsws pt free d psw) pt 0) (courseOf d)
-  unfolding decisionResult courseResult decisionPsws courseOf wavedMotion
-  course-result (decision.Waits w) = refl
+  unfolding decisionResult courseResult decisionPsws courseOf
+  course-result (decision.Waits w) = wait-result a w _
   course-result (decision.Traps k p) = trap-result k p _ (getD-set-same psw pt p 0 here)
   course-result (decision.Executes e) = fate-result (e .fate)
 

@@ -105,7 +105,8 @@ module _ (s : State) (a : Attempt) (t : ℕ) (r : Row) (before : Sound s) (at : 
   ready =
       let lists : hasRow t (s .rows) ≡ true = found-hasRow t (s .rows) r at in
       let range = hasRow-range 0 t (s .rows) (before .rows) lists in
-      record { sound = before .table; listed = listed-holds (s .rows) t (range .1) lists; nonempty = nonempty }
+      let held = listed-holds (s .rows) t (range .1) lists in
+      record { sound = before .table; listed = held .0; waits = held .1; nonempty = nonempty }
 
   pub act-sound : (d : Decision) → SoundDecision (s .table .users .flag) d → Sound (act s a r d .state)
   unfolding act written

@@ -1,5 +1,6 @@
 -- A step or a try that ends waved is an act of a decision that waits.
-use mathlib.Core.Path.{_≡_, refl, ap, _∙_}
+use mathlib.Core.Path.{_≡_, refl, sym, ap, _∙_}
+use mathlib.Core.Logic.{_≢_}
 use mathlib.Core.Bool.{Bool, true, false, cond}
 use mathlib.Core.Option.{Option, none, some}
 use Prim.Native.Nat.{ℕ}
@@ -7,6 +8,7 @@ use native.Mathlib.Omega.{arith}
 use Rattle.window.specs.declared.Row.{Row}
 use Rattle.operation.specs.Environment.{Environment}
 use Rattle.operation.specs.declared.Wait.{Wait}
+use Rattle.operation.specs.declared.Wait.the-variants.{Access, Data, Create}
 use Rattle.operation.specs.declared.Fate.{Fate}
 use Rattle.operation.specs.declared.Fate.the-variants.{Continues, Quits, Creates}
 use Rattle.operation.specs.declared.Decision.{Decision}
@@ -14,10 +16,17 @@ use Rattle.operation.specs.declared.Decision.the-variants.{Waits, Traps, Execut
 use Rattle.step.specs.declared.Attempt.{Attempt}
 use Rattle.step.specs.declared.Processes.{Processes}
 use Rattle.step.specs.declared.Ending.the-variants.{Waved}
-use Rattle.step.specs.Queues.{belowTotal}
-use Rattle.step.specs.State.{State, findRow, processesActing}
-use Rattle.step.specs.Act.{createdIn, faultIn, fateIn, changeOf, act}
+use mathlib.Core.List.{List}
+use Rattle.step.specs.declared.Attempt.the-variants.{Step, Try}
+use Rattle.step.specs.declared.Queue.{Queue}
+use Rattle.step.specs.Queues.{ownNumber, sfuNumber, actingNumber, belowTotal, liveCounts, liveTotal}
+use Rattle.step.specs.State.{State, findRow, queueIn, actingQueue, processesActing}
+use Rattle.step.specs.Act.{turnedAt, wavedQueues, createdIn, faultIn, fateIn, changeOf, act}
 use Rattle.step.specs.Step.{rowDecides, acted, attemptRow, attemptBy}
+use Rattle.step.specs.Laws.Motions.{Tidy}
+use Rattle.step.specs.Laws.Act.{own-inside, sfu-inside, own-sfu, own-mates}
+use Rattle.step.specs.Laws.LiveCounts.{turned-counts, passed-counts, sumOf, total-sum}
+use Rattle.step.specs.Laws.Step.{deciding}
 
 -- no fate of a process ends waved
 fate-ends : (table : Processes) (a : Attempt) (r : Row) (f : Fate) → fateIn table a r f .ending ≡ Waved → ⊥
@@ -36,6 +45,7 @@ module _ (decide : Environment → Decision) (a : Attempt) (t : ℕ) (s : State)
     pub row : Row
     pub wait : Wait
     pub found : findRow t (s .rows) ≡ some row
+    pub nonempty : actingQueue (s .table .users) a t .len ≢ 0
     pub acts : attemptBy decide a t s ≡ act s a row (Waits wait)
 
   pub waved-acts : attemptBy decide a t s .ending ≡ Waved → Waiting
@@ -52,7 +62,20 @@ module _ (decide : Environment → Decision) (a : Attempt) (t : ℕ) (s : State)
             row = r;
             wait = w;
             found = f;
+            nonempty = deciding decide a t s r (Waits w) k;
             acts = ap (attemptRow decide a t s) f ∙ ap (acted decide s a r) k;
           }
           by (some (Traps c p)) k e = let z : _≡_ {A = ℕ} 0 1 = cc in absurd (omega arith)
           by (some (Executes x)) k e = absurd (fate-ends (s .table .users) a r (x .fate) e)
+
+-- as many processes live of each task, and in all
+module _ {psw : List ℕ} {qs : List Queue} (tidy : Tidy psw qs) (t : ℕ) where
+  pub waved-counts : (a : Attempt) (w : Wait) → queueIn qs (actingNumber a t) .len ≢ 0 → liveCounts (wavedQueues a w qs t) ≡ liveCounts qs
+  unfolding wavedQueues turnedAt actingNumber
+  waved-counts Step Access n = turned-counts qs (ownNumber t)
+  waved-counts Step Data n = passed-counts tidy (ownNumber t) (sfuNumber t) (own-inside t) (sfu-inside t) (own-mates t) (own-sfu t t) n
+  waved-counts Step Create n = turned-counts qs (ownNumber t)
+  waved-counts Try w n = turned-counts qs (sfuNumber t)
+
+  pub waved-total : (a : Attempt) (w : Wait) → queueIn qs (actingNumber a t) .len ≢ 0 → liveTotal (wavedQueues a w qs t) ≡ liveTotal qs
+  waved-total a w n = total-sum (wavedQueues a w qs t) ∙ ap sumOf (waved-counts a w n) ∙ sym (total-sum qs)

@@ -12,10 +12,10 @@ use Rattle.step_soundness.proofs.processes_sound.Statement.{statement}
 use Rattle.step_soundness.proofs.processes_sound.Tie as tie
 
 abbrev Inv-loop : tie.InvT-loop
-Inv-loop psw queues seen₀ k₀ seen k = (k ≤ 7) × (seenAfter psw (livePts (drop k queues)) seen ≡ seenAfter psw (livePts queues) seen₀)
+Inv-loop psw queues seen₀ k₀ seen k = (k ≤ 16) × (seenAfter psw (livePts (drop k queues)) seen ≡ seenAfter psw (livePts queues) seen₀)
 
 abbrev μ-loop : tie.MeasureT-loop
-μ-loop psw queues seen₀ k₀ seen k = 7 - k
+μ-loop psw queues seen₀ k₀ seen k = 16 - k
 
 loop-holds : tie.Need-loop-holds Inv-loop μ-loop
 loop-holds c = (omega arith, refl)

@@ -12,10 +12,10 @@ use Rattle.step_soundness.proofs.queues_sound.Statement.{statement}
 use Rattle.step_soundness.proofs.queues_sound.Tie as tie
 
 abbrev Inv-loop : tie.InvT-loop
-Inv-loop rows n queues t₀ k₀ t k = (k ≤ 7) × ((t ≡ k + 1) × (queuesSound (take n rows) t (drop k queues) ≡ queuesSound (take n rows) 1 queues))
+Inv-loop rows n queues t₀ k₀ t k = (k ≤ 16) × ((t ≡ k) × (queuesSound (take n rows) t (drop k queues) ≡ queuesSound (take n rows) 0 queues))
 
 abbrev μ-loop : tie.MeasureT-loop
-μ-loop rows n queues t₀ k₀ t k = 7 - k
+μ-loop rows n queues t₀ k₀ t k = 16 - k
 
 loop-holds : tie.Need-loop-holds Inv-loop μ-loop
 loop-holds c = (omega arith, (refl, refl))

@@ -12,15 +12,15 @@ use Rattle.step_soundness.proofs.table_sound.Statement.{statement}
 use Rattle.step_soundness.proofs.table_sound.Tie as tie
 
 -- the arrays have their lengths, so the tests of the rest decide
-opened : (c : tie.Start) → (let rows = take (c .args .n) (c .args .rows) in let t = c .args .table in
+opened : (c : tie.Start) → (let rows = take (c .args .n) (c .args .rows) in let t = c .args .users in
     tableSound rows t
-    ≡ queuesSound rows 1 (t .queues)
+    ≡ queuesSound rows 0 (t .queues)
     && (processesSound (t .psw) (livePts (t .queues)) && (flagSound (t .flag) && (liveSound t && totalSound (liveTotal (t .queues)) (t .flag)))))
 unfolding tableSound
 opened c =
-    let wide : length (c .args .table .psw) ≡ 64 = search needs in
-    let seven : length (c .args .table .queues) ≡ 7 = simp length-map at (c .good .1 .1 .0 .1 .1 .1 .0 .1 .0 .1) in
-    simp (eq-eqb _ _ wide, eq-eqb _ _ seven)
+    let wide : length (c .args .users .psw) ≡ 64 = search needs in
+    let sixteen : length (c .args .users .queues) ≡ 16 = simp length-map at (c .good .1 .1 .0 .1 .1 .1 .0 .1 .0 .1) in
+    simp (eq-eqb _ _ wide, eq-eqb _ _ sixteen)
 
 queues-sound-requires : tie.Need-queues-sound-requires
 queues-sound-requires c κs = search needs
@@ -72,7 +72,7 @@ returns-5 c =
     let p = c .before .before .before .before .before .processes-sound in
     let l = c .before .before .live-sound in
     let live = sym (l .ensures) ∙ not-false (l .result) (c .before .if4 .left) in
-    let room = c .total-sound .ensures ∙ ap (λ (n : ℕ). totalSound n (s .args .table .flag)) (live-counted (s .args .table) live .1) in
+    let room = c .total-sound .ensures ∙ ap (λ (n : ℕ). totalSound n (s .args .users .flag)) (live-counted (s .args .users) live .1) in
     sym (opened s ∙ simp (sym (q .ensures) ∙ not-false (q .result) (c .before .before .before .before .before .before .if1 .left), sym (p .ensures) ∙ not-false (p .result) (c .before .before .before .before .if2 .left), le-leb _ _ (c .before .before .before .if3 .left), live, ← room))
 
 pub table-sound-spec : {M : Type 1} → statement M

@@ -9,7 +9,7 @@ use Rattle.window.specs.Memories.{Memory, memory}
 use Rattle.step.specs.declared.Queue.{Queue}
 use Rattle.step.specs.declared.ProcessTable.{ProcessTable}
 use Rattle.step.specs.State.{State}
-use Rattle.step.specs.Soundness.{hasRow, queueShaped, sound}
+use Rattle.step.specs.Soundness.{mayHold, queueShaped, sound}
 
 -- the state that is held
 unfoldable pub stateIn : (rows : List Row) → (n : ℕ) → ProcessTable → (constants : Memory) → (tags words program dataTags dataWords : List ℕ) → State
@@ -22,9 +22,9 @@ stateIn rows n table constants tags words program dataTags dataWords = record {
   dataWords = memory dataTags dataWords;
 }
 
--- the queue of task t: in its array, and empty where t is unlisted
-unfoldable pub queueSound : List Row → (t : ℕ) → Queue → Bool
-queueSound rows t q = queueShaped q && (eqb (q .len) 0 || hasRow t rows)
+-- the queue with number k: in its array, and empty where it may hold no process
+unfoldable pub queueSound : List Row → (k : ℕ) → Queue → Bool
+queueSound rows k q = queueShaped q && (eqb (q .len) 0 || mayHold rows k)
 
 -- a sound state is held: no more rows than there are, and the tests of a state
 unfoldable pub soundIn : (n : ℕ) → State → Bool

@@ -19,9 +19,9 @@ pub fn object(file: &str, done: &Result<hep::Outcome, Failure>) -> String {
 fn accepted(outcome: &hep::Outcome) -> String {
     let state = outcome.state();
     let tasks: Vec<String> = state.tasks.iter().map(|row| task(&state, row)).collect();
-    let hep::Counts { executed, waved, trapped, idle } = outcome.counts;
+    let hep::Counts { executed, waved, trapped, idle, tries } = outcome.counts;
     let counts = format!(
-        "\"executed\":{executed},\"waved\":{waved},\"trapped\":{trapped},\"idle\":{idle},\"create_fault\":{}",
+        "\"executed\":{executed},\"waved\":{waved},\"trapped\":{trapped},\"idle\":{idle},\"tries\":{tries},\"create_fault\":{}",
         state.create_fault
     );
     format!("\"result\":\"accepted\",{counts},\"tasks\":[{}]", tasks.join(","))

@@ -240,6 +240,15 @@ impl Reading<'_> {
         if self.draft.processes.iter().any(|process| process.pt == pt) {
             return Err(line.error_at(place, format!("process number {pt} stands twice")));
         }
+        let (task, sfu) = self.queue(line)?;
+        let psw = self.names.psw(line)?;
+        self.draft.processes.push(Process { pt, task, sfu, psw });
+        self.process_lines.push(line.number());
+        Ok(())
+    }
+
+    /// `task=N`, and `sfu` behind it for its SFU queue.
+    fn queue(&self, line: &mut Line) -> Result<(u8, bool), Error> {
         if !line.keyword("task") {
             return Err(line.error("`task=` should stand here"));
         }
@@ -249,13 +258,21 @@ impl Reading<'_> {
         if !self.draft.tasks.iter().any(|row| row.number == task) {
             return Err(line.error_at(place, format!("task {task} isn't listed above")));
         }
-        if self.draft.processes.last().is_some_and(|process| process.task > task) {
-            return Err(line.error_at(place, "processes stand by ascending task"));
+        let sfu = line.keyword("sfu");
+        let word = line.peek();
+        if !word.is_empty() && !line.is_field() {
+            let hint = hint(word, ["sfu", "ci", "ri", "utm", "pc"]);
+            return Err(line.error(format!("`{word}` is no field here{hint}")));
         }
-        let psw = self.names.psw(line)?;
-        self.draft.processes.push(Process { pt, task, psw });
-        self.process_lines.push(line.number());
-        Ok(())
+        match self.draft.processes.last() {
+            Some(last) if last.task > task => {
+                Err(line.error_at(place, "processes stand by ascending task"))
+            }
+            Some(last) if last.task == task && last.sfu && !sfu => {
+                Err(line.error_at(place, "a task's queue stands before its SFU queue"))
+            }
+            _ => Ok((task, sfu)),
+        }
     }
 
     /// `name NAME = OPERAND` or `name NAME = NUMBER`.

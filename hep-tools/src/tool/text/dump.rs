@@ -50,8 +50,9 @@ fn show_task(task: &Task) -> String {
     format!("task {number} {windows} trap=0x{kind:02X} {}\n", psw_fields(*trapped))
 }
 
-fn show_process(process: &Process) -> String {
-    format!("process {} task={} {}\n", process.pt, process.task, psw_fields(process.psw))
+fn show_process(Process { pt, task, sfu, psw }: &Process) -> String {
+    let queue = if *sfu { " sfu" } else { "" };
+    format!("process {pt} task={task}{queue} {}\n", psw_fields(*psw))
 }
 
 /// The fields of a status word that aren't zero, and PC.

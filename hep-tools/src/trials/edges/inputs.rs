@@ -135,7 +135,7 @@ impl Fullest {
             }
             output += if trapped == 1 { "1 1 14 00000\n" } else { "1 1 -- -----\n" };
         }
-        output += &format!("E{executed} W0 T{trapped} I{idle} CF0\n");
+        output += &format!("E{executed} W0 T{trapped} I{idle} S0 CF0\n");
         Answer { output: output.into_bytes(), image: Some(after.bytes()) }
     }
 }

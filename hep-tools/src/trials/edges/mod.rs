@@ -26,7 +26,7 @@ pub fn all() -> Vec<Trial> {
 pub fn smallest() -> [(u8, Vec<u8>); 9] {
     let left_over = [&Draft::default().bytes()[..], &[0]].concat();
     let past = bare(|draft| draft.tasks[0].rb = 0);
-    let clash = bare(|draft| draft.processes = vec![Process { pt: 0, task: 1, psw: 0 }; 2]);
+    let clash = bare(|draft| draft.processes = vec![Process::new(0, 1, 0); 2]);
     [
         (1, vec![]),
         (2, vec![8]),
@@ -80,14 +80,14 @@ fn accepted(input: &[u8]) -> Answer {
     let tasks: Vec<u8> = (0..usize::from(processes[0])).map(|i| processes[3 + 10 * i]).collect();
     let mut output = String::new();
     for row in image[1..].chunks(28).take(rows) {
-        let live = tasks.iter().filter(|task| **task == row[0]).count();
+        let live = tasks.iter().filter(|task| **task % 16 == row[0]).count();
         let pc = (u32::from(row[25] & 15) << 16) + (u32::from(row[26]) << 8) + u32::from(row[27]);
         output += &match row[19] {
             0xFF => format!("{} {live} -- -----\n", row[0]),
             kind => format!("{} {live} {kind:02X} {pc:05X}\n", row[0]),
         };
     }
-    output += &format!("E0 W0 T0 I{items} CF{}\n", processes[1]);
+    output += &format!("E0 W0 T0 I{items} S0 CF{}\n", processes[1]);
     Answer { output: output.into_bytes(), image: Some(image.to_vec()) }
 }
 
@@ -102,7 +102,7 @@ fn bare(change: impl Fn(&mut Draft)) -> Draft {
 fn bench(change: impl Fn(&mut Draft)) -> Draft {
     let mut draft = Draft {
         tasks: vec![Task { rb: 0, rl: 0, pb: 0, pl: 0, db: 0, dl: 0, ..Task::empty(1) }],
-        processes: vec![Process { pt: 0, task: 1, psw: 0 }],
+        processes: vec![Process::new(0, 1, 0)],
         constants: vec![(0, 5), (6, 6)],
         registers: vec![(0, 1), (14, 2)],
         program: vec![3; 16],
@@ -113,15 +113,16 @@ fn bench(change: impl Fn(&mut Draft)) -> Draft {
     draft
 }
 
-/// Two tasks, of which one is trapped, three processes, and something in every memory.
+/// Two tasks, of which one is trapped, three processes, of which two are in SFU queues, and something in every memory.
 pub fn full() -> Draft {
     let first = Task { cb: 2, rb: 0, rl: 1, pb: 0, pl: 0, db: 0, dl: 0, ..Task::empty(1) };
     let trapped = Task { kind: 0x14, trapped: 7, ..Task::empty(4) };
     let second = Task { cb: 0xFFF, rb: 1, rl: 1, pb: 0, pl: 0, ..trapped };
-    let process = |pt, task, psw| Process { pt, task, psw };
+    let process = Process::new;
+    let in_sfu = |pt, task, psw| Process { sfu: true, ..process(pt, task, psw) };
     Draft {
         tasks: vec![first, second],
-        processes: vec![process(5, 1, 3), process(2, 1, 0), process(63, 4, 7)],
+        processes: vec![process(5, 1, 3), in_sfu(2, 1, 0), in_sfu(63, 4, 7)],
         flag: 1,
         constants: [cells(1, 5), cells(1, 0)].concat(),
         registers: [cells(3, 6), cells(2, EMPTY | 4)].concat(),
@@ -137,7 +138,7 @@ fn rows_of(tasks: impl IntoIterator<Item = u8>) -> Vec<Task> {
 
 /// Processes 0, 1, .. of task 1, and 0 again behind 63.
 fn crowd(count: u8) -> Vec<Process> {
-    (0..count).map(|i| Process { pt: i % 64, task: 1, psw: 0 }).collect()
+    (0..count).map(|i| Process::new(i % 64, 1, 0)).collect()
 }
 
 /// Words that differ in every byte.

@@ -5,10 +5,12 @@ use super::*;
 pub fn all(edges: &mut Edges) {
     numbers(edges);
     tasks(edges);
+    task_bytes(edges);
     status_words(edges);
     flags(edges);
     crowds(edges);
     numbers_twice(edges);
+    both_queues(edges);
 }
 
 /// Whether a status word may have this bit, counted from the right.
@@ -17,7 +19,7 @@ pub fn is_status_bit(bit: u32) -> bool {
 }
 
 fn process(pt: u8, task: u8) -> Process {
-    Process { pt, task, psw: 0 }
+    Process::new(pt, task, 0)
 }
 
 /// Rows of tasks 2 and 5, and these processes.
@@ -55,6 +57,31 @@ fn tasks(edges: &mut Edges) {
         };
         let name = format!("processes of tasks {first} and {second} on the bench");
         edges.image(name, &bench(two), number);
+    }
+}
+
+/// Hex 10 added to a task byte is the task's SFU queue, which stands behind the task's own.
+fn task_bytes(edges: &mut Edges) {
+    let ascending = [2, 0x12, 5, 0x15];
+    for byte in 0..=255 {
+        let number = if ascending.contains(&byte) { 0 } else { 12 };
+        let draft = two_and_five(&[process(0, byte)]);
+        edges.image(format!("task byte {byte:02X} where 2 and 5 are listed"), &draft, number);
+        let seven = Draft { tasks: rows_of(1..=7), ..draft };
+        let number = if (1..8).contains(&(byte & !0x10)) { 0 } else { 12 };
+        edges.image(format!("task byte {byte:02X} where all are listed"), &seven, number);
+        // A field is tested once all its bytes are there: the task byte before a missing PSW.
+        let whole = seven.bytes();
+        let cut = whole.len() - Draft::default().bytes().len() + 3 - 8;
+        let number = if number == 0 { 1 } else { 12 };
+        edges.bytes(format!("task byte {byte:02X}, then the end"), &whole[..cut], number);
+    }
+    for (i, first) in ascending.into_iter().enumerate() {
+        for (j, second) in ascending.into_iter().enumerate() {
+            let draft = two_and_five(&[process(0, first), process(1, second)]);
+            let name = format!("task bytes {first:02X} and {second:02X}");
+            edges.image(name, &draft, if i <= j { 0 } else { 12 });
+        }
     }
 }
 
@@ -101,4 +128,29 @@ fn numbers_twice(edges: &mut Edges) {
     let processes = vec![process(9, 1), process(9, 2)];
     let draft = Draft { tasks: rows_of([1, 2]), processes, ..Draft::default() };
     edges.image("a PT in two tasks", &draft, 6);
+}
+
+/// A PT twice, and 64 with the flag down, go over both queues.
+fn both_queues(edges: &mut Edges) {
+    let rows = rows_of([1, 2]);
+    for (first, second) in [(1, 0x11), (0x11, 0x11), (0x11, 2), (0x11, 0x12), (1, 0x12)] {
+        for (again, number) in [(9, 6), (8, 0)] {
+            let processes = vec![process(9, first), process(again, second)];
+            let draft = Draft { tasks: rows.clone(), processes, ..Draft::default() };
+            let name = format!("PTs 9 and {again} under task bytes {first:02X} and {second:02X}");
+            edges.image(name, &draft, number);
+        }
+    }
+    for (count, flag, number) in [(63, 0, 0), (64, 0, 6), (64, 1, 0), (65, 1, 2)] {
+        for own in [0, 1, 32, 63] {
+            edges.both(
+                &format!("{count} processes, {own} of them own, flag {flag}"),
+                number,
+                |draft| {
+                    (draft.processes, draft.flag) = (crowd(count), flag);
+                    draft.processes[own..].iter_mut().for_each(|process| process.sfu = true);
+                },
+            );
+        }
+    }
 }

@@ -11,10 +11,10 @@ use std::process::Command;
 /// How this program is asked for one run: `proved` or `other`, the workload's name, how many items.
 pub const ONCE: &str = "--once";
 
-/// Instructions a step of the proved library, for each workload.
-const BARS: [u32; ALL.len()] = [210, 205, 165, 160, 215];
+/// Instructions a step of the proved library, for each workload; `-` for none.
+const BARS: [&str; ALL.len()] = ["210", "205", "165", "-", "160", "215"];
 
-/// The table of the five workloads.
+/// The table of the workloads.
 pub fn classes() -> Result<(), String> {
     println!(
         "| Class | hep-tools, instructions a step | Proved, instructions a step | Ratio | Bar |"

@@ -30,7 +30,7 @@ impl Times {
     }
 }
 
-/// The five workloads.
+/// The workloads.
 pub fn classes() {
     println!("| Class | hep-tools, ns a step | Proved, ns a step | Ratio | Bar |");
     println!("|---|---|---|---|---|");

@@ -1,0 +1,30 @@
+-- A run as a loop over tries and steps has it. Document 01 has no such loop: it names items alone, and laws from-try, from-step and from-no-try
+-- (Laws/Attempts) say that the loop is the run.
+use Prim.Native.Nat.{ℕ}
+use mathlib.Core.Bool.{Bool, true, false}
+use mathlib.Core.List.{List, [], _∷_}
+use Rattle.operation.specs.Environment.{Environment}
+use Rattle.operation.specs.declared.Decision.{Decision}
+use Rattle.step.specs.declared.Attempt.the-variants.{Step}
+use Rattle.step.specs.declared.Ending.{Ending}
+use Rattle.step.specs.State.{State}
+use Rattle.step.specs.Act.{Stepped}
+use Rattle.step.specs.Step.{Account, attemptBy}
+use Rattle.run.specs.declared.Counts.{Counts}
+use Rattle.run.specs.Run.{counts, plus, counted, Ran, runBy}
+
+-- so many tries more
+unfoldable pub moreTries : (n : ℕ) → Counts → Counts
+moreTries n c = plus c (counts 0 0 0 0 n)
+
+-- a step that ended so, the tries of its item being counted
+abbrev pub stepped : Ending → Account
+stepped e = record { ending = e; tries = 0 }
+
+-- the rest of a run; `tried` says that the first item has made its try or makes none, and its step is to come
+unfoldable pub runFrom : (Environment → Decision) → (tried : Bool) → List ℕ → State → Counts → Ran
+runFrom instructions false ts s c = runBy instructions ts s c
+runFrom instructions true [] s c = record { state = s; counts = c }
+runFrom instructions true (t ∷ ts) s c =
+    let x : Stepped = attemptBy instructions Step t s in
+    runBy instructions ts (x .state) (counted (stepped (x .ending)) c)
