@@ -98,7 +98,7 @@ uint32_t hep_run(const uint8_t *image, size_t image_len,
 /*
  * The batch program: the bytes of its standard input to those of its standard output, a refusal being a line such as `R3`. They go to the
  * front of `output`, and their number is the answer. If `output` is too short, all of it stays and the answer is 0; 512 bytes are enough.
- * It takes 300 KB of stack, hep_run 21 KB (x86-64: a thread's stack filled with a mark, on the printed case; 4 KB are the thread's own).
+ * It takes 313 KB of stack, hep_run 37 KB (x86-64: a thread's stack filled with a mark, on the printed case; 4 KB are the thread's own).
  */
 size_t hep_batch(const uint8_t *input, size_t input_len, uint8_t *output, size_t output_len);
 
