@@ -6,14 +6,14 @@
 #     bash tests/bench.sh [--write]    --write: the tables go to docs/BENCHMARKS.md, below its line "## Measured"
 set -euo pipefail
 cd "$(dirname "$0")/.."
-inlined="operation_decide::decide run_schedule::attempt run_schedule::settle"
+inlined="operation_decide::decide run_schedule::attempt run_schedule::next::settle"
 # A function that is inlined at every call has no symbol of its own in the archive.
 check_inlined() {
     local function symbols
     symbols=$(nm "$1")
     if ! grep -q :: <<< "$symbols"; then echo "bench: $1 names no function of a crate"; exit 1; fi
     for function in $inlined; do
-        if ! grep -q "fn ${function#*::}(" crates/"${function%::*}"/src/*.rt; then echo "bench: there is no $function"; exit 1; fi
+        if ! grep -q "fn ${function##*::}(" crates/"${function%%::*}"/src/*.rt; then echo "bench: there is no $function"; exit 1; fi
         if grep -q " $function\(\.\|$\)" <<< "$symbols"; then echo "bench: $function is not inlined"; exit 1; fi
     done
 }
