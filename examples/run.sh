@@ -23,8 +23,17 @@ build_proved() {
 # A report, and each of its lines in words.
 in_words() {
     awk '
-        /^[1-7] / { printf "%-28s task %d: %d live, %s\n", $0, $1, $2, ($3 == "--" ? "not trapped" : "trapped at PC " $4 ", kind " $3 ($3 == "14" ? ", a protection violation" : "")); next }
-        { line = $0; gsub(/[A-Z]/, ""); printf "%-28s %d items executed, %d waved (had to wait), %d trapped, %d idle; %d tries; flag %d\n", line, $1, $2, $3, $4, $5, $6 }'
+        function number(place) { return substr($place, 2) }
+        /^[1-7] / {
+            items = number(5) + number(6) + number(7) + number(8)
+            trap = ($3 == "--" ? "not trapped" : "trapped at PC " $4 ", kind " $3 ($3 == "14" ? ", a protection violation" : ""))
+            printf "%-38s task %d: %d %s, %d live, %s\n", $0, $1, items, (items == 1 ? "item" : "items"), $2, trap
+            next
+        }
+        {
+            printf "%-38s all: %d items executed, %d waved (had to wait), %d trapped, %d idle; ", $0, number(1), number(2), number(3), number(4)
+            printf "%d tries; flag %d\n", number(5), substr($6, 3)
+        }'
 }
 # House one's table: utilisations in units of 10^-16 at 32 to 37, the worst at 40, how many are too much at 41.
 spans() {

@@ -19,7 +19,7 @@
 #include <stdint.h>
 
 /* Of this header and of the archive that it was installed with: 0.N.0 has the requests L1 to LN. */
-#define HEP_VERSION "0.6.0"
+#define HEP_VERSION "0.7.0"
 
 #ifdef __cplusplus
 extern "C" {
@@ -45,16 +45,19 @@ enum hep_refusal {
 
 /* Lengths that hep_sizes, hep_run and hep_fill ask for. */
 #define HEP_SIZES 5
-#define HEP_COUNTS 7
+#define HEP_COUNTS 42
 #define HEP_FILLING 4
-#define HEP_REPORT_ROOM 512
+#define HEP_REPORT_ROOM 2048
 #define HEP_OUTPUT_ROOM(image_len) ((image_len) + 640)
 
 /* Places in `sizes`. */
 enum { HEP_ROWS, HEP_CONSTANTS, HEP_REGISTERS, HEP_PROGRAM, HEP_DATA_WORDS };
 
-/* Places in `counts`. */
+/* Places in `counts`: of the run, then the two lengths. */
 enum { HEP_EXECUTED, HEP_WAVED, HEP_TRAPPED, HEP_IDLE, HEP_SFU_TRIES, HEP_IMAGE_LEN, HEP_REPORT_LEN };
+
+/* The place in `counts` of a task's own, task 1 to 7: counts[HEP_OWN(3) + HEP_WAVED] is how many items of task 3 were waved. */
+#define HEP_OWN(task) (HEP_REPORT_LEN + 1 + 5 * ((task) - 1))
 
 /* Places in `filling`. */
 enum { HEP_CHOICE, HEP_SUM, HEP_TRIES, HEP_CEILING };
@@ -78,7 +81,8 @@ uint32_t hep_sizes(const uint8_t *image, size_t image_len, uint64_t *sizes, size
  *
  * `output`, of at least HEP_OUTPUT_ROOM(image_len) bytes, starts with the image after the run. `report`, of at least HEP_REPORT_ROOM bytes,
  * starts with the report of the batch program. `counts`, of at least HEP_COUNTS, starts with how many items were executed, waved, trapped
- * and idle, how many tries they made, then the lengths of that image and of that report. What lies beyond stays.
+ * and idle, how many tries they made, then the lengths of that image and of that report; behind them stand these five of each task's own
+ * items, task 1 to 7, unlisted ones too. Each of the five adds up over the tasks to that of the run. What lies beyond stays.
  *
  * Refused: as hep_check, then 7 if a slice is shorter than said, then 9, then 10.
  */
@@ -97,8 +101,8 @@ uint32_t hep_run(const uint8_t *image, size_t image_len,
 
 /*
  * The batch program: the bytes of its standard input to those of its standard output, a refusal being a line such as `R3`. They go to the
- * front of `output`, and their number is the answer. If `output` is too short, all of it stays and the answer is 0; 512 bytes are enough.
- * It takes 313 KB of stack, hep_run 37 KB (x86-64: a thread's stack filled with a mark, on the printed case; 4 KB are the thread's own).
+ * front of `output`, and their number is the answer. If `output` is too short, all of it stays and the answer is 0; 2,048 bytes are enough.
+ * It takes 314 KB of stack, hep_run 36 KB (x86-64: a thread's stack filled with a mark, on the printed case; 4 KB are the thread's own).
  */
 size_t hep_batch(const uint8_t *input, size_t input_len, uint8_t *output, size_t output_len);
 

@@ -43,7 +43,7 @@ for page in "$prefix"/share/man/man*/*; do
     warnings=$(cd "$prefix/share/man" && groff -man -Tutf8 -ww -z "$page" 2>&1)
     [ -z "$warnings" ] || fail "$page: $warnings"
 done
-sed -n '/^    hep input/,/^\.fi/{/^\.fi/d;p}' install/hep.5 | hep asm | hep_batch | diff - <(echo "1 1 -- -----"; echo "E2 W0 T0 I0 S0 CF0")
+sed -n '/^    hep input/,/^\.fi/{/^\.fi/d;p}' install/hep.5 | hep asm | hep_batch | diff - <(echo "1 1 -- ----- E2 W0 T0 I0 S0"; echo "E2 W0 T0 I0 S0 CF0")
 [ "$(pkg-config --modversion hep)" = "$version" ] || fail "hep.pc has another version than $version"
 hep --version | grep -qF "$version" || fail "hep --version has another version than $version"
 

@@ -1,6 +1,7 @@
 #!/usr/bin/env python3
 """Mutants of the emulator in Rust: each edit of hep-tools/mutants is made on a copy below target/, built, and must be told from the
-emulator by a trial, a random input or a pair for isolation.
+emulator by a trial, a random input or a pair for isolation. An edit that names a test of hep-tools/tests, as those of the comparison do,
+must fail it.
 
     python3 tests/mutants.py [LABEL..]
 """
@@ -12,18 +13,19 @@ import sys
 ROOT = pathlib.Path(__file__).resolve().parent.parent
 TOOLS = ROOT / "hep-tools"
 COPY = ROOT / "target" / "mutants"
-BUILD = ["cargo", "build", "--quiet", "--offline", "--config", "profile.dev.opt-level=0", "--config", "profile.dev.debug=0"]
+CARGO = ["cargo", "--offline"]
+CONFIG = ["--config", "profile.dev.opt-level=0", "--config", "profile.dev.debug=0"]
 
 
 def edit_of(path):
-    """File, old text and new text of an edit."""
+    """File, old text, new text and test, if it has one, of an edit."""
     fields = dict(line.split(": ", 1) for line in path.read_text().splitlines())
-    return fields["file"], fields["old"], fields["new"]
+    return fields["file"], fields["old"], fields["new"], fields.get("test")
 
 
 def apply(path):
     """Makes the edit on the copy; gives what undoes it."""
-    name, old, new = edit_of(path)
+    name, old, new, _ = edit_of(path)
     source = COPY / name
     text = source.read_text()
     if text.count(old) != 1:
@@ -32,8 +34,29 @@ def apply(path):
     return source, text
 
 
-def caught(program):
+def built(*arguments):
+    """Runs cargo on the copy, which must succeed."""
+    subprocess.run([*CARGO, *arguments], cwd=COPY, check=True, stdout=subprocess.DEVNULL, stderr=subprocess.DEVNULL)
+
+
+def caught(path):
     """The line that says how the mutant was told apart, or none."""
+    test = edit_of(path)[3]
+    return failed(test) if test else differing()
+
+
+def failed(test):
+    """The line that says which test failed, or none."""
+    built("test", "--test", test, "--no-run", *CONFIG)
+    done = subprocess.run([*CARGO, "test", "--test", test, *CONFIG], cwd=COPY, capture_output=True, text=True)
+    lines = [line for line in done.stdout.splitlines() if line.endswith("... FAILED")]
+    return lines[0] if done.returncode != 0 and lines else None
+
+
+def differing():
+    """The line that says what differs from the emulator, or none."""
+    built("build", "--bin", "hep-emulator", *CONFIG)
+    program = COPY / "target" / "debug" / "hep-emulator"
     command = [TOOLS / "target" / "release" / "hep-compare", "--lines", "--save", COPY / "cases", program, "--lines"]
     done = subprocess.run(command, capture_output=True, text=True)
     lines = [line for line in done.stdout.splitlines() if "differs" in line]
@@ -44,7 +67,7 @@ def main():
     subprocess.run(["cargo", "build", "--quiet", "--offline", "--release", "--manifest-path", TOOLS / "Cargo.toml"], check=True)
     shutil.rmtree(COPY / "src", ignore_errors=True)
     COPY.mkdir(parents=True, exist_ok=True)
-    for name in ("src", "trials"):
+    for name in ("src", "trials", "tests"):
         shutil.copytree(TOOLS / name, COPY / name, dirs_exist_ok=True)
     for name in ("Cargo.toml", "Cargo.lock"):
         shutil.copy(TOOLS / name, COPY / name)
@@ -53,8 +76,7 @@ def main():
     missed = []
     for edit in edits:
         source, text = apply(edit)
-        subprocess.run(BUILD + ["--bin", "hep-emulator"], cwd=COPY, check=True, stderr=subprocess.DEVNULL)
-        found = caught(COPY / "target" / "debug" / "hep-emulator")
+        found = caught(edit)
         print(f"{edit.stem}: {found or 'not caught'}", flush=True)
         missed += [] if found else [edit.stem]
         source.write_text(text)

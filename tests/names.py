@@ -20,7 +20,7 @@ import sys
 ROOT = pathlib.Path(__file__).resolve().parent.parent
 DOCUMENTS = ["README.md", "CONTRIBUTING.md", "hep-tools/FORMAT.md", "examples/README.md", *sorted(f"docs/{p.name}" for p in (ROOT / "docs").glob("*.md"))]
 KEYWORDS = {"requires", "ensures"}
-FOREIGN = {"main.c", "stdio.h"}         # files of whoever calls the library
+FOREIGN = {"main.c", "stdio.h", "first.hep"}         # files of whoever calls the library
 SUFFIXES = ("py", "sh", "rs", "hep", "out", "table", "h", "c", "md", "rt", "antt", "trials", "toml", "txt", "edit")
 NAME = r"[A-Za-z][\w′]*(?:-[\w′]+)*"
 DEFINED = re.compile(rf"^\s*(?:(?:unfoldable|abbrev|opaque|pub|data|record)\s+)*({NAME}(?:\s+{NAME})*)\s*[:({{]", re.M)

@@ -43,7 +43,7 @@ def main():
     (BUILD / "Cargo.toml").write_text(CARGO)
     (BUILD / "src" / "main.rs").write_text(program("hep::run("))
     done = subprocess.run(["cargo", "run", "--quiet", "--offline"], cwd=BUILD, stdout=subprocess.PIPE, text=True, check=True)
-    held("Rust", done.stdout, "1 1 14 00000\nE0 W0 T1 I2 S0 CF0\n")
+    held("Rust", done.stdout, "1 1 14 00000 E0 W0 T1 I2 S0\nE0 W0 T1 I2 S0 CF0\n")
     print("readme: 3 programs, as it says")
 
 

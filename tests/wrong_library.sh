@@ -33,6 +33,9 @@ frame=examples/frame-b.hep
 hep none run --check "$frame"
 for fault in rare_bit_of_the_image rare_letter_of_the_report a_step_miscounted a_try_missed; do differs "$fault" run --check "$frame"; done
 for command in trace why timeline; do differs rare_bit_of_the_image "$command" "$frame"; done
+echo "hep image" > "$folder/none.hep"
+# shellcheck disable=SC2086
+for command in "run --check" trace why timeline; do differs unlisted_items_not_counted $command --schedule 5 "$folder/none.hep"; done
 differs left_over_accepted check --image "$folder/refused/R4.bin"
 differs constant_as_a_cell run --image --schedule 1 "$folder/refused/R14.bin"
 printf '\0\0' | cat - "$folder/refused/R6.bin" > "$folder/refused/R6.input"

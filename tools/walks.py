@@ -54,6 +54,14 @@ CORE = {
     "write": ("image_write", "write"),
 }
 
+# What each call answers: its type, that type's laws (of an enum, of a struct), and the field that has it in the struct of a call by value.
+ANSWERS = {
+    "read": ("ReadAnswer", "EL", "answer"),
+    "run": ("RunResult", "LL", "result"),
+    "step": ("StepAnswer", "EL", "answer"),
+    "write": ("WriteAnswer", "EL", None),
+}
+
 # What each call promises, by the names of its parameters.
 PROMISES = {
     "read": "ReadPromise {before} {image} {answer} {after}",
@@ -165,6 +173,12 @@ class Nothing:
 
     def typed(self, x, g):
         return f"(nothing-lawful 𝓤 H A W .typed {x} _ {g} .0)"
+
+
+def answer_of(call):
+    """The type of a call's answer, and its field in the struct of a call by value."""
+    name, laws, field = ANSWERS[call]
+    return Declared("N", "library", name, laws), field
 
 
 ROW, ROWS = Declared("T", "window", "Row"), Declared("S", "library", "Rows")
@@ -795,13 +809,14 @@ class LentChanging:
     def __init__(self, call):
         self.call, self.params = call, parameters(call, True)
         self.rows, self.size, self.names = self.params[0], len(self.params), {p.name: p for p in self.params}
-        self.after, self.answer = Declared("O", "library", f"After{call.capitalize()}"), Declared("N", "library", f"{call.capitalize()}Answer", "EL")
+        self.after, (self.answer, self.field) = Declared("O", "library", f"After{call.capitalize()}"), answer_of(call)
+        self.answered = f"(r .{self.field})"
         load = Callee("load", "hep", "load_rows", [shared_rows(0)], [("α₀", "ℕ"), ("δ₀", "GName")], ROWS, lambda v, ws: f"{v} ≡ loadedRows x₀")
         self.looks = [("v", load, lambda w: [])]
         self.core_params = [by_value(ROWS, "v", "(spelled-S v w₀ is₀)"), by_value(TABLE, "x₁", "g₁")] + [passed(p) for p in self.params[2:]]
-        promised = lambda last: promise(call, self.params, ("(heldRows v)", "x₁"), "(r .answer)", ("(heldRows (r .rows))", "(r .table)"), last)
+        promised = lambda last: promise(call, self.params, ("(heldRows v)", "x₁"), self.answered, ("(heldRows (r .rows))", "(r .table)"), last)
         self.bound, self.found, self.promised = [("v", "Rows")], [], promised
-        self.law = {"read": "{image}", "run": "{n} {schedule}", "step": "{n} {task}"}[call] + " (r .answer) v (r .rows)"
+        self.law = {"read": "{image}", "run": "{n} {schedule}", "step": "{n} {task}"}[call] + f" {self.answered} v (r .rows)"
         if call == "step":
             self.one_task()
         self.says, self.stored = lambda last: self.promised(last) + " × SamePlaces v (r .rows)", "storedRows x₀ (r .rows)"
@@ -852,7 +867,7 @@ class LentChanging:
         w.drop("own")
         w.turn(["T0"], ["t0", "none"], "split ! $")
         w.drop("none")
-        w.step(f"assigns ! (of-opd ! {w.field(out, 2)}) {w.init(0, self.answer.typed('(r .answer)', f'({self.parts} .1 .1 .0)'))} $")
+        w.step(f"assigns ! (of-opd ! {w.field(out, 2)}) {w.init(0, self.answer.typed(self.answered, f'({self.parts} .1 .1 .0)'))} $")
         w.step(f"returns ! (look ! {w.at(0)} refl) $")
         w.freed(unit + 3)
         return w
@@ -861,7 +876,7 @@ class LentChanging:
         """The walk, and its end: by the call's law."""
         call, params, answer, w, c = self.call, self.params, self.answer, self.steps(), self.c
         given = {p.i: f"fin{c}·{p.i + self.shift}" for p in params[2:]} | {0: f"fin{c + 1}·0"}
-        items, steps = lent_exit(params, given, answer, "(r .answer)", None)
+        items, steps = lent_exit(params, given, answer, self.answered, None)
         changed, facts = [p for p in params[2:] if p.mut], [f"e{sub(k)}" for k in range(c + 2)]
         before, left = buffers(params, "x₀", "x₁"), buffers(params, "z₀", "(r .table)", named)
         law = f"{call}-lent {before} {self.law.format(**{p.name: p.x for p in params})} z₀ {left} {' '.join(facts)}"
@@ -871,18 +886,18 @@ class LentChanging:
         premises = [("os", "Parts r")] + list(zip(facts, told)) + [(f"n{sub(p.i)}", f"length {p.last} ≡ length {p.x}") for p in [self.rows] + changed]
         lasts = ["z₀", "r .table"] + [p.last if p.mut else "tt" for p in params[2:]]
         lengths = [f"n{sub(p.i)}" if p.mut and p.slice else "tt" for p in params]
-        exits = self.function.ends(binders, premises, answer.value("(r .answer)"), "r .answer", law, list(items.values()), lasts, lengths, steps)
+        exits = self.function.ends(binders, premises, answer.value(self.answered), f"r .{self.field}", law, list(items.values()), lasts, lengths, steps)
         w.keep(*items)
         finals = [f"(ws{sub(c + 1)} .0)"] + [f"({at(f'ws{self.n}', p.i + self.shift)})" for p in changed]
         equal = [f"n{sub(c + 1)}·0"] + [f"n{self.n}·{p.i + self.shift}" for p in changed]
         w.step(f"by ! (exits {' '.join([v for v, _ in variables] + finals)} ({self.parts}) {' '.join(facts + equal)})")
-        return self.function.file(laws_of(call), LENT + exits, w, after_parts(self.after, [("rows", ROWS), ("table", TABLE), ("answer", answer)]))
+        return self.function.file(laws_of(call), LENT + exits, w, after_parts(self.after, [("rows", ROWS), ("table", TABLE), (self.field, answer)]))
 
 
 def lent_looking(call):
     """write: load the rows, and call; its answer is the result."""
     params = parameters(call, True)
-    size, answer = len(params), Declared("N", "library", f"{call.capitalize()}Answer", "EL")
+    size, (answer, _) = len(params), answer_of(call)
     says = lambda last: promise(call, params, ("(heldRows v)", "x₁"), "r", ("", ""), last)
     core_params = [by_value(ROWS, "v", "(spelled-S v w₀ is₀)"), by_value(TABLE, "x₁", "g₁")] + [passed(p) for p in params[2:]]
     load = Callee("load", "hep", "load_rows", [passed(params[0])], [], ROWS, lambda r, ws: f"{r} ≡ loadedRows x₀")
@@ -1058,7 +1073,7 @@ class Owned:
 
     def __init__(self, call):
         self.call, self.changing, self.params = call, call != "write", parameters(call, False)
-        self.answer = Declared("N", "library", f"{call.capitalize()}Answer", "EL")
+        self.answer, self.field = answer_of(call)
         self.after = Declared("O", "library", f"After{call.capitalize()}") if self.changing else self.answer
         self.changed = [p for p in self.params if p.mut]
         kind, mut = "Mut" if self.changing else "Shr", self.changing
@@ -1077,7 +1092,7 @@ class Owned:
         return promise(self.call, self.params, ("x₀", "x₁"), answer, (rows, table), last)
 
     def whole(self, rows, table):
-        return f"record {{ rows = record {{ at = {rows}; n = {TASKS} }}; table = {table}; answer = r }}"
+        return f"record {{ rows = record {{ at = {rows}; n = {TASKS} }}; table = {table}; {self.field} = r }}"
 
     def steps(self):
         """The body, statement for statement."""
@@ -1145,7 +1160,7 @@ class Owned:
         binders, premises, result, law = [("r", answer.denot)], [("e₁", self.says("r", "z₀", "z₁", named))], "r", "e₁"
         passes = f"r w₁ {finals} e₁ {equal}"
         if self.changing:
-            owner_says = self.says("(y .answer)", "(y .rows .at)", "(y .table)", named) + f" × (y .rows .n ≡ {TASKS})"
+            owner_says = self.says(f"(y .{self.field})", "(y .rows .at)", "(y .table)", named) + f" × (y .rows .n ≡ {TASKS})"
             binders, premises = binders + [("o", after.denot)], premises + [("e₂", f"o ≡ {self.whole('z₀', 'z₁')}")]
             result, law = "o", f"subst (λ (y : {after.denot}). {owner_says}) (sym e₂) (e₁, refl)"
             passes = f"r o w₂ (ws₁ .0) (ws₁ .1 .0) {finals} e₁ e₂ {equal}"

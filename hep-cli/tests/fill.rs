@@ -70,7 +70,10 @@ fn chosen_jobs_become_one_batch() {
     let ended = hep(&["fill", "--join", &to, &list], b"");
     assert_eq!(ended.out, "choice 11 a.hep b.hep\nsum 84\ntries 4\nceiling 84\n");
     let report = hep(&["run", "--check", &to], b"");
-    assert_eq!(report.out, "1 0 -- -----\n2 0 -- -----\nE6 W0 T0 I2 S0 CF0\n");
+    assert_eq!(
+        report.out,
+        "1 0 -- ----- E3 W0 T0 I1 S0\n2 0 -- ----- E3 W0 T0 I1 S0\nE6 W0 T0 I2 S0 CF0\n"
+    );
     for (number, own, file) in [("1", "3", &a), ("2", "1", &b)] {
         let share = hep(&["share", number, &to], b"");
         assert_eq!(share.out, hep(&["share", own, file], b"").out);

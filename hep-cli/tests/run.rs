@@ -3,6 +3,7 @@
 mod common;
 
 use common::{example, hep, shell, Folder};
+use hep_tools::emulator::batch;
 use hep_tools::emulator::draft::batch_input;
 use hep_tools::emulator::image;
 use hep_tools::generate;
@@ -25,7 +26,7 @@ schedule
   1 * 4
 ";
 
-const REPORT: &str = "1 1 -- -----\nE4 W0 T0 I0 S0 CF0\n";
+const REPORT: &str = "1 1 -- ----- E4 W0 T0 I0 S0\nE4 W0 T0 I0 S0 CF0\n";
 
 fn bytes() -> Vec<u8> {
     tool::load(TEXT.as_bytes()).unwrap().bytes()
@@ -84,16 +85,35 @@ fn several_files_have_a_line_each() {
     for ((line, input), name) in lines.iter().zip(&inputs).zip(&names) {
         let output = hep::batch(input);
         let last = output.lines().last().unwrap();
-        let expected = match last.starts_with('R') {
-            true => format!("{name}\t{last}"),
-            false => format!("{name}\taccepted\t{last}"),
-        };
-        assert_eq!(*line, expected);
+        match last.starts_with('R') {
+            true => assert_eq!(*line, format!("{name}\t{last}")),
+            false => {
+                let tasks = line.strip_prefix(&format!("{name}\taccepted\t{last}")).unwrap();
+                told_by_task(input, &output, tasks);
+            }
+        }
     }
     let log = String::from_utf8(folder.read("log")).unwrap();
     let logged: Vec<&str> = log.lines().map(|line| line.split_once("Z\t").unwrap().1).collect();
     assert_eq!(logged, lines);
     assert!(log.starts_with("20"), "{}", &log[..40]);
+}
+
+/// Behind the counts of a file stand its tasks, each with its own counts: those that the report has a line for, and others with items, idle.
+fn told_by_task(input: &[u8], report: &str, tasks: &str) {
+    let rows: Vec<&str> = report.lines().rev().skip(1).collect();
+    let schedule = batch::split(input).unwrap().0;
+    let mut expected = String::new();
+    for task in 1..=7 {
+        let row = rows.iter().find(|row| row.starts_with(&format!("{task} ")));
+        let items = schedule.iter().filter(|item| **item == task).count();
+        expected += &match row {
+            Some(row) => format!("\t{task} {}", row.splitn(5, ' ').last().unwrap()),
+            None if items > 0 => format!("\t{task} E0 W0 T0 I{items} S0"),
+            None => String::new(),
+        };
+    }
+    assert_eq!(tasks, expected, "{report}");
 }
 
 #[test]
@@ -136,13 +156,13 @@ fn images_of_any_size_and_schedules_in_slices() {
     let ended = hep(&["run", "--check", "--schedule", "1 2 * 100000", &image], b"");
     assert_eq!(
         (ended.code, ended.out.as_str()),
-        (0, "1 1 -- -----\nE100000 W0 T0 I100000 S0 CF0\n"),
+        (0, "1 1 -- ----- E100000 W0 T0 I0 S0\nE100000 W0 T0 I100000 S0 CF0\n"),
         "{}",
         ended.err
     );
     assert_eq!(
         hep(&["run", "--schedule", "1 * 20, 2 * 5", &image], b"").out,
-        "1 1 -- -----\nE20 W0 T0 I5 S0 CF0\n"
+        "1 1 -- ----- E20 W0 T0 I0 S0\nE20 W0 T0 I5 S0 CF0\n"
     );
     let alone = hep(&["run", &image], b"");
     assert_eq!(alone.code, 2);
@@ -150,7 +170,8 @@ fn images_of_any_size_and_schedules_in_slices() {
         .err
         .ends_with("an image alone has no schedule: give one, as --schedule '1 2 * 300'\n"));
     let long = TEXT.replace("1 * 4\n", "1 * 70000\n");
-    assert_eq!(hep(&["run", "--check"], &long).out, "1 1 -- -----\nE70000 W0 T0 I0 S0 CF0\n");
+    let report = "1 1 -- ----- E70000 W0 T0 I0 S0\nE70000 W0 T0 I0 S0 CF0\n";
+    assert_eq!(hep(&["run", "--check"], &long).out, report);
     let asm = hep(&["asm"], &long);
     assert_eq!(asm.code, 1);
     assert!(
@@ -175,11 +196,26 @@ fn json() {
         "{}",
         lines[0]
     );
-    let counts = "\"result\":\"accepted\",\"executed\":311,\"waved\":1121,\"trapped\":1,\"idle\":792,\"tries\":90,\"create_fault\":false";
-    let tasks = "\"tasks\":[{\"task\":1,\"live\":0,\"trap\":null},{\"task\":5,\"live\":11,\"trap\":{\"kind\":\"14\",\"pc\":3}}]}";
-    assert!(lines[1].ends_with(&format!("{counts},{tasks}")), "{}", lines[1]);
+    let counts = |[executed, waved, trapped, idle, tries]: [u64; 5]| {
+        format!("\"executed\":{executed},\"waved\":{waved},\"trapped\":{trapped},\"idle\":{idle},\"tries\":{tries}")
+    };
+    let task =
+        |number: u8, rest: &str, own| format!("{{\"task\":{number},{rest},{}}}", counts(own));
+    let run = counts([311, 1121, 1, 792, 90]);
+    let one = task(1, "\"listed\":true,\"live\":0,\"trap\":null", [185, 6, 0, 109, 90]);
+    let trap = "{\"kind\":\"14\",\"pc\":3}";
+    let rest = format!("\"listed\":true,\"live\":11,\"trap\":{trap}");
+    let five = task(5, &rest, [126, 1115, 1, 683, 0]);
+    let end = format!("{run},\"create_fault\":false,\"tasks\":[{one},{five}]}}");
+    assert!(lines[1].ends_with(&format!("\"result\":\"accepted\",{end}")), "{}", lines[1]);
     assert!(lines[2].contains("\"result\":\"failed\""));
     assert_eq!(ended.code, 2);
+    let unlisted = hep(&["run", "--json", "--schedule", "7 1 * 3, 2"], TEXT).out;
+    let none = "\"listed\":false,\"live\":0,\"trap\":null";
+    let listed = task(1, "\"listed\":true,\"live\":1,\"trap\":null", [3, 0, 0, 0, 0]);
+    let others = [(2, 1), (7, 3)].map(|(number, idle)| task(number, none, [0, 0, 0, idle, 0]));
+    let end = format!("\"tasks\":[{listed},{}]}}\n", others.join(","));
+    assert!(unlisted.ends_with(&end), "{unlisted}");
 }
 
 #[test]

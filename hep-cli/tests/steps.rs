@@ -79,7 +79,7 @@ fn a_trap_says_why() {
     let words = "STOI r7, c2                      trapped 14 byte address 256 is data word 32, outside the window (32 words); c2 = 256, r7 = full 7";
     assert!(trapped[1].ends_with(words), "{}", trapped[1]);
     let why = lines(&["why"], &trapping);
-    assert_eq!(why[0], "task 2: 2 processes, trapped 14 at item 1");
+    assert_eq!(why[0], "task 2: 2 processes, trapped 14 at item 1; E1 W0 T1 I10 S0");
     assert_eq!(why[1], "  PT 1 at store (pc=0x00007): STOI r7, c2");
     assert!(why[2].starts_with(
         "      trap 14: byte address 256 is data word 32, outside the window (32 words)"
@@ -91,7 +91,7 @@ fn a_trap_says_why() {
 fn why_names_the_last_change() {
     let why = lines(&["why"], TEXT);
     let expected = [
-        "task 2: 2 processes, 1 in the SFU queue",
+        "task 2: 2 processes, 1 in the SFU queue; E10 W2 T0 I0 S6",
         "  PT 0 at start+1 (pc=0x00001): MOV left, r5",
         "      goes on at its next item",
         "  PT 1 (SFU queue) at wait+1 (pc=0x00005): LODI:W r7, word_1",
@@ -168,7 +168,9 @@ fn the_promise_covers_house_one() {
     assert_eq!(covered.code, 0, "{}", covered.out);
     assert!(!covered.out.contains('!'), "{}", covered.out);
     assert!(covered.out.contains("covered by the isolation promise: registers, data words"));
-    assert!(covered.out.ends_with("after both runs they are equal\n"));
+    let end =
+        "after both runs they are equal\nown counts E185 W6 T0 I109 S90, E185 W6 T0 I109 S90\n";
+    assert!(covered.out.ends_with(end), "{}", covered.out);
 }
 
 /// What is changed in the text, into what, and the line of the premise that then fails.
@@ -208,6 +210,11 @@ fn each_premise_that_fails_is_told_with_its_place() {
         assert_eq!(failed.len(), 1, "{line}: {}", ended.out);
         assert!(failed[0].starts_with(line), "{line}: {}", ended.out);
         assert!(ended.out.contains("not covered by the isolation promise\n"), "{line}");
+        let own = ended.out.lines().last().unwrap().strip_prefix("own counts ").unwrap();
+        let (first, second) = own.split_once(", ").unwrap();
+        let equal = ended.out.contains("after both runs they are equal\n");
+        assert!(!equal || first == second, "{}", ended.out);
+        assert_eq!(first, "E10 W2 T0 I0 S6", "{line}");
     }
     let neither = hep(&["agree", "5", &a, &a], b"");
     assert_eq!(neither.code, 1, "{}", neither.out);
@@ -224,7 +231,7 @@ fn the_sfu_queue_must_agree() {
     let covered = hep(&["agree", "2", &a, &other_number], b"");
     assert_eq!(covered.code, 0, "{}", covered.out);
     assert!(covered.out.contains("  SFU queue           the same, 1 of them\n"), "{}", covered.out);
-    assert!(covered.out.contains("data words, both queues and trap record"), "{}", covered.out);
+    assert!(covered.out.contains("both queues, trap record and own counts"), "{}", covered.out);
     let cases = [
         (
             waiting.replace("pc=wait", "pc=store"),
@@ -351,7 +358,8 @@ fn dumps_keep_names_and_labels() {
     let after = hep(&["dump", "--after"], TEXT).out;
     assert!(after.starts_with("hep image\n") && after.contains("wait:\n"));
     let again = hep(&["share", "2", "--schedule", "", "-"], &after).out;
-    assert_eq!(again, hep(&["share", "2"], TEXT).out);
+    let ran = hep(&["share", "2"], TEXT).out;
+    assert_eq!(again, ran.replace("counts E10 W2 T0 I0 S6\n", "counts E0 W0 T0 I0 S0\n"));
 }
 
 #[test]
@@ -372,7 +380,10 @@ fn shares() {
     let after = tool::load(TEXT.as_bytes()).unwrap();
     let image = hep::run(&after.draft.bytes(), &after.schedule.unwrap()).unwrap().image;
     let (of_bytes, of_text) = (hep(&["share", "2"], &image).out, hep(&["share", "2"], TEXT).out);
-    assert_eq!(of_bytes, of_text.replace(" (start+1)", "").replace(" (wait+1)", ""));
+    let own = of_text.strip_prefix("counts E10 W2 T0 I0 S6\n").unwrap();
+    assert_eq!(of_bytes, own.replace(" (start+1)", "").replace(" (wait+1)", ""));
+    let unlisted = hep(&["share", "3", "--schedule", "3 2 * 4, 3"], TEXT);
+    assert_eq!(unlisted.err, "<stdin>: task 3 isn't listed: its items (5) are idle\n");
     let queues = format!(
         "process {} (start+1)\nprocess sfu {} (wait+1)\n",
         text::psw_fields(1),

@@ -276,7 +276,7 @@ fn the_man_page_names_every_option() {
     }
     let start = page.find("hep input\n").expect("an example");
     let text = &page[start..start + page[start..].find(".fi").unwrap()];
-    assert_eq!(hep(&["run"], text).out, "1 1 -- -----\nE2 W0 T0 I0 S0 CF0\n");
+    assert_eq!(hep(&["run"], text).out, "1 1 -- ----- E2 W0 T0 I0 S0\nE2 W0 T0 I0 S0 CF0\n");
 }
 
 /// The text that FORMAT.md begins with does what is said below it.
@@ -294,4 +294,12 @@ fn the_first_text_of_the_format() {
         page.contains(&format!("`hep share --data 3 1` shows `{}`", share.trim_end())),
         "{share}"
     );
+    let json = hep(&["run", "--json", "--schedule", "1 * 20, 4 * 2"], text).out;
+    let start = page.find("    {\"file\":\"first.hep\"").expect("an object");
+    let object = &page[start..start + page[start..].find("\n\n").unwrap()];
+    let object: String = object.lines().map(str::trim_start).collect();
+    assert_eq!(json, object.replace("first.hep", "-") + "\n");
+    let share = hep(&["share", "1"], text).out;
+    let counts = share.lines().next().unwrap();
+    assert!(page.contains(&format!("in `hep share` too, as `{counts}`")), "{counts}");
 }

@@ -8,7 +8,8 @@
 //! let image = hep::example_image();
 //! let outcome = hep::run(&image, &[1]).unwrap();
 //! assert_eq!(outcome.counts.trapped, 1);
-//! assert_eq!(outcome.report, "1 1 14 00000\nE0 W0 T1 I0 S0 CF0\n");
+//! assert_eq!(outcome.own(1).trapped, 1);
+//! assert_eq!(outcome.report, "1 1 14 00000 E0 W0 T1 I0 S0\nE0 W0 T1 I0 S0 CF0\n");
 //! assert_eq!(hep::check(&outcome.image), Ok(()));
 //! assert_eq!(hep::run(&image, &[8]).unwrap_err().number(), 10);
 //! ```
@@ -118,7 +119,13 @@ pub struct Sizes {
     pub data_words: usize,
 }
 
-/// How the items of a run ended, and how many tries of SFU queues they made.
+/// How items ended, and how many tries of SFU queues they made: those of a run, or those of one task in it. Shown as in a report.
+///
+/// ```
+/// let own = hep::run(&hep::example_image(), &[1, 1])?.own(1);
+/// assert_eq!(own.to_string(), "E0 W0 T1 I1 S0");
+/// # Ok::<(), hep::Refusal>(())
+/// ```
 #[derive(Clone, Copy, Debug, Default, PartialEq, Eq)]
 pub struct Counts {
     pub executed: u64,
@@ -129,6 +136,12 @@ pub struct Counts {
 }
 
 impl Counts {
+    /// Those of five places of what `hep_run` writes, from this one on.
+    fn at(place: usize, written: &[u64; sys::COUNTS]) -> Counts {
+        let [executed, waved, trapped, idle, tries] = std::array::from_fn(|i| written[place + i]);
+        Counts { executed, waved, trapped, idle, tries }
+    }
+
     /// Those of two runs added up.
     fn and(self, other: Counts) -> Counts {
         Counts {
@@ -141,14 +154,42 @@ impl Counts {
     }
 }
 
+impl fmt::Display for Counts {
+    fn fmt(&self, f: &mut fmt::Formatter<'_>) -> fmt::Result {
+        let Counts { executed, waved, trapped, idle, tries } = self;
+        write!(f, "E{executed} W{waved} T{trapped} I{idle} S{tries}")
+    }
+}
+
+/// The task numbers, as items of a schedule.
+pub const TASKS: std::ops::RangeInclusive<u8> = 1..=7;
+
 /// What a run gives.
 #[derive(Clone, Debug, PartialEq, Eq)]
 pub struct Outcome {
     /// The image after the run.
     pub image: Vec<u8>,
     pub counts: Counts,
+    /// Of task 1, 2 .. 7.
+    own: [Counts; 7],
     /// The report of the batch program.
     pub report: String,
+}
+
+impl Outcome {
+    /// The counts of a task's own items, which add up over the task numbers to `counts`. A task that the image does not list has them
+    /// too: its items are idle. Zero for a number that is no task's.
+    ///
+    /// ```
+    /// let outcome = hep::run(&hep::example_image(), &[1, 5, 5])?;
+    /// assert_eq!((outcome.own(1).trapped, outcome.own(5).idle), (1, 2));
+    /// assert_eq!(hep::TASKS.map(|task| outcome.own(task).idle).sum::<u64>(), outcome.counts.idle);
+    /// # Ok::<(), hep::Refusal>(())
+    /// ```
+    pub fn own(&self, task: u8) -> Counts {
+        let place = usize::from(task).wrapping_sub(1);
+        self.own.get(place).copied().unwrap_or_default()
+    }
 }
 
 /// Whether an image is accepted.
@@ -199,46 +240,53 @@ pub fn run(image: &[u8], schedule: &[u8]) -> Result<Outcome, Refusal> {
         &mut counts,
         &mut report,
     ))?;
-    let [executed, waved, trapped, idle, tries, image_len, report_len] = counts;
-    output.truncate(image_len as usize);
+    let [_, _, _, _, _, image_len, report_len, ..] = counts.map(|n| n as usize);
+    output.truncate(image_len);
     Ok(Outcome {
         image: output,
-        counts: Counts { executed, waved, trapped, idle, tries },
-        report: text(&report[..report_len as usize]),
+        counts: Counts::at(0, &counts),
+        own: std::array::from_fn(|place| Counts::at(sys::own_place(place + 1), &counts)),
+        report: text(&report[..report_len]),
     })
 }
 
 /// The most items of a schedule that one run takes.
 pub const MOST_ITEMS: usize = 65_535;
 
-/// Runs a schedule of any length, as runs of at most `MOST_ITEMS` items each, image in to image out. The counts are those of all runs
-/// added up, also in the report's last line.
+/// Runs a schedule of any length, as runs of at most `MOST_ITEMS` items each, image in to image out. The counts, a task's own too, are
+/// those of all runs added up, also in the report.
 ///
 /// ```
 /// let outcome = hep::run_in_slices(&hep::example_image(), &vec![1; 70_000])?;
-/// assert_eq!(outcome.report, "1 1 14 00000\nE0 W0 T1 I69999 S0 CF0\n");
+/// assert_eq!(outcome.report, "1 1 14 00000 E0 W0 T1 I69999 S0\nE0 W0 T1 I69999 S0 CF0\n");
 /// # Ok::<(), hep::Refusal>(())
 /// ```
 pub fn run_in_slices(image: &[u8], schedule: &[u8]) -> Result<Outcome, Refusal> {
     let mut slices = schedule.chunks(MOST_ITEMS);
     let mut outcome = run(image, slices.next().unwrap_or(&[]))?;
     for slice in slices {
-        let before = outcome.counts;
+        let (counts, own) = (outcome.counts, outcome.own);
         outcome = run(&outcome.image, slice)?;
-        outcome.counts = outcome.counts.and(before);
+        outcome.counts = outcome.counts.and(counts);
+        outcome.own = std::array::from_fn(|place| outcome.own[place].and(own[place]));
     }
     if schedule.len() > MOST_ITEMS {
-        outcome.report = with_counts(&outcome.report, &outcome.counts);
+        outcome.report = with_counts(&outcome);
     }
     Ok(outcome)
 }
 
-/// A report with these counts before the flag of its last line.
-fn with_counts(report: &str, counts: &Counts) -> String {
-    let rows = report.trim_end().rfind('\n').map_or(0, |end| end + 1);
-    let flag = report[rows..].split_whitespace().last().unwrap_or_default();
-    let Counts { executed, waved, trapped, idle, tries } = counts;
-    format!("{}E{executed} W{waved} T{trapped} I{idle} S{tries} {flag}\n", &report[..rows])
+/// The report of an outcome with its counts in place of those that are there: own ones in the rows' lines, all in the last before the flag.
+fn with_counts(outcome: &Outcome) -> String {
+    let line = |line: &str| match line.split(' ').collect::<Vec<_>>()[..] {
+        [task, live, kind, pc, _, _, _, _, _] => {
+            let own = outcome.own(task.parse().unwrap_or_default());
+            format!("{task} {live} {kind} {pc} {own}\n")
+        }
+        [.., flag] => format!("{} {flag}\n", outcome.counts),
+        [] => String::new(),
+    };
+    outcome.report.lines().map(line).collect()
 }
 
 /// The batch program: from its input to its output, which is a report or the line of a refusal.

@@ -22,15 +22,20 @@ pub const NO_TRIES: u32 = 18;
 /// How many numbers `hep_sizes` writes.
 pub const SIZES: usize = 5;
 /// How many numbers `hep_run` writes.
-pub const COUNTS: usize = 7;
+pub const COUNTS: usize = 42;
 /// How many numbers `hep_fill` writes.
 pub const FILLING: usize = 4;
 /// Bytes with room for any report, and for any output of `hep_batch`.
-pub const REPORT_ROOM: usize = 512;
+pub const REPORT_ROOM: usize = 2048;
 
 /// Bytes with room for the image after a run of an image of this length.
 pub const fn output_room(image_len: usize) -> usize {
     image_len + 640
+}
+
+/// The place of a task's own counts, task 1 to 7, among the numbers that `hep_run` writes: five, in the order of the run's.
+pub const fn own_place(task: usize) -> usize {
+    7 + 5 * (task - 1)
 }
 
 mod c {

@@ -9,7 +9,7 @@ use hep_tools::tool::share::{instructions, share};
 use hep_tools::tool::text;
 use hep_tools::trials::edges;
 
-const PRINTED: &str = "1 1 14 00000\nE0 W0 T1 I0 S0 CF0\n";
+const PRINTED: &str = "1 1 14 00000 E0 W0 T1 I0 S0\nE0 W0 T1 I0 S0 CF0\n";
 
 fn printed() -> Vec<u8> {
     hep::example_image()
@@ -34,7 +34,8 @@ fn creating() -> Vec<u8> {
 fn printed_case() {
     let outcome = hep::run(&printed(), &[1]).unwrap();
     assert_eq!(outcome.report, PRINTED);
-    assert_eq!(outcome.counts, Counts { trapped: 1, ..Counts::default() });
+    let one = Counts { trapped: 1, ..Counts::default() };
+    assert_eq!((outcome.counts, outcome.own(1)), (one, one));
     let mut after = image::draft(&image::read(&printed()).unwrap());
     after.tasks[0].kind = PROTECTION;
     assert_eq!(outcome.image, after.bytes());
@@ -55,7 +56,7 @@ fn the_example_is_the_printed_case() {
 fn no_items() {
     let outcome = hep::run(&printed(), &[]).unwrap();
     assert_eq!(outcome.image, printed());
-    assert_eq!(outcome.report, "1 1 -- -----\nE0 W0 T0 I0 S0 CF0\n");
+    assert_eq!(outcome.report, "1 1 -- ----- E0 W0 T0 I0 S0\nE0 W0 T0 I0 S0 CF0\n");
 }
 
 #[test]
@@ -94,7 +95,8 @@ fn schedules_refused() {
     assert_eq!(hep::run(&printed(), &vec![8; 65536]), Err(Refusal::ListTooLong));
     assert_eq!(hep::run(&printed(), &[1, 0]), Err(Refusal::ItemOutOfRange));
     assert_eq!(hep::run(&printed(), &[8]), Err(Refusal::ItemOutOfRange));
-    assert_eq!(hep::run(&printed(), &vec![7; 65535]).unwrap().counts.idle, 65535);
+    let longest = hep::run(&printed(), &vec![7; 65535]).unwrap();
+    assert_eq!((longest.counts.idle, longest.own(7).idle), (65535, 65535));
 }
 
 #[test]
@@ -127,7 +129,7 @@ fn unset(utm: u8) -> Vec<u8> {
 fn a_constants_quality() {
     assert_eq!(hep::sizes(&unset(0)).unwrap().constants, 1);
     let masked = hep::run(&unset(0x04), &[1]).unwrap();
-    assert_eq!(masked.report, "1 1 1E 00000\nE0 W0 T1 I0 S0 CF0\n");
+    assert_eq!(masked.report, "1 1 1E 00000 E0 W0 T1 I0 S0\nE0 W0 T1 I0 S0 CF0\n");
     let moved = hep::run(&unset(0xFB), &[1]).unwrap();
     assert_eq!(moved.counts.executed, 1);
     let after = image::draft(&image::read(&moved.image).unwrap());
@@ -194,18 +196,79 @@ fn tries_and_the_sfu_queue() {
     let image = text::assemble(WAITING).unwrap().bytes();
     let first = hep::run(&image, &[3]).unwrap();
     assert_eq!(first.counts, Counts { waved: 1, ..Counts::default() });
-    assert_eq!(first.report, "3 2 -- -----\nE0 W1 T0 I0 S0 CF0\n");
+    assert_eq!(first.report, "3 2 -- ----- E0 W1 T0 I0 S0\nE0 W1 T0 I0 S0 CF0\n");
     let state = first.state();
     let queues: Vec<(u8, u8, bool)> =
         state.processes_of(3).map(|process| (process.pt, process.task, process.sfu)).collect();
     assert_eq!(queues, [(4, 3, false), (7, 3, true)]);
     let all = hep::run(&image, &[3; 6]).unwrap();
-    assert_eq!(all.report, "3 1 -- -----\nE5 W1 T0 I0 S4 CF0\n");
+    assert_eq!(all.report, "3 1 -- ----- E5 W1 T0 I0 S4\nE5 W1 T0 I0 S4 CF0\n");
     let rest = hep::run(&first.image, &[3; 5]).unwrap();
     assert_eq!((rest.counts.tries, &rest.image), (4, &all.image));
     let long = hep::run_in_slices(&first.image, &vec![3; hep::MOST_ITEMS + 5]).unwrap();
-    assert_eq!(long.counts.tries, 4);
-    assert!(long.report.contains(" S4 CF0\n"), "{}", long.report);
+    assert_eq!((long.counts.tries, long.own(3)), (4, long.counts));
+    assert!(long.report.contains(" S4\n") && long.report.contains(" S4 CF0\n"), "{}", long.report);
+}
+
+fn added(a: Counts, b: Counts) -> Counts {
+    Counts {
+        executed: a.executed + b.executed,
+        waved: a.waved + b.waved,
+        trapped: a.trapped + b.trapped,
+        idle: a.idle + b.idle,
+        tries: a.tries + b.tries,
+    }
+}
+
+/// Each task's own counts are those of its items made one by one, add up to the run's, and end the task's line of the report.
+#[test]
+fn own_counts() {
+    let mut tries = 0;
+    for n in 0..60 {
+        let (mut image, schedule) = (generate::image(42, n), [1, 2, 3, 4, 5, 6, 7, 7, 2].repeat(5));
+        let outcome = hep::run(&image, &schedule).unwrap();
+        let mut by_task = [Counts::default(); 8];
+        for &task in &schedule {
+            let item = hep::run(&image, &[task]).unwrap();
+            let own = &mut by_task[usize::from(task)];
+            *own = added(*own, item.counts);
+            image = item.image;
+        }
+        assert_eq!(hep::TASKS.map(|task| outcome.own(task)).collect::<Vec<_>>(), by_task[1..]);
+        assert_eq!(by_task.into_iter().fold(Counts::default(), added), outcome.counts);
+        for (task, line) in outcome.state().tasks.iter().zip(outcome.report.lines()) {
+            assert!(line.ends_with(&format!(" {}", outcome.own(task.number))), "{line}");
+        }
+        tries += outcome.counts.tries;
+    }
+    assert!(tries > 50, "{tries} tries");
+}
+
+/// Items of a task that is not listed count under its number; the report has no line for it. Other numbers have none.
+#[test]
+fn own_counts_of_unlisted_tasks() {
+    let outcome = hep::run(&printed(), &[5, 1, 5]).unwrap();
+    assert_eq!(outcome.own(5), Counts { idle: 2, ..Counts::default() });
+    assert_eq!(outcome.report, "1 1 14 00000 E0 W0 T1 I0 S0\nE0 W0 T1 I2 S0 CF0\n");
+    for task in [0, 2, 7, 8, 255] {
+        assert_eq!(outcome.own(task), Counts::default(), "task {task}");
+    }
+}
+
+/// Of a schedule in slices the counts are those of all of them, in the rows' lines too.
+#[test]
+fn own_counts_in_slices() {
+    let schedule = [&[1, 6][..], &vec![3; hep::MOST_ITEMS], &[6]].concat();
+    let outcome = hep::run_in_slices(&text::assemble(WAITING).unwrap().bytes(), &schedule).unwrap();
+    let last = outcome.report.lines().last().unwrap();
+    assert_eq!(outcome.report, format!("3 1 14 00010 {}\n{last}\n", outcome.own(3)));
+    assert_eq!(last, format!("{} CF0", outcome.counts));
+    let idle = Counts { idle: 1, ..Counts::default() };
+    assert_eq!((outcome.own(1), outcome.own(6)), (idle, added(idle, idle)));
+    assert_eq!(
+        hep::TASKS.map(|task| outcome.own(task)).fold(Counts::default(), added),
+        outcome.counts
+    );
 }
 
 #[test]
@@ -264,4 +327,6 @@ fn the_numbers_are_the_headers() {
     assert!(stated(format!("#define HEP_REPORT_ROOM {}", sys::REPORT_ROOM)));
     let room = sys::output_room(0);
     assert!(stated(format!("#define HEP_OUTPUT_ROOM(image_len) ((image_len) + {room})")));
+    assert!(stated("#define HEP_OWN(task) (HEP_REPORT_LEN + 1 + 5 * ((task) - 1))".to_string()));
+    assert_eq!([1, 2, 8].map(sys::own_place), [7, 12, sys::COUNTS]);
 }

@@ -45,7 +45,7 @@ pub fn fill(needs: &[u64], tries: u64) -> Result<Filling, u8> {
 }
 
 fn good(need: &u64) -> bool {
-    (2..=MOST_REGISTERS).contains(need) && need % 2 == 0
+    (2..=MOST_REGISTERS).contains(need) && need.is_multiple_of(2)
 }
 
 /// The needs of the jobs that a choice takes.

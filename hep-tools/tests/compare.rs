@@ -4,6 +4,7 @@ use hep_tools::compare::isolation::{self, Broken};
 use hep_tools::compare::{self, Emulator, Implementation, Lines, Program};
 use hep_tools::emulator::batch::{self, Answer};
 use hep_tools::emulator::draft::{Draft, Process, Task};
+use hep_tools::emulator::machine::Counts;
 use hep_tools::generate::Pair;
 use hep_tools::tool;
 use hep_tools::tool::text::Source;
@@ -65,6 +66,30 @@ fn cases_are_shrunk() {
     for (input, most) in refused {
         assert!(input.len() < most, "{}", tool::to_hex(&input));
     }
+}
+
+/// An answer in which the counts of two task numbers stand in each other's place, and the output is as it was.
+fn exchanged<const FIRST: usize, const SECOND: usize>(_: &[u8], mut answer: Answer) -> Answer {
+    answer.own.iter_mut().for_each(|own| own.swap(FIRST, SECOND));
+    answer
+}
+
+#[test]
+fn counts_that_no_line_shows_are_compared() {
+    let all = trials::all().unwrap_or_else(|reason| panic!("{reason}"));
+    let faults = [
+        exchanged::<0, 7>,
+        exchanged::<1, 2>,
+        exchanged::<3, 4>,
+        exchanged::<5, 6>,
+        exchanged::<6, 7>,
+    ];
+    for change in faults {
+        assert!(compare::trials(&mut Faulty { change }, &all).is_some());
+    }
+    // One item of one of the two is left.
+    let items = tool::load(&told_apart(exchanged::<5, 6>)).expect("accepted").schedule.unwrap();
+    assert!(items == [5] || items == [6], "{items:?}");
 }
 
 /// The answer with a refusal in another's place.
@@ -163,12 +188,34 @@ fn moved(answer: Answer) -> Answer {
     Answer { image: Some(state.bytes()), ..answer }
 }
 
+/// An answer in which each task's line ends with the run's counts.
+fn run_counts_printed(answer: Answer) -> Answer {
+    let output = String::from_utf8_lossy(&answer.output).into_owned();
+    let Some((all, _)) = output.lines().last().and_then(|last| last.split_once(" CF")) else {
+        return answer;
+    };
+    let line = |line: &str| match line.split_once(" E") {
+        Some((row, _)) => format!("{row} {all}\n"),
+        None => format!("{line}\n"),
+    };
+    Answer { output: output.lines().map(line).collect::<String>().into_bytes(), ..answer }
+}
+
+/// An answer in which the idle items of other tasks are in each task's counts.
+fn idle_of_others(answer: Answer) -> Answer {
+    let all = |own: [Counts; 8]| own.map(|counts| counts.idle).iter().sum();
+    let own = answer.own.map(|own| own.map(|counts| Counts { idle: all(own), ..counts }));
+    Answer { own, ..answer }
+}
+
 #[test]
 fn isolation_that_is_broken_shows() {
-    let faults: [fn(&[u8], Answer) -> Answer; 3] = [
+    let faults: [fn(&[u8], Answer) -> Answer; 5] = [
         |_, answer| leaked(answer, false),
         |_, answer| leaked(answer, true),
         |_, answer| moved(answer),
+        |_, answer| run_counts_printed(answer),
+        |_, answer| idle_of_others(answer),
     ];
     for change in faults {
         let tally = isolation::tried(&mut Faulty { change }, 42, 300).expect("images");

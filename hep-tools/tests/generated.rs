@@ -27,13 +27,39 @@ fn states_after_runs_are_images() {
     for n in 0..500 {
         let mut machine = image::read(&generate::image(12, n)).expect("accepted");
         let schedule: Vec<u8> = (0..700).map(|i| i as u8 % 7 + 1).collect();
-        let Counts { executed, waved, trapped, idle, tries } = machine.run(&schedule);
+        let Counts { executed, waved, trapped, idle, tries } = machine.run(&schedule).counts;
         assert_eq!(executed + waved + trapped + idle, 700);
         assert!(tries <= 700, "{tries} tries");
         let bytes = image::write(&machine);
         let again = image::read(&bytes).expect("the state after a run is an image");
         assert_eq!(image::write(&again), bytes);
     }
+}
+
+#[test]
+fn own_counts_add_up_to_the_items() {
+    let (mut steps, mut unlisted) = (0, 0);
+    for n in 0..2_000 {
+        let input = generate::input(19, n);
+        let Ok((schedule, mut machine)) = batch::accepted(&input) else { continue };
+        let listed: Vec<u8> = machine.tasks().collect();
+        let counted = machine.run(schedule);
+        assert_eq!(counted.own(0), Counts::default(), "input {n}");
+        for task in 1..=7 {
+            let own = counted.own(task);
+            let Counts { executed, waved, trapped, idle, tries } = own;
+            let items = schedule.iter().filter(|item| **item == task).count() as u64;
+            assert_eq!(executed + waved + trapped + idle, items, "input {n}, task {task}");
+            assert!(tries <= items - idle && trapped <= 1, "input {n}, task {task}: {own}");
+            if listed.contains(&task) {
+                steps += items - idle;
+            } else {
+                assert_eq!(own, Counts { idle: items, ..Counts::default() }, "input {n}");
+                unlisted += items;
+            }
+        }
+    }
+    assert!(steps > 10_000 && unlisted > 1_000, "{steps} steps, {unlisted} unlisted");
 }
 
 /// The refusals that the batch program has.
@@ -48,7 +74,7 @@ fn is_refusal(output: &str) -> bool {
 fn is_report(output: &str) -> bool {
     let Some(lines) = output.strip_suffix('\n') else { return false };
     let mut lines: Vec<&str> = lines.split('\n').collect();
-    let counts = lines.pop().is_some_and(is_counts);
+    let counts = lines.pop().is_some_and(is_last);
     let tasks: Vec<&str> = lines.iter().filter_map(|line| line.split(' ').next()).collect();
     let ascending = tasks.windows(2).all(|pair| pair[0] < pair[1]);
     counts && ascending && lines.into_iter().all(is_task)
@@ -56,17 +82,25 @@ fn is_report(output: &str) -> bool {
 
 fn is_task(line: &str) -> bool {
     let fields: Vec<&str> = line.split(' ').collect();
-    let [task, live, kind, pc] = fields[..] else { return false };
+    let [task, live, kind, pc, ref own @ ..] = fields[..] else { return false };
     let hex = |text: &str, digits| text.len() == digits && text.bytes().all(is_hex);
     let trap = (kind, pc) == ("--", "-----") || hex(kind, 2) && hex(pc, 5);
-    ["1", "2", "3", "4", "5", "6", "7"].contains(&task) && is_number(live) && trap
+    ["1", "2", "3", "4", "5", "6", "7"].contains(&task)
+        && is_number(live)
+        && trap
+        && are_counts(own)
 }
 
-fn is_counts(line: &str) -> bool {
+fn is_last(line: &str) -> bool {
     let fields: Vec<&str> = line.split(' ').collect();
-    let counted = fields.iter().zip(["E", "W", "T", "I", "S"]);
-    let numbers = counted.filter(|(field, name)| field.strip_prefix(*name).is_some_and(is_number));
-    numbers.count() == 5 && fields.len() == 6 && ["CF0", "CF1"].contains(&fields[5])
+    let Some((flag, counts)) = fields.split_last() else { return false };
+    are_counts(counts) && ["CF0", "CF1"].contains(flag)
+}
+
+fn are_counts(fields: &[&str]) -> bool {
+    let names = ["E", "W", "T", "I", "S"];
+    let is_count = |(field, name): (&&str, &str)| field.strip_prefix(name).is_some_and(is_number);
+    fields.len() == names.len() && fields.iter().zip(names).all(is_count)
 }
 
 fn is_hex(byte: u8) -> bool {
@@ -365,7 +399,7 @@ fn places_are_those_of_the_fields() {
 fn workloads_do_what_they_say() {
     for workload in &benchmark::ALL {
         let (bytes, schedule) = (workload.build)();
-        let counts = image::read(&bytes).expect("accepted").run(&schedule);
+        let counts = image::read(&bytes).expect("accepted").run(&schedule).counts;
         let expected = match workload.name {
             "waved" => Counts { waved: 60_000, ..Counts::default() },
             "tried" => Counts { waved: 60_000, tries: 60_000, ..Counts::default() },

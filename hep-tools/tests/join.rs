@@ -108,8 +108,8 @@ fn sfu_queues_are_joined() {
         all.draft.processes.iter().map(|process| (process.pt, process.task, process.sfu)).collect();
     assert_eq!(queues, [(0, 1, false), (1, 1, true), (2, 2, false), (3, 2, true)]);
     let mut machine = machine(&all);
-    let counts = machine.run(all.schedule.as_ref().unwrap());
-    assert_eq!((counts.executed, counts.tries), (8, 6));
+    let counted = machine.run(all.schedule.as_ref().unwrap());
+    assert_eq!((counted.counts.executed, counted.counts.tries), (8, 6));
     for (number, job) in (1..).zip(&jobs) {
         let own = job.draft.tasks[0].number;
         let alone = share(&after(job).0, own);

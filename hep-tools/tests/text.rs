@@ -5,6 +5,7 @@ use hep_tools::emulator::batch;
 use hep_tools::emulator::codes::{self, Role, OPERATIONS};
 use hep_tools::emulator::draft::{batch_input, Process};
 use hep_tools::emulator::image;
+use hep_tools::emulator::machine::Counts;
 use hep_tools::generate;
 use hep_tools::generate::random::Random;
 use hep_tools::tool;
@@ -617,7 +618,8 @@ fn a_trace_has_a_line_for_each_try() {
     assert_eq!(shown, expected[2..4]);
 }
 
-/// Of random inputs: the lines with `try` are the report's tries, the last line of each item is its ending, and the lines end where a run does.
+/// Of random inputs: each task's lines with `try` are its own tries, the last line of each of its items is that item's ending, and the lines end
+/// where a run does.
 #[test]
 fn trace_lines_add_up_to_the_report() {
     let (mut tries, mut ends) = (0, [0; 4]);
@@ -632,22 +634,20 @@ fn trace_lines_add_up_to_the_report() {
         assert_eq!(image::write(&traced), image::write(&machine), "input {n}");
         let words: Vec<Vec<&str>> =
             lines.iter().map(|line| line.split_whitespace().collect()).collect();
-        assert_eq!(
-            words.iter().filter(|line| line[2] == "try").count() as u64,
-            counts.tries,
-            "input {n}"
-        );
         let last_of_item = |i: &usize| words.get(i + 1).is_none_or(|next| next[0] != words[*i][0]);
-        let last: Vec<&String> = (0..words.len()).filter(last_of_item).map(|i| &lines[i]).collect();
-        let ended =
-            |ending: &str| last.iter().filter(|line| line[60..].contains(ending)).count() as u64;
-        let ended = trace::ENDINGS.map(ended);
-        assert_eq!(
-            ended,
-            [counts.executed, counts.waved, counts.trapped, counts.idle],
-            "input {n}"
-        );
-        tries += counts.tries;
+        for task in 1..=7 {
+            let own = |i: &usize| words[*i][1] == task.to_string();
+            let tried = (0..words.len()).filter(own).filter(|i| words[*i][2] == "try").count();
+            let last: Vec<usize> = (0..words.len()).filter(own).filter(last_of_item).collect();
+            let [executed, waved, trapped, idle] = trace::ENDINGS.map(|ending| {
+                last.iter().filter(|i| lines[**i][60..].contains(ending)).count() as u64
+            });
+            let told = Counts { executed, waved, trapped, idle, tries: tried as u64 };
+            assert_eq!(told, counts.own(task), "input {n}, task {task}");
+        }
+        let Counts { executed, waved, trapped, idle, tries: tried } = counts.counts;
+        tries += tried;
+        let ended = [executed, waved, trapped, idle];
         ends.iter_mut().zip(ended).for_each(|(sum, count)| *sum += count);
     }
     assert!(tries > 500 && ends.iter().all(|&count| count > 100), "{tries} tries, {ends:?}");
@@ -660,7 +660,7 @@ fn why_tells_both_queues() {
         let schedule = loaded.source.schedule.clone().unwrap();
         why(tool::machine(&loaded.source), &schedule, &loaded.symbols).0
     };
-    let two = "task 1: 4 processes, 2 in the SFU queue
+    let two = "task 1: 4 processes, 2 in the SFU queue; E1 W1 T0 I0 S2
   PT 9 at pc=0x00007: NOP
       goes on at its next item
   PT 4 at pc=0x00001: MOV r1, r2+RI:W
@@ -674,7 +674,7 @@ fn why_tells_both_queues() {
 ";
     assert_eq!(standing(&TRIED.replace("1 * 4", "1 * 2").replace("pc=5", "pc=6")), two);
     let trapped = standing(TRIED);
-    let start = "task 1: 4 processes, 2 in the SFU queue, trapped 14 at item 2
+    let start = "task 1: 4 processes, 2 in the SFU queue, trapped 14 at item 2; E1 W1 T1 I1 S3
   PT 2 (SFU queue) at pc=0x00002: STOI r1, c1
       trap 14: byte address 256 is data word 32";
     assert!(trapped.starts_with(start), "{trapped}");
@@ -686,6 +686,11 @@ fn why_tells_both_queues() {
     let start = "task 1: 4 processes, 3 in the SFU queue, trapped 14 before the run
   PT 4 (SFU queue) at pc=0x00002: STOI r1, c1\n";
     assert!(standing(&swapped).starts_with(start), "{}", standing(&swapped));
+    let unlisted = standing(&TRIED.replace("1 * 4", "1\n5 * 3"));
+    assert!(
+        unlisted.ends_with("\ntask 5: not listed, so it is idle; E0 W0 T0 I3 S0\n"),
+        "{unlisted}"
+    );
 }
 
 /// Tries are counted at their instructions.
@@ -776,11 +781,31 @@ fn timelines() {
     assert_eq!(said(&svg, "E"), ["E185 W6 T0 I109 S90", "E126 W1115 T1 I683 S0"]);
     assert_eq!(said(&svg, "trap "), ["trap 14 at item 1381, PC 00003 (store)"]);
     let totals =
-        ["executed 311", "waved (waits) 1121", "trapped 1", "idle 792", "thin lane: tries 90"];
+        ["executed E311", "waved (waits) W1121", "trapped T1", "idle I792", "thin lane: tries S90"];
     for total in totals {
         assert_eq!(said(&svg, total), [total]);
     }
     assert!(svg.starts_with("<svg ") && svg.ends_with("</svg>\n"));
+}
+
+/// Behind each lane of a whole picture stand the task's own counts, as the report has them.
+#[test]
+fn timelines_count_by_task() {
+    let mut lanes = 0;
+    for n in 0..200 {
+        let input = generate::input(26, n);
+        let Ok((schedule, mut machine)) = batch::accepted(&input) else { continue };
+        let symbols = Symbols::default();
+        let view = View { name: "random", symbols: &symbols, items: 0..usize::MAX };
+        let svg = svg(&mut machine.clone(), schedule, &view);
+        let listed: Vec<u8> = machine.tasks().collect();
+        let counts = machine.run(schedule);
+        let shown = (1..=7).filter(|task| listed.contains(task) || schedule.contains(task));
+        let own: Vec<String> = shown.map(|task| counts.own(task).to_string()).collect();
+        assert_eq!(said(&svg, "E"), own, "input {n}");
+        lanes += own.len();
+    }
+    assert!(lanes > 200, "{lanes} lanes");
 }
 
 #[test]
@@ -797,12 +822,37 @@ fn timelines_stay_small() {
     assert_eq!(said(&none, "thin lane").len(), 0);
 }
 
+/// A picture is as wide as the counts behind its lanes ask for.
+#[test]
+fn timelines_have_room_for_counts() {
+    // One process goes round, the other waits in the SFU queue.
+    let text = "hep input
+        task 1 cb=0 rb=0 rl=0 pb=0 pl=0 db=0 dl=0
+        process 9 task=1 pc=1
+        process 4 task=1 sfu
+        registers
+          full 0 * 2
+        program
+          LODI:W r0, c0
+          B 1, c0, c0
+          NOP * 14
+        data
+          empty 0 * 32
+        schedule
+          1 * ";
+    for (items, width) in [(4, 80 + 960 + 190), (300_000, 80 + 960 + 8 * 24 + 16)] {
+        let svg = drawn(&format!("{text}{items}"));
+        assert_eq!(said(&svg, "E"), [format!("E{items} W0 T0 I0 S{items}")]);
+        assert!(svg.contains(&format!("<rect width=\"{width}\" ")), "{}", &svg[..400]);
+    }
+}
+
 /// The thin lane has the tries of a task by their endings, below the lane of its items.
 #[test]
 fn timelines_have_a_thin_lane_for_tries() {
     let svg = drawn(TRIED);
     assert_eq!(said(&svg, "E"), ["E1 W1 T1 I1 S3"]);
-    assert_eq!(said(&svg, "thin lane"), ["thin lane: tries 3"]);
+    assert_eq!(said(&svg, "thin lane"), ["thin lane: tries S3"]);
     assert_eq!(said(&svg, "trap 14"), ["trap 14 at item 2, PC 00002"]);
     assert_eq!(said(&svg, "waited for"), ["waited for r2 (1), r3 (1)"]);
     let thin: Vec<&str> = svg.lines().filter(|line| line.contains("v-6h-240z")).collect();

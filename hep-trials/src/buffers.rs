@@ -1,11 +1,12 @@
 //! What a run is lent.
 
 use hep::sys::{self, COUNTS, REPORT_ROOM, SIZES};
+use hep_tools::emulator::machine::{Counts, RunCounts};
 
 /// What every element holds before a call, and how many are there beyond the lent ones.
 const BYTE: u8 = 0xA5;
 const WORD: u64 = 0xA5A5_A5A5_A5A5_A5A5;
-const SPARE: usize = 2;
+pub const SPARE: usize = 2;
 
 const BUFFERS: usize = 10;
 
@@ -114,9 +115,20 @@ impl Buffers {
             && bytes_stay(&self.report[r..])
     }
 
-    /// How many items were executed, waved, trapped and idle, and how many tries they made.
-    pub fn counted(&self) -> [u64; 5] {
-        std::array::from_fn(|count| self.counts[count])
+    /// What the run counted, in all and for each task number.
+    pub fn counted(&self) -> RunCounts {
+        let own = |task| match task {
+            0 => Counts::default(),
+            _ => self.counts_from(sys::own_place(task)),
+        };
+        RunCounts { counts: self.counts_from(0), own: std::array::from_fn(own) }
+    }
+
+    /// The five counts that start at this place.
+    fn counts_from(&self, place: usize) -> Counts {
+        let [executed, waved, trapped, idle, tries] =
+            std::array::from_fn(|i| self.counts[place + i]);
+        Counts { executed, waved, trapped, idle, tries }
     }
 
     /// How long image and report are.

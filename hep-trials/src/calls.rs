@@ -1,7 +1,7 @@
 //! What the calls refuse and what they leave alone: refusals 7, 9 and 10 at both sides of their boundaries, which batch inputs cannot show, and
 //! 2 at the largest memories. No call takes a state from outside, so 8 cannot come.
 
-use crate::buffers::{self, asked, Buffers, Lengths, NONE};
+use crate::buffers::{self, asked, Buffers, Lengths, NONE, SPARE};
 use hep::sys::{self, COUNT_OVER_LIMIT, ITEM_OUT_OF_RANGE, LIST_TOO_LONG, SHORT_BUFFER, SIZES};
 use hep_tools::emulator::draft::{Draft, Task};
 use hep_tools::emulator::image::{MOST_CONSTANTS, MOST_WORDS};
@@ -21,8 +21,9 @@ pub fn all() -> Tried {
     let mut tried = 0;
     for n in 0..IMAGES {
         let image = generate::image(1, n);
-        let calls = sizes(&image).and_then(|some| Ok(some + short_buffers(&image)?));
-        tried += calls.map_err(|reason| format!("image {n} of seed 1: {reason}"))?;
+        for calls in [sizes, short_buffers, long_buffers] {
+            tried += calls(&image).map_err(|reason| format!("image {n} of seed 1: {reason}"))?;
+        }
     }
     Ok(tried + schedules(&hep::example_image())? + batches()? + largest()?)
 }
@@ -56,6 +57,16 @@ fn short_buffers(image: &[u8]) -> Tried {
         tried += 1;
     }
     Ok(tried)
+}
+
+/// `hep_run` with each buffer longer than asked: what lies beyond stays.
+fn long_buffers(image: &[u8]) -> Tried {
+    let lengths = asked(image).map_err(|number| format!("refused by {number}"))?;
+    let mut left = Buffers::new(&lengths);
+    let found = left.run(image, &[1, 7, 1], &lengths.map(|length| length + SPARE));
+    let right = found == 0 && left.stays_from(&lengths);
+    require(right, || format!("hep_run with long buffers answers {found} or wrote beyond"))?;
+    Ok(1)
 }
 
 /// A run that must answer this number, and write nothing if it is refused.

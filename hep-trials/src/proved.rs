@@ -3,25 +3,30 @@
 use crate::buffers::{self, Buffers, Lengths, NONE};
 use hep::sys::{self, COUNTS, REPORT_ROOM};
 use hep_tools::compare::Implementation;
-use hep_tools::emulator::batch::{split, Answer, MOST_BYTES};
+use hep_tools::emulator::batch::{self, split, Answer, MOST_BYTES};
 use hep_tools::emulator::image;
+use hep_tools::emulator::machine::Counts;
 
 /// The library, all of its calls at once: `hep_batch` answers, and the others must say the same.
 pub struct Proved;
 
 impl Implementation for Proved {
     fn answer(&mut self, input: &[u8]) -> Result<Answer, String> {
-        let output = batch(input)?;
+        let output = batched(input)?;
         let (schedule, image) = match split(input) {
             Some(parts) if input.len() <= MOST_BYTES => parts,
-            _ => return Ok(Answer { output, image: None }),
+            _ => return Ok(Answer::of(output)),
         };
-        let (same, image) = match run(image, schedule)? {
-            Ok(left) => (output == left.report(), Some(left.image().to_vec())),
-            Err(number) => (output == format!("R{number}\n").into_bytes(), None),
+        let answer = match run(image, schedule)? {
+            Ok(left) => Answer {
+                output: left.report().to_vec(),
+                image: Some(left.image().to_vec()),
+                own: Some(left.counted().own),
+            },
+            Err(number) => Answer::of(format!("R{number}\n").into_bytes()),
         };
-        require(same, "hep_batch and hep_run disagree")?;
-        Ok(Answer { output, image })
+        require(output == answer.output, "hep_batch and hep_run disagree")?;
+        Ok(answer)
     }
 }
 
@@ -29,7 +34,7 @@ fn require(holds: bool, reason: &str) -> Result<(), String> {
     holds.then_some(()).ok_or(reason.to_string())
 }
 
-fn batch(input: &[u8]) -> Result<Vec<u8>, String> {
+fn batched(input: &[u8]) -> Result<Vec<u8>, String> {
     let mut output = buffers::bytes(REPORT_ROOM);
     let length = sys::batch(input, &mut output);
     require((1..=REPORT_ROOM).contains(&length), "hep_batch answers no length")?;
@@ -76,12 +81,13 @@ fn consistent(left: &Buffers, lengths: &Lengths) -> Result<(), String> {
         left.stays_from(&[ct, cw, rt, rw, p, dt, dw, image, COUNTS, report]),
         "hep_run wrote beyond",
     )?;
-    let [executed, waved, trapped, idle, tries] = left.counted();
-    let counted = format!("E{executed} W{waved} T{trapped} I{idle} S{tries} CF");
-    let last = String::from_utf8_lossy(left.report()).lines().last().map(str::to_string);
-    require(last.is_some_and(|last| last.starts_with(&counted)), "report and counts disagree")?;
     let machine =
         image::read(left.image()).map_err(|refusal| format!("the image after it: {refusal}"))?;
+    let counted = left.counted();
+    let added_up = counted.own.into_iter().sum::<Counts>() == counted.counts;
+    require(added_up, "the tasks' counts don't add up to the run's")?;
+    let same = batch::report(&machine, &counted).as_bytes() == left.report();
+    require(same, "report, counts and image disagree")?;
     let draft = image::draft(&machine);
     let pairs = |tags: &[u8], words: &[u64], cells: &[(u8, u64)]| {
         cells.iter().map(|cell| cell.0).eq(tags.iter().copied())

@@ -42,7 +42,7 @@ static struct bytes file(const char *name)
     return b;
 }
 
-static const char printed_report[] = "1 1 14 00000\nE0 W0 T1 I0 S0 CF0\n";
+static const char printed_report[] = "1 1 14 00000 E0 W0 T1 I0 S0\nE0 W0 T1 I0 S0 CF0\n";
 
 /* ---- buffers, each in its own block so that a sanitizer sees its ends; one element more than is lent holds a mark */
 
@@ -109,6 +109,23 @@ static uint32_t run(const uint8_t *image, size_t image_len, const uint8_t *sched
                    b->at[COUNTS], b->len[COUNTS], b->at[REPORT], b->len[REPORT]);
 }
 
+/* That a task's own counts are these. */
+static int own_are(const uint64_t *counts, int task, uint64_t executed, uint64_t waved, uint64_t trapped, uint64_t idle, uint64_t tries)
+{
+    const uint64_t *own = counts + HEP_OWN(task);
+    return own[HEP_EXECUTED] == executed && own[HEP_WAVED] == waved && own[HEP_TRAPPED] == trapped && own[HEP_IDLE] == idle
+           && own[HEP_SFU_TRIES] == tries;
+}
+
+/* That each count adds up over the tasks to that of the run. */
+static int own_add_up(const uint64_t *counts)
+{
+    uint64_t sums[HEP_SFU_TRIES + 1] = {0};
+    for (int i = 0; i < 7 * (HEP_SFU_TRIES + 1); i++)
+        sums[i % (HEP_SFU_TRIES + 1)] += counts[HEP_OWN(1) + i];
+    return memcmp(sums, counts, sizeof sums) == 0;
+}
+
 /* ---- the printed case */
 
 static void test_batch(void)
@@ -140,6 +157,7 @@ static void test_printed(void)
     const uint64_t *counts = b.at[COUNTS];
     EXPECT(counts[HEP_EXECUTED] == 0 && counts[HEP_WAVED] == 0 && counts[HEP_TRAPPED] == 1 && counts[HEP_IDLE] == 0);
     EXPECT(counts[HEP_SFU_TRIES] == 0);
+    EXPECT(own_are(counts, 1, 0, 0, 1, 0, 0) && own_add_up(counts));
     EXPECT(counts[HEP_IMAGE_LEN] == image.len && image.len == after.len);
     EXPECT(counts[HEP_REPORT_LEN] == strlen(printed_report));
     EXPECT(memcmp(b.at[REPORT], printed_report, strlen(printed_report)) == 0);
@@ -200,10 +218,11 @@ static void test_tries(void)
     EXPECT(after[31] == 4 && after[32] == 3 && after[41] == 7 && after[42] == 0x13);
 
     EXPECT(run(image.at, image.len, schedule, 6, &all) == HEP_ACCEPTED);
-    static const char report[] = "3 1 -- -----\nE5 W1 T0 I0 S4 CF0\n";
+    static const char report[] = "3 1 -- ----- E5 W1 T0 I0 S4\nE5 W1 T0 I0 S4 CF0\n";
     counts = all.at[COUNTS];
     EXPECT(counts[HEP_EXECUTED] == 5 && counts[HEP_WAVED] == 1 && counts[HEP_TRAPPED] == 0 && counts[HEP_IDLE] == 0);
     EXPECT(counts[HEP_SFU_TRIES] == 4 && counts[HEP_REPORT_LEN] == strlen(report));
+    EXPECT(own_are(counts, 3, 5, 1, 0, 0, 4) && own_add_up(counts));
     EXPECT(memcmp(all.at[REPORT], report, strlen(report)) == 0);
     EXPECT(counts[HEP_IMAGE_LEN] == image.len - 10 && ((uint64_t *)all.at[RW])[0] == 5);
     EXPECT(ends_stay(&once) && ends_stay(&all));
@@ -215,6 +234,27 @@ static void test_tries(void)
     discard(&once);
     discard(&all);
     discard(&on);
+}
+
+/* ---- items of listed and unlisted tasks among each other: own counts stand at the task's number, from 1 to 7 */
+
+static void test_own(void)
+{
+    struct bytes image = file("waiting");
+    uint64_t sizes[HEP_SIZES];
+    const uint8_t schedule[] = {3, 1, 3, 7, 3, 7, 3, 2, 7, 3, 3};
+    EXPECT(HEP_OWN(1) == HEP_REPORT_LEN + 1 && HEP_OWN(8) == HEP_COUNTS);
+    EXPECT(hep_sizes(image.at, image.len, sizes, HEP_SIZES) == HEP_ACCEPTED);
+    struct buffers b = make(sizes, image.len);
+    EXPECT(run(image.at, image.len, schedule, sizeof schedule, &b) == HEP_ACCEPTED);
+    const uint64_t *counts = b.at[COUNTS];
+    EXPECT(own_are(counts, 1, 0, 0, 0, 1, 0) && own_are(counts, 2, 0, 0, 0, 1, 0) && own_are(counts, 3, 5, 1, 0, 0, 4));
+    EXPECT(own_are(counts, 4, 0, 0, 0, 0, 0) && own_are(counts, 5, 0, 0, 0, 0, 0) && own_are(counts, 6, 0, 0, 0, 0, 0));
+    EXPECT(own_are(counts, 7, 0, 0, 0, 3, 0) && own_add_up(counts));
+    static const char report[] = "3 1 -- ----- E5 W1 T0 I0 S4\nE5 W1 T0 I5 S4 CF0\n";
+    EXPECT(counts[HEP_REPORT_LEN] == strlen(report) && memcmp(b.at[REPORT], report, strlen(report)) == 0);
+    EXPECT(ends_stay(&b));
+    discard(&b);
 }
 
 /* ---- the quality of full.hep's first constant, at 43, under its process's UTM, at 37 */
@@ -232,7 +272,7 @@ static void quality(uint8_t utm, uint64_t trapped)
     EXPECT(((uint64_t *)b.at[COUNTS])[HEP_TRAPPED] == trapped);
     EXPECT(((uint8_t *)b.at[CT])[0] == 5);
     if (trapped)
-        EXPECT(memcmp(b.at[REPORT], "1 1 1E 00000\n", 13) == 0);
+        EXPECT(memcmp(b.at[REPORT], "1 1 1E 00000 E0 W0 T1 I0 S0\n", 28) == 0);
     EXPECT(ends_stay(&b));
     discard(&b);
 }
@@ -352,6 +392,7 @@ static void test_schedules_refused(void)
     schedule[65534] = 7;
     EXPECT(run(image.at, image.len, schedule, 65535, &b) == HEP_ACCEPTED);
     EXPECT(((uint64_t *)b.at[COUNTS])[HEP_IDLE] == 65535);
+    EXPECT(own_are(b.at[COUNTS], 7, 0, 0, 0, 65535, 0) && own_add_up(b.at[COUNTS]));
     EXPECT(memcmp(b.at[OUT], image.at, image.len) == 0);
     free(schedule);
     discard(&b);
@@ -422,6 +463,7 @@ int main(int argc, char **argv)
     test_printed();
     test_longer();
     test_tries();
+    test_own();
     test_qualities();
     test_images_refused();
     test_sections();

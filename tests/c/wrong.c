@@ -57,6 +57,21 @@ uint32_t hep_run(const uint8_t *image, size_t image_len, const uint8_t *schedule
         counts[HEP_WAVED]--;
     if (wrong("a_try_missed") && counts[HEP_SFU_TRIES] > 2)
         counts[HEP_SFU_TRIES]--;
+    if (wrong("a_trap_of_the_next_task") && counts[HEP_OWN(3) + HEP_TRAPPED] == 1 && counts[HEP_OWN(4) + HEP_TRAPPED] == 0) {
+        counts[HEP_OWN(3) + HEP_TRAPPED] = 0;
+        counts[HEP_OWN(4) + HEP_TRAPPED] = 1;
+    }
+    if (wrong("a_task_without_tries"))
+        counts[HEP_OWN(7) + HEP_SFU_TRIES] = 0;
+    if (wrong("unlisted_items_not_counted") && image[0] == 0)
+        memset(counts + HEP_OWN(1), 0, (HEP_COUNTS - HEP_OWN(1)) * sizeof *counts);
+    if (wrong("idle_of_another_unlisted_task") && image[0] == 1 && image[1] == 1) {
+        uint64_t idle = counts[HEP_OWN(5) + HEP_IDLE];
+        counts[HEP_OWN(5) + HEP_IDLE] = counts[HEP_OWN(6) + HEP_IDLE];
+        counts[HEP_OWN(6) + HEP_IDLE] = idle;
+    }
+    if (wrong("a_count_beyond") && counts_len > HEP_COUNTS)
+        counts[HEP_COUNTS] = 0;
     if (wrong("rare_bit_of_the_image") && counts[HEP_WAVED] > 30)
         output[counts[HEP_IMAGE_LEN] - 1] ^= 1;
     if (wrong("memory_beside_the_image") && data_words_len > 100)

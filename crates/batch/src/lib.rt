@@ -54,9 +54,11 @@ fn run_text(
         schedule,
         n,
     );
-    let answer = x.answer;
     let rows_left = x.rows.at;
     let table_left = x.table;
+    let result = x.result;
+    let own = result.own;
+    let answer = result.answer;
     match answer {
         RunAnswer::Refused(e) => report_text::refusal_text(e, out),
         RunAnswer::Counted(counts) => report_text::report_text(
@@ -64,6 +66,7 @@ fn run_text(
             n.rows,
             table_left,
             counts,
+            own,
             out,
         ),
     }

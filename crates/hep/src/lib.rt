@@ -12,7 +12,7 @@ use library::AfterRun;
 use library::AfterStep;
 use library::ReadAnswer;
 use library::Rows;
-use library::RunAnswer;
+use library::RunResult;
 use library::Sizes;
 use library::StepAnswer;
 use library::WriteAnswer;
@@ -161,8 +161,8 @@ pub fn read(
     after.answer
 }
 
-// Runs the schedule on the state in the buffers: 8, then 9, then 10. Its answer is how often each ending came. A refusal changes nothing;
-// beyond the sizes nothing is changed.
+// Runs the schedule on the state in the buffers: 8, then 9, then 10. Its answer is how often each ending came, in all and of each
+// task. A refusal changes nothing; beyond the sizes nothing is changed.
 pub fn run(
     rows: &mut [Row],
     table: &mut ProcessTable,
@@ -175,7 +175,7 @@ pub fn run(
     data_words: &mut [u64],
     schedule: &[u8],
     n: Sizes,
-) -> RunAnswer
+) -> RunResult
     ensures { λ r. ⌜ RunPromise n (lentBuffers (now (rows .entry)) (now (table .entry)) (now («constant_tags» .entry)) (now («constant_words» .entry)) (now («register_tags» .entry)) (now («register_words» .entry)) (now (program .entry)) (now (data_tags .entry)) (now (data_words .entry))) (now (schedule .entry)) r (lentBuffers (now (rows .exit)) (now (table .exit)) (now («constant_tags» .entry)) (now («constant_words» .entry)) (now («register_tags» .exit)) (now («register_words» .exit)) (now (program .entry)) (now (data_tags .exit)) (now (data_words .exit))) ⌝ }
 {
     let v = load_rows(rows);
@@ -194,7 +194,7 @@ pub fn run(
     );
     *table = after.table;
     store_rows(rows, after.rows);
-    after.answer
+    after.result
 }
 
 // One item of a task on the state in the buffers: 8, then 10. The slice of rows is searched by the task's number. Its answer is how the item
@@ -332,13 +332,13 @@ pub fn read_owned(
     after_read(lent_rows, lent_table, answer)
 }
 
-fn after_run(at: [Row; TASKS], table: ProcessTable, answer: RunAnswer) -> AfterRun
-    ensures { λ r. ⌜ r ≡ record { rows = record { at = at; n = tasks }; table = table; answer = answer } ⌝ }
+fn after_run(at: [Row; TASKS], table: ProcessTable, result: RunResult) -> AfterRun
+    ensures { λ r. ⌜ r ≡ record { rows = record { at = at; n = tasks }; table = table; result = result } ⌝ }
 {
     AfterRun {
         rows: Rows { at, n: TASKS },
         table,
-        answer,
+        result,
     }
 }
 
@@ -356,11 +356,11 @@ pub fn run_owned(
     schedule: &[u8],
     n: Sizes,
 ) -> AfterRun
-    ensures { λ r. ⌜ RunPromise n (lentBuffers rows table (now («constant_tags» .entry)) (now («constant_words» .entry)) (now («register_tags» .entry)) (now («register_words» .entry)) (now (program .entry)) (now (data_tags .entry)) (now (data_words .entry))) (now (schedule .entry)) (r .answer) (lentBuffers (r .rows .at) (r .table) (now («constant_tags» .entry)) (now («constant_words» .entry)) (now («register_tags» .exit)) (now («register_words» .exit)) (now (program .entry)) (now (data_tags .exit)) (now (data_words .exit))) × (r .rows .n ≡ tasks) ⌝ }
+    ensures { λ r. ⌜ RunPromise n (lentBuffers rows table (now («constant_tags» .entry)) (now («constant_words» .entry)) (now («register_tags» .entry)) (now («register_words» .entry)) (now (program .entry)) (now (data_tags .entry)) (now (data_words .entry))) (now (schedule .entry)) (r .result) (lentBuffers (r .rows .at) (r .table) (now («constant_tags» .entry)) (now («constant_words» .entry)) (now («register_tags» .exit)) (now («register_words» .exit)) (now (program .entry)) (now (data_tags .exit)) (now (data_words .exit))) × (r .rows .n ≡ tasks) ⌝ }
 {
     let mut lent_rows = rows;
     let mut lent_table = table;
-    let answer = run(
+    let result = run(
         &mut lent_rows,
         &mut lent_table,
         constant_tags,
@@ -373,7 +373,7 @@ pub fn run_owned(
         schedule,
         n,
     );
-    after_run(lent_rows, lent_table, answer)
+    after_run(lent_rows, lent_table, result)
 }
 
 fn after_step(at: [Row; TASKS], table: ProcessTable, answer: StepAnswer) -> AfterStep

@@ -4,9 +4,9 @@ use Prim.Native.Nat.{ℕ, _+_, _*_}
 use mathlib.Core.Path.{_≡_}
 use mathlib.Core.Bool.{Bool, cond, _&&_}
 use mathlib.Core.Option.{Option, none, some}
-use mathlib.Core.List.{List, [], _∷_}
+use mathlib.Core.List.{List, [], _∷_, _++_}
 use lib.Dec.{leb, ltb}
-use lib.ListN.{length}
+use lib.ListN.{length, drop}
 use Rattle.refusal.specs.declared.Refusal.{Refusal}
 use Rattle.refusal.specs.declared.Refusal.the-variants.{ShortBuffer}
 use Rattle.filling.specs.declared.Filling.{Filling}
@@ -14,7 +14,7 @@ use Rattle.filling.specs.declared.FillAnswer.{FillAnswer}
 use Rattle.filling.specs.declared.FillAnswer.the-variants as fill
 use Rattle.run.specs.declared.Counts.{Counts}
 use Rattle.run.specs.Schedule.{scheduleRefusal}
-use Rattle.run.specs.Run.{Ran, noCounts, run}
+use Rattle.run.specs.Run.{Tally, Ran, noCounts, run}
 use Rattle.library.specs.declared.RunAnswer.{RunAnswer}
 use Rattle.library.specs.declared.RunAnswer.the-variants.{Refused, Counted}
 use Rattle.image.specs.Image.{Image, stateOf, Decoded, bad, good, decode, encode, processLength}
@@ -93,11 +93,19 @@ slices constantTags constantWords registerTags registerWords program dataTags da
 abbrev pub growth : ℕ
 growth = ptCount * processLength
 
--- how many numbers hep_run counts: executed, waved, trapped, idle, tries, and the lengths of the image and of the report
-abbrev pub countNumbers : ℕ
-countNumbers = 7
+-- how many counts a run has, and each task: executed, waved, trapped, idle, tries
+abbrev pub countKinds : ℕ
+countKinds = 5
 
--- the output has room for the image and its growth, the counts for their numbers, the report for 512 bytes
+-- how many numbers of a run stand before those of its tasks: its counts, and the lengths of the image and of the report
+abbrev pub runNumbers : ℕ
+runNumbers = countKinds + 2
+
+-- how many numbers hep_run counts
+abbrev pub countNumbers : ℕ
+countNumbers = runNumbers + tasks * countKinds
+
+-- the output has room for the image and its growth, the counts for their numbers, the report for any report
 unfoldable pub resultsFit : (image output counts report : ℕ) → Bool
 resultsFit image output counts report = leb (image + growth) output && (leb countNumbers counts && leb reportRoom report)
 
@@ -115,9 +123,18 @@ unfoldable pub imageRunAnswer : (image schedule : List ℕ) → Slices → Decod
 imageRunAnswer image schedule l (bad e) = refuses e
 imageRunAnswer image schedule l (good i) = unless (imageRunRefusal image schedule (sizesOf (stateOf i)) l) (run schedule (stateOf i))
 
--- the numbers in their order: executed, waved, trapped, idle, tries, the lengths of the image and of the report
-unfoldable pub countsListed : Counts → (image report : ℕ) → List ℕ
-countsListed c image report = c .executed ∷ c .waved ∷ c .trapped ∷ c .idle ∷ c .tries ∷ image ∷ report ∷ []
+-- the counts of a run, or of a task, in their order
+unfoldable pub kindsListed : Counts → List ℕ
+kindsListed c = c .executed ∷ c .waved ∷ c .trapped ∷ c .idle ∷ c .tries ∷ []
+
+-- those of tasks one after another
+unfoldable pub ownListed : List Counts → List ℕ
+ownListed [] = []
+ownListed (c ∷ cs) = kindsListed c ++ ownListed cs
+
+-- the numbers in their order: the run's counts, the lengths of the image and of the report, each task's own counts from task 1 on
+unfoldable pub countsListed : Tally → (image report : ℕ) → List ℕ
+countsListed n image report = kindsListed (n .counts) ++ (image ∷ report ∷ []) ++ ownListed (drop 1 (n .own))
 
 -- the state after the run in the memories, its image in the output, the counts, the report
 unfoldable pub imageRunLeft : Answer Ran → Slices → Slices
@@ -131,7 +148,7 @@ imageRunLeft (answers r) l = record {
   dataTags = over (r .state .dataWords .tags) (l .dataTags);
   dataWords = over (r .state .dataWords .words) (l .dataWords);
   output = over (encode (r .state)) (l .output);
-  counts = over (countsListed (r .counts) (length (encode (r .state))) (length (reportOf r))) (l .counts);
+  counts = over (countsListed (r .notes) (length (encode (r .state))) (length (reportOf r))) (l .counts);
   report = over (reportOf r) (l .report);
 }
 

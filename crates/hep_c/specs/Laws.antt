@@ -5,3 +5,4 @@ pub mod Runs
 pub mod Fitting
 pub mod Promised
 pub mod Results
+pub mod Counts

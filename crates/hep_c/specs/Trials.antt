@@ -1,6 +1,6 @@
 -- The calls on an image of one task, and the filling of three jobs: refusals at both sides of their boundaries, and what a call leaves.
 use mathlib.Core.Path.{_≡_, refl}
-use mathlib.Core.List.{List, [], _∷_}
+use mathlib.Core.List.{List, [], _∷_, _++_}
 use Prim.Native.Nat.{ℕ, _-_}
 use lib.ListN.{take, replicate}
 use Rattle.image.specs.Image.{decode}
@@ -11,15 +11,17 @@ use Rattle.library.specs.Calls.{unless, checkAnswer}
 use Rattle.library.specs.Trials.{trialBytes, trialled}
 use Rattle.filling.specs.Filling.{fillAnswer}
 use Rattle.filling.specs.Laws.Opened.{opened as filling}
-use Rattle.hep_c.specs.Answers.{numberAnswered, listedAnswer, listedLeft, sizesListed, sizesAnswer, fillingListed, fillingAnswer, Slices, slices, resultsFit, lengthsRefusal, imageRunRefusal, imageRunAnswer, countsListed, imageRunLeft}
-use Rattle.report_text.specs.Texts.{reportRoom}
+use Rattle.hep_c.specs.Answers.{numberAnswered, listedAnswer, listedLeft, sizesListed, sizesAnswer, fillingListed, fillingAnswer, Slices, slices, resultsFit, lengthsRefusal, imageRunRefusal, imageRunAnswer, kindsListed, ownListed, countsListed, imageRunLeft}
+use Rattle.report_text.specs.Texts.{reportRoom, tally}
+
+abbrev zeros : ℕ → List ℕ
+zeros n = replicate n 0
 
 -- slices that are just long enough, each shorter by so many
 unfoldable pub slicesLess : (constantTags constantWords registerTags registerWords program dataTags dataWords output counts report : ℕ) → Slices
 slicesLess constantTags constantWords registerTags registerWords program dataTags dataWords output counts report =
-    let zeros : ℕ → List ℕ = λ n. replicate n 0 in
     slices (zeros (1 - constantTags)) (zeros (1 - constantWords)) (zeros (2 - registerTags)) (zeros (2 - registerWords)) (zeros (16 - program)) (zeros (1 - dataTags)) (zeros (1 - dataWords))
-    (zeros (857 - output)) (zeros (7 - counts)) (zeros (reportRoom - report))
+    (zeros (857 - output)) (zeros (42 - counts)) (zeros (reportRoom - report))
 
 unfoldable pub exactSlices : Slices
 exactSlices = slicesLess 0 0 0 0 0 0 0 0 0 0
@@ -75,9 +77,11 @@ pub record ImageRunTrials : Type 0 where
   pub first : imageRunNumber (take 40 trialBytes) (0 ∷ []) (slicesLess 1 1 1 1 1 1 1 1 1 1) ≡ 1
   pub second : imageRunNumber trialBytes (0 ∷ []) (slicesLess 0 0 0 0 0 0 0 0 1 0) ≡ 7
   pub item : imageRunNumber trialBytes (2 ∷ 0 ∷ []) exactSlices ≡ 10
-  -- a NOP, and a step of a task that has no row
-  pub ran : leftBySchedule (2 ∷ 3 ∷ []) exactSlices .counts ≡ 1 ∷ 0 ∷ 0 ∷ 1 ∷ 0 ∷ 217 ∷ 32 ∷ []
-  pub listed : countsListed (counted 1 2 3 4 5) 6 7 ≡ 1 ∷ 2 ∷ 3 ∷ 4 ∷ 5 ∷ 6 ∷ 7 ∷ []
+  -- a NOP, and a step of a task that has no row: each under its task's number
+  pub ran : leftBySchedule (2 ∷ 3 ∷ []) exactSlices .counts
+      ≡ (1 ∷ 0 ∷ 0 ∷ 1 ∷ 0 ∷ 217 ∷ 47 ∷ []) ++ zeros 5 ++ (1 ∷ 0 ∷ 0 ∷ 0 ∷ 0 ∷ []) ++ (0 ∷ 0 ∷ 0 ∷ 1 ∷ 0 ∷ []) ++ zeros 20
+  pub listed : countsListed (tally (counted 1 2 3 4 5) (counted 9 9 9 9 9 ∷ counted 8 9 10 11 12 ∷ counted 13 14 15 16 17 ∷ [])) 6 7
+      ≡ 1 ∷ 2 ∷ 3 ∷ 4 ∷ 5 ∷ 6 ∷ 7 ∷ 8 ∷ 9 ∷ 10 ∷ 11 ∷ 12 ∷ 13 ∷ 14 ∷ 15 ∷ 16 ∷ 17 ∷ []
   -- refused: nothing is touched
   pub left : leftBySchedule (2 ∷ 0 ∷ []) exactSlices ≡ exactSlices
 
@@ -90,7 +94,7 @@ unfolding filling numberOf numberAnswered listedAnswer listedLeft unless filling
 fill-trials = record { filled = refl; listed = refl; short = refl; tries = refl; jobs = refl; left-short = refl; left-tries = refl; left-jobs = refl }
 
 pub image-run-trials : ImageRunTrials
-unfolding trialled opened numberAnswered resultsFit lengthsRefusal imageRunRefusal imageRunAnswer countsListed imageRunLeft slicesLess exactSlices imageRunNumber leftBySchedule
+unfolding trialled opened numberAnswered resultsFit lengthsRefusal imageRunRefusal imageRunAnswer kindsListed ownListed countsListed imageRunLeft slicesLess exactSlices imageRunNumber leftBySchedule
 image-run-trials = record {
   enough = refl;
   constantTags = refl;

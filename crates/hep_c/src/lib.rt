@@ -1,8 +1,8 @@
 // The library for programs in other languages: numbers and slices alone. include/hep.h says what each function promises.
 ghost use mathlib.Core.Path.{_≡_};
 ghost use mathlib.Core.Option.{none};
-ghost use Prim.Native.Nat.{_≤_};
-ghost use lib.ListN.{length};
+ghost use Prim.Native.Nat.{_*_, _≤_};
+ghost use lib.ListN.{length, drop};
 ghost use Rattle.image.specs.Image.{decode};
 ghost use Rattle.image.specs.Fields.{over};
 ghost use Rattle.run.specs.Schedule.{scheduleRefusal};
@@ -12,9 +12,10 @@ ghost use Rattle.library.specs.Promises.{readAnswered};
 ghost use Rattle.library.specs.Trials.{numbered};
 ghost use Rattle.library.specs.Held.{roomFrom};
 ghost use Rattle.report.specs.Report.{outputOf};
+ghost use Rattle.report_text.specs.Texts.{tally};
 ghost use Rattle.batch.specs.Output.{bytesCopied, copiedInto};
 ghost use Rattle.filling.specs.Filling.{fillAnswer};
-ghost use Rattle.hep_c.specs.Answers.{numberAnswered, listedAnswer, listedLeft, sizesListed, sizesAnswer, fillingListed, fillingAnswer, slices, resultsFit, lengthsRefusal, imageRunRefusal, imageRunAnswer, countNumbers, countsListed, imageRunLeft, ImageRunPromise, countsAnswered};
+ghost use Rattle.hep_c.specs.Answers.{numberAnswered, listedAnswer, listedLeft, sizesListed, sizesAnswer, fillingListed, fillingAnswer, slices, resultsFit, lengthsRefusal, imageRunRefusal, imageRunAnswer, countKinds, countNumbers, kindsListed, ownListed, countsListed, imageRunLeft, ImageRunPromise, countsAnswered};
 ghost use Rattle.window.specs.Limits.{tasks};
 use filling::FillAnswer;
 use filling::Filling;
@@ -26,14 +27,21 @@ use refusal::Refusal;
 use report_text::REPORT_ROOM;
 use run::Counts;
 use run::MOST_ITEMS;
+use run::TASK_NUMBERS;
 use step::PTS;
 use window::TASKS;
 
 // How much longer an image may get: every process in it.
 const GROWTH: usize = PTS * PROCESS_BYTES;
 
+// How many counts a run has, and each task.
+const COUNT_KINDS: usize = 5;
+
+// How many numbers of a run stand before those of its tasks: its counts, and the lengths of its image and report.
+const RUN_NUMBERS: usize = COUNT_KINDS + 2;
+
 // How many numbers hep_run counts.
-const COUNTS: usize = 7;
+const COUNTS: usize = RUN_NUMBERS + TASKS * COUNT_KINDS;
 
 // ---- numbers
 
@@ -186,21 +194,48 @@ fn lengths_number(
     schedule_number(schedule)
 }
 
-// The counts of a run and the lengths of its image and report.
-fn put_counts(c: Counts, image: usize, report: usize, counts: &mut [u64])
-    requires { ⌜ countNumbers ≤ length (now counts) ⌝ }
-    ensures { λ _. ⌜ now (counts .exit) ≡ over (countsListed c image report) (now (counts .entry)) ⌝ }
+// The counts of a run, or of a task.
+fn put_kinds(c: Counts, out: &mut [u64])
+    requires { ⌜ countKinds ≤ length (now out) ⌝ }
+    ensures { λ _. ⌜ now (out .exit) ≡ over (kindsListed c) (now (out .entry)) ⌝ }
 {
     let numbers = [
-        c.executed,
-        c.waved,
-        c.trapped,
-        c.idle,
-        c.tries,
-        image as u64,
-        report as u64,
+        c.executed as u64,
+        c.waved as u64,
+        c.trapped as u64,
+        c.idle as u64,
+        c.tries as u64,
     ];
-    put_numbers(&numbers, counts);
+    put_numbers(&numbers, out);
+}
+
+// Each task's own counts, task 1 first.
+fn put_own(own: [Counts; TASK_NUMBERS], out: &mut [u64])
+    requires { ⌜ tasks * countKinds ≤ length (now out) ⌝ }
+    ensures { λ _. ⌜ now (out .exit) ≡ over (ownListed (drop 1 own)) (now (out .entry)) ⌝ }
+{
+    let mut i = 0;
+    while i < TASKS {
+        put_kinds(own[i + 1], &mut out[i * COUNT_KINDS..]);
+        i += 1;
+    }
+}
+
+// The counts of a run, the lengths of its image and report, and each task's own counts.
+fn put_counts(
+    c: Counts,
+    own: [Counts; TASK_NUMBERS],
+    image: usize,
+    report: usize,
+    counts: &mut [u64],
+)
+    requires { ⌜ countNumbers ≤ length (now counts) ⌝ }
+    ensures { λ _. ⌜ now (counts .exit) ≡ over (countsListed (tally c own) image report) (now (counts .entry)) ⌝ }
+{
+    let lengths = [image as u64, report as u64];
+    put_kinds(c, counts);
+    put_numbers(&lengths, &mut counts[COUNT_KINDS..]);
+    put_own(own, &mut counts[RUN_NUMBERS..]);
 }
 
 // Reads, runs, writes and reports, where nothing is refused.
@@ -252,7 +287,9 @@ fn run_accepted(
     );
     let at = y.rows.at;
     let table = y.table;
-    let answer = y.answer;
+    let result = y.result;
+    let own = result.own;
+    let answer = result.answer;
     let c = counts_answered(answer);
     let w = hep::write_owned(
         at,
@@ -267,8 +304,8 @@ fn run_accepted(
         output,
         n,
     );
-    let k = report_text::report_text(at, n.rows, table, c, report);
-    put_counts(c, image_write::length_written(w), k, counts);
+    let k = report_text::report_text(at, n.rows, table, c, own, report);
+    put_counts(c, own, image_write::length_written(w), k, counts);
 }
 
 // A run of an image that was found sound: 7, then 9, then 10.

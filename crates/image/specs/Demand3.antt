@@ -6,9 +6,9 @@ use Prim.Native.Nat.{ℕ}
 use Rattle.step.specs.Queues.{occ}
 use Rattle.step.specs.Laws.Sound.{inv-of}
 use Rattle.run.specs.Schedule.{scheduleSound}
-use Rattle.run.specs.Run.{run}
+use Rattle.run.specs.Run.{ownCounts, run}
 use Rattle.run.specs.Compared.{Compared, SameProgram, SameConstants, Alone}
-use Rattle.run.specs.Laws.Isolation.{isolation}
+use Rattle.run.specs.Laws.Isolation.{isolation, own-isolation}
 use Rattle.image.specs.Codec.{Bytes}
 use Rattle.image.specs.Image.{Image, stateOf, good, decode}
 use Rattle.image.specs.Laws.DecodeSound.{decode-sound}
@@ -45,5 +45,14 @@ pub demand-3 : (t : ℕ) (bytes bytes′ schedule schedule′ : List ℕ) (i i�
     → Compared t (run schedule (stateOf i) .state) (run schedule′ (stateOf i′) .state)
 demand-3 t b b′ ts us i i′ r r′ a =
     isolation t ts us (stateOf i) (stateOf i′)
+    (inv-of (stateOf i) (decode-sound b (r .string) i (r .accepted))) (inv-of (stateOf i′) (decode-sound b′ (r′ .string) i′ (r′ .accepted)))
+    (a .alone) (a .alone′) (a .task) (a .program) (a .constants) (a .items) (r .down) (r′ .down)
+
+-- and so are its own counts
+pub demand-3-counts : (t : ℕ) (bytes bytes′ schedule schedule′ : List ℕ) (i i′ : Image)
+    → WholeRun bytes schedule i → WholeRun bytes′ schedule′ i′ → Agreed t schedule schedule′ i i′
+    → ownCounts t (run schedule (stateOf i) .notes) ≡ ownCounts t (run schedule′ (stateOf i′) .notes)
+demand-3-counts t b b′ ts us i i′ r r′ a =
+    own-isolation t ts us (stateOf i) (stateOf i′)
     (inv-of (stateOf i) (decode-sound b (r .string) i (r .accepted))) (inv-of (stateOf i′) (decode-sound b′ (r′ .string) i′ (r′ .accepted)))
     (a .alone) (a .alone′) (a .task) (a .program) (a .constants) (a .items) (r .down) (r′ .down)

@@ -11,9 +11,8 @@ use Rattle.refusal.specs.declared.Refusal.the-variants.{ShortBuffer, UnsoundSta
 use Rattle.step.specs.declared.Ending.{Ending}
 use Rattle.step.specs.Step.{item}
 use Rattle.step.specs.Soundness.{sound}
-use Rattle.run.specs.declared.Counts.{Counts}
 use Rattle.run.specs.Schedule.{itemSound, scheduleRefusal}
-use Rattle.run.specs.Run.{run}
+use Rattle.run.specs.Run.{Tally, run}
 use Rattle.image.specs.Image.{stateOf, Decoded, bad, good, decode, encode}
 use Rattle.image.specs.Fields.{over}
 use Rattle.library.specs.declared.Sizes.{Sizes}
@@ -79,13 +78,13 @@ unfoldable pub orElse : Option Refusal → Option Refusal → Option Refusal
 orElse (some e) f = some e
 orElse none f = f
 
--- ---- a run: 8, then 9, then 10. Its answer is the counts of the endings
+-- ---- a run: 8, then 9, then 10. Its answer is the counts of the endings, in all and of each task number
 
 unfoldable pub runRefusal : Sizes → Buffers → (schedule : List ℕ) → Option Refusal
 runRefusal n b schedule = orElse (stateRefusal n b) (scheduleRefusal schedule)
 
-unfoldable pub runAnswer : Sizes → Buffers → (schedule : List ℕ) → Answer Counts
-runAnswer n b schedule = unless (runRefusal n b schedule) (run schedule (fieldsIn n b) .counts)
+unfoldable pub runAnswer : Sizes → Buffers → (schedule : List ℕ) → Answer Tally
+runAnswer n b schedule = unless (runRefusal n b schedule) (run schedule (fieldsIn n b) .notes)
 
 unfoldable pub runLeaves : Sizes → Buffers → (schedule : List ℕ) → Buffers
 runLeaves n b schedule = leaving (runAnswer n b schedule) b (holding (run schedule (fieldsIn n b) .state) b)

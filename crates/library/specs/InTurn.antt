@@ -9,9 +9,8 @@ use lib.Seq.{take-append-seam}
 use Rattle.step.specs.State.{State}
 use Rattle.step.specs.Step.{accountOf, item}
 use Rattle.step.specs.Soundness.{sound}
-use Rattle.run.specs.declared.Counts.{Counts}
 use Rattle.run.specs.Schedule.{scheduleSound}
-use Rattle.run.specs.Run.{counted, run}
+use Rattle.run.specs.Run.{Tally, tallied, run}
 use Rattle.image.specs.Codec.{Bytes}
 use Rattle.image.specs.Image.{Image, stateOf, imageOf, good, decode, encode}
 use Rattle.image.specs.Fields.{SameFields, over}
@@ -34,7 +33,7 @@ readAndRun b bytes schedule i = runLeaves (sizesRead i) (readLeaves b bytes) sch
 pub record ReadThenRun (b : Buffers) (bytes schedule : List ℕ) (i : Image) : Type 0 where
   pub read : readAnswer (roomOf b) bytes ≡ answers (sizesRead i)
   pub unrefused : runRefusal (sizesRead i) (readLeaves b bytes) schedule ≡ none
-  pub ran : runAnswer (sizesRead i) (readLeaves b bytes) schedule ≡ answers (run schedule (stateOf i) .counts)
+  pub ran : runAnswer (sizesRead i) (readLeaves b bytes) schedule ≡ answers (run schedule (stateOf i) .notes)
   pub held : fieldsIn (sizesRead i) (readAndRun b bytes schedule i) ≡ run schedule (stateOf i) .state
 
 -- an accepted image, enough room, an accepted schedule
@@ -94,15 +93,15 @@ run-then-write n b schedule output e h =
 -- one item, then the others, is a run of all: neither call is refused, what the item did is counted with the others, and the buffers are left the
 -- same
 pub record StepThenRun (n : Sizes) (b : Buffers) (t : ℕ) (ts : List ℕ) : Type 0 where
-  pub others : Counts
+  pub others : Tally
   pub stepped : stepAnswer n b t ≡ answers (item t (fieldsIn n b) .ending)
   pub ran : runAnswer n (stepLeaves n b t) ts ≡ answers others
-  pub answer : runAnswer n b (t ∷ ts) ≡ answers (counted (accountOf (item t (fieldsIn n b))) others)
+  pub answer : runAnswer n b (t ∷ ts) ≡ answers (tallied t (accountOf (item t (fieldsIn n b))) others)
   pub leaves : runLeaves n (stepLeaves n b t) ts ≡ runLeaves n b (t ∷ ts)
 
 pub step-then-run : (n : Sizes) (b : Buffers) (t : ℕ) (ts : List ℕ) → runRefusal n b (t ∷ ts) ≡ none → StepThenRun n b t ts
 step-then-run n b t ts e = record {
-  others = run ts (item t (fieldsIn n b) .state) .counts;
+  others = run ts (item t (fieldsIn n b) .state) .notes;
   stepped = step-answers n b t ts e;
   ran = others-answer n b t ts e;
   answer = all-answers n b t ts e;

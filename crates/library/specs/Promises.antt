@@ -5,7 +5,8 @@ use mathlib.Core.List.{List}
 use lib.ListN.{length}
 use Rattle.refusal.specs.Numbers.{numberOf}
 use Rattle.step.specs.declared.Ending.{Ending}
-use Rattle.run.specs.declared.Counts.{Counts}
+use Rattle.run.specs.Run.{Tally, noTally}
+use Rattle.library.specs.declared.RunResult.{RunResult}
 use Rattle.library.specs.declared.RunAnswer.{RunAnswer}
 use Rattle.library.specs.declared.RunAnswer.the-variants.{Refused, Counted}
 use Rattle.library.specs.declared.StepAnswer.{StepAnswer}
@@ -34,18 +35,18 @@ pub record ReadPromise (before : Buffers) (bytes : List ℕ) (r : ReadAnswer) (a
   pub number : readNumber r ≡ numberAnswered (readAnswer (roomOf before) bytes)
   pub leaves : after ≡ readLeaves before bytes
 
--- a run answers its refusal, or the counts of the endings
-unfoldable pub runAnswered : Answer Counts → RunAnswer
-runAnswered (refuses e) = Refused e
-runAnswered (answers c) = Counted c
+-- a run answers its refusal, and no counts, or the counts of the endings, in all and of each task number
+unfoldable pub runAnswered : Answer Tally → RunResult
+runAnswered (refuses e) = record { answer = Refused e; own = noTally .own }
+runAnswered (answers n) = record { answer = Counted (n .counts); own = n .own }
 
 unfoldable pub runNumber : RunAnswer → ℕ
 runNumber (Refused e) = numberOf e
 runNumber (Counted c) = 0
 
-pub record RunPromise (n : Sizes) (before : Buffers) (schedule : List ℕ) (r : RunAnswer) (after : Buffers) : Type 0 where
+pub record RunPromise (n : Sizes) (before : Buffers) (schedule : List ℕ) (r : RunResult) (after : Buffers) : Type 0 where
   pub answer : r ≡ runAnswered (runAnswer n before schedule)
-  pub number : runNumber r ≡ numberAnswered (runAnswer n before schedule)
+  pub number : runNumber (r .answer) ≡ numberAnswered (runAnswer n before schedule)
   pub leaves : after ≡ runLeaves n before schedule
 
 -- a step answers its refusal, or how it ends

@@ -5,6 +5,7 @@ use mathlib.Core.List.{List, [], _∷_, _++_}
 use Prim.Native.Nat.{ℕ, _-_}
 use lib.ListN.{length, getD, take, drop, replicate}
 use Rattle.refusal.specs.declared.Refusal.{Refusal}
+use Rattle.refusal.specs.declared.Refusal.the-variants.{ItemOutOfRange}
 use Rattle.refusal.specs.Numbers.{numberOf}
 use Rattle.window.specs.Memories.{cell}
 use Rattle.step.specs.declared.ProcessTable.{ProcessTable}
@@ -12,10 +13,13 @@ use Rattle.step.specs.Act.{tableOf}
 use Rattle.step.specs.Step.{noTrap}
 use Rattle.step.specs.declared.Ending.the-variants.{Executed, Idle}
 use Rattle.step.specs.declared.Queue.{Queue}
+use Rattle.run.specs.Run.{counts, noCounts}
 use Rattle.image.specs.Image.{Image, imageCodec, queueOf, stateOf}
 use Rattle.library.specs.declared.Sizes.{Sizes}
 use Rattle.library.specs.Buffers.{Buffers, Room, spareIn, holding}
-use Rattle.library.specs.Calls.{answers, readRefusal, readAnswer, readLeaves, runRefusal, runLeaves, stepRefusal, stepAnswer, stepLeaves, writeRefusal, writeAnswer, writeLeaves}
+use Rattle.library.specs.Calls.{answers, readRefusal, readAnswer, readLeaves, runRefusal, runAnswer, runLeaves, stepRefusal, stepAnswer, stepLeaves, writeRefusal, writeAnswer, writeLeaves}
+use Rattle.library.specs.declared.RunAnswer.the-variants.{Refused, Counted}
+use Rattle.library.specs.Promises.{runAnswered}
 use Rattle.library.specs.Laws.Opened.{opened}
 
 -- the number of a refusal, 0 where there is none
@@ -210,6 +214,11 @@ pub record RunTrials : Type 0 where
   pub item : numbered (runRefusal trialSizes (buffersOf exact) (2 ∷ 0 ∷ [])) ≡ 10
   -- refused: nothing is touched
   pub left : runLeaves trialSizes (buffersOf exact) (2 ∷ 0 ∷ []) ≡ buffersOf exact
+  -- and no task has counts
+  pub refused : runAnswered (runAnswer trialSizes (buffersOf exact) (2 ∷ 0 ∷ [])) ≡ record { answer = Refused ItemOutOfRange; own = replicate 8 noCounts }
+  -- the NOP of task 2, and an item of task 3, which has no row: each under its task's number
+  pub ran : runAnswered (runAnswer trialSizes (buffersOf exact) (2 ∷ 3 ∷ []))
+      ≡ record { answer = Counted (counts 1 0 0 1 0); own = noCounts ∷ noCounts ∷ counts 1 0 0 0 0 ∷ counts 0 0 0 1 0 ∷ replicate 4 noCounts }
 
 pub record StepTrials : Type 0 where
   -- a state that no image reads as: 8, before 10; a state that is one, and a task that isn't: 10
@@ -267,7 +276,7 @@ read-trials = record {
 }
 
 pub run-trials : RunTrials
-unfolding trialled
+unfolding trialled runAnswered
 run-trials = record {
   enough = refl;
   rows = refl;
@@ -293,6 +302,8 @@ run-trials = record {
   long = refl;
   item = refl;
   left = refl;
+  refused = refl;
+  ran = refl;
 }
 
 pub step-trials : StepTrials

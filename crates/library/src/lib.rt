@@ -1,6 +1,7 @@
 // States in lent buffers, and the answers of the library's calls: what each call answers and leaves is defined here.
 use refusal::Refusal;
 use run::Counts;
+use run::TASK_NUMBERS;
 use step::Ending;
 use step::ProcessTable;
 use window::Row;
@@ -33,6 +34,12 @@ pub enum RunAnswer {
     Counted(Counts),
 }
 
+// What a run answers, with the counts of each task number, of task t at t; none of a run that is refused.
+pub struct RunResult {
+    pub answer: RunAnswer,
+    pub own: [Counts; TASK_NUMBERS],
+}
+
 // What a step answers: why it is refused, or how it ended.
 pub enum StepAnswer {
     Refused(Refusal),
@@ -56,7 +63,7 @@ pub struct AfterRead {
 pub struct AfterRun {
     pub rows: Rows,
     pub table: ProcessTable,
-    pub answer: RunAnswer,
+    pub result: RunResult,
 }
 
 // What a step answers, and what it leaves besides the lent memories.

@@ -18,12 +18,12 @@ use Rattle.step.specs.State.{processesOf, waitingOf}
 use Rattle.step.specs.Owned.{owner, own}
 use Rattle.step.specs.Act.{trappedRow}
 use Rattle.step.specs.Step.{noTrap}
-use Rattle.run.specs.Run.{counts, Ran, run}
+use Rattle.run.specs.Run.{counts, ownCounts, Ran, run}
 use Rattle.run.specs.Compared.{Compared, cut}
 use Rattle.run.specs.Laws.AloneTest.{alone-of}
 use Rattle.image.specs.declared.Process.{Process}
 use Rattle.image.specs.Image.{Image, imageCodec, stateOf}
-use Rattle.image.specs.Demand3.{WholeRun, Agreed, demand-3}
+use Rattle.image.specs.Demand3.{WholeRun, Agreed, demand-3, demand-3-counts}
 use Rattle.report.specs.Report.{scheduleCodec, mostInput, outputOf}
 use Rattle.report.specs.Letters.{letters}
 use Rattle.report.specs.Lines.{WholeInput, lineOf, taskLine}
@@ -188,7 +188,10 @@ pub record Instance : Type 0 where
   -- creator and created process wait at the LODI; the process that loaded the sum is two instructions further
   pub processes : processesOf (ranA .state .table .users) 1 ≡ 6 ∷ []
   pub waiting : waitingOf (ranA .state .table .users) 1 ≡ 4 ∷ 4 ∷ []
-  pub countsA : ranA .counts ≡ counts 11 2 0 0 5
+  pub countsA : ranA .notes .counts ≡ counts 11 2 0 0 5
+  -- its own counts are those of its seven items, after both runs
+  pub own-counts : ownCounts 1 (ranA .notes) ≡ counts 5 2 0 0 5
+  pub own-equal : ownCounts 1 (ranA .notes) ≡ ownCounts 1 (ranB .notes)
   -- task 2 filled two registers and its first data word
   pub registersA : cut (registerWindow (instanceRow 2 1)) (ranA .state .registers .words) ≡ (2 ^ 64 - 1) ∷ (2 ^ 64 - 1) ∷ 0 ∷ 0 ∷ []
   pub datumA : cellAt (ranA .state .dataWords) 32 ≡ cell 1 (2 ^ 64 - 1)
@@ -196,10 +199,10 @@ pub record Instance : Type 0 where
   pub registersB : cut (registerWindow (instanceRow 3 1)) (ranB .state .registers .words) ≡ 300 ∷ 100 ∷ 0 ∷ 0 ∷ []
   pub datumB : cellAt (ranB .state .dataWords) 32 ≡ cell 1 100
   pub trapB : own 3 (ranB .state) ≡ some (owner (trappedRow (instanceRow 3 1) PrivilegedInstruction 8) (8 ∷ []) [])
-  pub countsB : ranB .counts ≡ counts 12 2 1 1 5
+  pub countsB : ranB .notes .counts ≡ counts 12 2 1 1 5
   -- by demand 3 of the report; the line of task 1
-  pub reported : SameLine 1 (ranA .state) (ranB .state) (outputOf (inputOf scheduleA bytesA)) (outputOf (inputOf scheduleB bytesB))
-  pub line : taskLine 1 (ranA .state) ≡ some (letters "1 3 -- -----\n")
+  pub reported : SameLine 1 ranA ranB (outputOf (inputOf scheduleA bytesA)) (outputOf (inputOf scheduleB bytesB))
+  pub line : taskLine 1 ranA ≡ some (letters "1 3 -- ----- E5 W2 T0 I0 S5\n")
 
 pub isolated : Instance
 unfolding images ranA ranB lineOf taskLine letters
@@ -210,6 +213,8 @@ isolated = record {
   processes = refl;
   waiting = refl;
   countsA = refl;
+  own-counts = refl;
+  own-equal = demand-3-counts 1 bytesA bytesB scheduleA scheduleB imageA imageB runA runB agreed;
   registersA = refl;
   datumA = refl;
   registersB = refl;

@@ -15,7 +15,7 @@ use Rattle.refusal.specs.declared.Refusal.{Refusal}
 use Rattle.refusal.specs.declared.Refusal.the-variants.{ItemOutOfRange, InputTooLong}
 use Rattle.refusal.specs.Numbers.{numberOf}
 use Rattle.run.specs.Schedule.{mostItems, scheduleRefusal}
-use Rattle.run.specs.Run.{Ran, run}
+use Rattle.run.specs.Run.{Tally, ownCounts, Ran, run}
 use Rattle.image.specs.Codec.{Codec, Result, refused, accepted, num, uniformSection}
 use Rattle.image.specs.Image.{Image, stateOf, Decoded, bad, good, decode}
 
@@ -57,32 +57,35 @@ kindText kind = cond (eqb kind noTrap) (45 ∷ 45 ∷ []) (hex 2 kind)
 unfoldable pub pcText : (kind psw : ℕ) → List ℕ
 pcText kind psw = cond (eqb kind noTrap) (45 ∷ 45 ∷ 45 ∷ 45 ∷ 45 ∷ []) (hex 5 (pcOf psw))
 
--- a line per row: task, live processes, trap kind, trapped PC
-unfoldable pub rowLine : ProcessTable → Row → List ℕ
-rowLine table r =
-    decimal (r .task)
-    ++ (space ++ decimal (liveCount (table .users) (r .task)))
-    ++ (space ++ kindText (r .kind))
-    ++ (space ++ pcText (r .kind) (r .psw))
-    ++ newline
-
-unfoldable pub rowLines : ProcessTable → List Row → List ℕ
-rowLines table [] = []
-rowLines table (r ∷ rs) = rowLine table r ++ rowLines table rs
-
--- E, W, T, I, S and their counts (S the tries), CF and the flag
-unfoldable pub countsLine : Counts → (flag : ℕ) → List ℕ
-countsLine c flag =
+-- E, W, T, I, S and their counts (S the tries)
+unfoldable pub countsText : Counts → List ℕ
+countsText c =
     (69 ∷ decimal (c .executed))
     ++ (space ++ (87 ∷ decimal (c .waved)))
     ++ (space ++ (84 ∷ decimal (c .trapped)))
     ++ (space ++ (73 ∷ decimal (c .idle)))
     ++ (space ++ (83 ∷ decimal (c .tries)))
-    ++ (space ++ (67 ∷ 70 ∷ decimal flag))
+
+-- a line per row: task, live processes, trap kind, trapped PC, the task's own counts
+unfoldable pub rowLine : ProcessTable → Row → Counts → List ℕ
+rowLine table r c =
+    decimal (r .task)
+    ++ (space ++ decimal (liveCount (table .users) (r .task)))
+    ++ (space ++ kindText (r .kind))
+    ++ (space ++ pcText (r .kind) (r .psw))
+    ++ (space ++ countsText c)
     ++ newline
 
+unfoldable pub rowLines : ProcessTable → Tally → List Row → List ℕ
+rowLines table n [] = []
+rowLines table n (r ∷ rs) = rowLine table r (ownCounts (r .task) n) ++ rowLines table n rs
+
+-- the counts, CF and the flag
+unfoldable pub countsLine : Counts → (flag : ℕ) → List ℕ
+countsLine c flag = countsText c ++ (space ++ (67 ∷ 70 ∷ decimal flag)) ++ newline
+
 unfoldable pub reportOf : Ran → List ℕ
-reportOf r = rowLines (r .state .table) (r .state .rows) ++ countsLine (r .counts) (r .state .table .users .flag)
+reportOf r = rowLines (r .state .table) (r .notes) (r .state .rows) ++ countsLine (r .notes .counts) (r .state .table .users .flag)
 
 -- refused: one line such as `R3`
 unfoldable pub refusalLine : Refusal → List ℕ

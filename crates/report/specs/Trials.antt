@@ -18,7 +18,7 @@ use Rattle.step.specs.Act.{tableOf}
 use Rattle.step.specs.Step.{noTrap, Item, item}
 use Rattle.step.specs.SfuInstances.{queueWith, rowWith, sfuProgram, sfuPsws, sfuState}
 use Rattle.image.specs.Image.{queueOf}
-use Rattle.run.specs.Run.{run}
+use Rattle.run.specs.Run.{counts, noCounts, Ran, run}
 use Rattle.report.specs.Report.{reportOf, outputOf}
 use Rattle.report.specs.Letters.{letters, unspaced, hexValue, pairsOf, hexBytes}
 use Rattle.report.specs.Laws.Opened.{opened}
@@ -26,6 +26,9 @@ use Rattle.report.specs.Laws.Opened.{opened}
 -- CB 4095, RB 3, RL 3, DB 1, DL 1: registers 6 and 7, data words 32 to 63
 unfoldable pub trialRow : Row
 trialRow = record { task = 1; cb = 4095; rb = 3; rl = 3; pb = 0; pl = 0; db = 1; dl = 1; kind = noTrap; psw = 0 }
+
+unfoldable pub rowOf : (task : ℕ) → Row
+rowOf t = record { task = t; cb = 0; rb = 0; rl = 0; pb = 0; pl = 0; db = 0; dl = 0; kind = noTrap; psw = 0 }
 
 unfoldable pub upTo : ℕ → List ℕ
 upTo zero = []
@@ -125,28 +128,46 @@ printedInput =
     hexBytes "0001 01 | 01 01 0000 0001 0000 0001 0000 00000001 00000000 FF 0000000000000000 | 01 00 00 01 0000000000000000 | 0000 | 0000 | 00000000 | 00000000"
 
 unfoldable pub printedOutput : List ℕ
-printedOutput = letters "1 1 14 00000\nE0 W0 T1 I0 S0 CF0\n"
+printedOutput = letters "1 1 14 00000 E0 W0 T1 I0 S0\nE0 W0 T1 I0 S0 CF0\n"
 
 -- the same image under a schedule of two items
 unfoldable pub twoItems : List ℕ
 twoItems =
     hexBytes "0002 01 01 | 01 01 0000 0001 0000 0001 0000 00000001 00000000 FF 0000000000000000 | 01 00 00 01 0000000000000000 | 0000 | 0000 | 00000000 | 00000000"
 
+-- and under one of an item of task 1 and an item of task 3
+unfoldable pub otherItem : List ℕ
+otherItem =
+    hexBytes "0002 01 03 | 01 01 0000 0001 0000 0001 0000 00000001 00000000 FF 0000000000000000 | 01 00 00 01 0000000000000000 | 0000 | 0000 | 00000000 | 00000000"
+
+-- a run of two tasks, the row of task 5 before that of task 2, each count another number
+unfoldable pub counted : Ran
+counted =
+    let s : State = machine 1 0 0 0 in
+    record {
+      state = record { rows = rowOf 5 ∷ rowOf 2 ∷ []; table = s .table; constants = s .constants; registers = s .registers; program = s .program; dataWords = s .dataWords };
+      notes = record { counts = counts 1 2 3 4 5; own = replicate 2 noCounts ++ (counts 21 22 23 24 25 ∷ noCounts ∷ noCounts ∷ counts 51 52 53 54 55 ∷ []) };
+    }
+
 -- the starred trials, the printed case from its input bytes to its two lines, and what document 01 excludes
 pub record Trials : Type 0 where
   pub starred-ones : Starred
   pub printed : outputOf printedInput ≡ printedOutput
   -- two items: the second finds the task trapped
-  pub two : outputOf twoItems ≡ letters "1 1 14 00000\nE0 W0 T1 I1 S0 CF0\n"
+  pub two : outputOf twoItems ≡ letters "1 1 14 00000 E0 W0 T1 I1 S0\nE0 W0 T1 I1 S0 CF0\n"
+  -- an item of an unlisted task counts under its number, which has no line
+  pub unlisted : outputOf otherItem ≡ letters "1 1 14 00000 E0 W0 T1 I0 S0\nE0 W0 T1 I1 S0 CF0\n"
+  -- a line has the counts of its task, the last line those of the run
+  pub own : reportOf counted ≡ letters "5 0 -- ----- E51 W52 T53 I54 S55\n2 0 -- ----- E21 W22 T23 I24 S25\nE1 W2 T3 I4 S5 CF0\n"
   -- three processes, of which two leave by QT always
-  pub quits : reportOf (run (1 ∷ 1 ∷ []) (machine 3 (instructionWord 0x1970 0 0 0x4000) 0 0)) ≡ letters "1 1 -- -----\nE2 W0 T0 I0 S0 CF0\n"
+  pub quits : reportOf (run (1 ∷ 1 ∷ []) (machine 3 (instructionWord 0x1970 0 0 0x4000) 0 0)) ≡ letters "1 1 -- ----- E2 W0 T0 I0 S0\nE2 W0 T0 I0 S0 CF0\n"
   -- a process in each queue: the try waits, and the step executes
-  pub tried : reportOf (run (1 ∷ []) (sfuState (rowWith noTrap 0) (1 ∷ []) (0 ∷ []) 0 0 0)) ≡ letters "1 2 -- -----\nE1 W0 T0 I0 S1 CF0\n"
+  pub tried : reportOf (run (1 ∷ []) (sfuState (rowWith noTrap 0) (1 ∷ []) (0 ∷ []) 0 0 0)) ≡ letters "1 2 -- ----- E1 W0 T0 I0 S1\nE1 W0 T0 I0 S1 CF0\n"
   -- the longest input, and a byte more: 11
   pub longest : outputOf (replicate 65536 0) ≡ letters "R4\n"
   pub longer : outputOf (replicate 65537 0) ≡ letters "R11\n"
   pub exclusions : Excluded
 
 pub trials : Trials
-unfolding opened letters unspaced hexValue pairsOf hexBytes printedInput printedOutput twoItems instructionWord trialRow upTo machine queueWith rowWith sfuProgram sfuPsws sfuState
-trials = record { starred-ones = starred; printed = refl; two = refl; quits = refl; tried = refl; longest = refl; longer = refl; exclusions = excluded }
+unfolding opened letters unspaced hexValue pairsOf hexBytes printedInput printedOutput twoItems otherItem instructionWord trialRow rowOf upTo machine counted queueWith rowWith sfuProgram sfuPsws sfuState
+trials = record { starred-ones = starred; printed = refl; two = refl; unlisted = refl; own = refl; quits = refl; tried = refl; longest = refl; longer = refl; exclusions = excluded }

@@ -2,6 +2,7 @@
 pub mod Opened
 pub mod Run
 pub mod RunAgreement
+pub mod Tallies
 pub mod Isolation
 pub mod AloneTest
 pub mod RunSound

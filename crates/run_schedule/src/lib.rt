@@ -15,23 +15,24 @@ ghost use Rattle.step.specs.Queues.{places, numbers, ptCount};
 ghost use Rattle.step.specs.State.{noQueue};
 ghost use Rattle.step.specs.Code.Performs.{Performs};
 ghost use Rattle.step.specs.Soundness.{every};
+ghost use Rattle.run.specs.Run.{noCounts, plus, summed};
 ghost use Rattle.run.specs.Schedule.{itemSound, mostItems};
 ghost use Rattle.run_rings.specs.Code.Rings.{queuesIn};
 ghost use Rattle.run_rings.specs.Code.Spans.{Windows, allSpanPlaces};
 ghost use Rattle.run_next.specs.Code.Numbers.{cells};
-ghost use Rattle.run_next.specs.Code.Tally.{cellsSum, endedIn, countsIn, tallyCells};
+ghost use Rattle.run_next.specs.Code.Tally.{ownIn, allOwn, tallyCells};
 ghost use Rattle.run_schedule.specs.Code.Carried.{openState, Opens, Opened, Begins, Ends, usersOf, Small};
 ghost use Rattle.run_schedule.specs.Code.OneItem.{trapOf, endingOf, answerOf, rowAt};
-ghost use Rattle.library.specs.declared.RunAnswer.the-variants.{Refused};
-ghost use Rattle.library.specs.Calls.{stateRefused};
+ghost use Rattle.library.specs.Calls.{refuses, stateRefused};
 ghost use Rattle.library.specs.Held.{lentBuffers};
 ghost use Rattle.library.specs.Code.HeldRows.{heldRows, SamePlaces};
 ghost use Rattle.library.specs.Code.RowPlace.{StandsAt};
-ghost use Rattle.library.specs.Promises.{RunPromise, StepPromise};
+ghost use Rattle.library.specs.Promises.{runAnswered, RunPromise, StepPromise};
 use library::AfterRun;
 use library::AfterStep;
 use library::Rows;
 use library::RunAnswer;
+use library::RunResult;
 use library::Sizes;
 use library::StepAnswer;
 use next::EXECUTED;
@@ -48,6 +49,7 @@ use operation::Trap;
 use refusal::Refusal;
 use run::Counts;
 use run::MOST_ITEMS;
+use run::TASK_NUMBERS;
 use run_rings::RING_PLACES;
 use run_rings::RINGS;
 use run_rings::SPANS;
@@ -80,45 +82,83 @@ pub struct Carried {
     pub flag: u8,
     pub free: u64,
     pub count: usize,
-    pub tally: [u64; CELLS],
+    pub tally: [u32; CELLS],
 }
 
 // ---- the counts side by side
 
-// The sum of n cells from cell i on.
-fn cells_sum(tally: &[u64], i: usize, n: usize) -> u64
-    requires { ⌜ (i + n ≤ length (now tally)) × (length (now tally) < 2 ^ 64) × (cellsSum (now tally) i n < 2 ^ 64) ⌝ }
-    ensures { λ r. ⌜ r ≡ cellsSum (now (tally .entry)) i n ⌝ }
+// The counts of task t.
+fn own_at(tally: &[u32], t: usize) -> Counts
+    requires { ⌜ (t < numbers) × (length (now tally) ≡ tallyCells) × Small (ownIn (now tally) t) ⌝ }
+    ensures { λ r. ⌜ r ≡ ownIn (now (tally .entry)) t ⌝ }
 {
-    let mut sum: u64 = 0;
-    let mut k = 0;
-    while k < n {
-        sum += tally[i + k];
-        k += 1;
+    let executed_by_try = tally[TRY + EXECUTED + t];
+    let waved_by_try = tally[TRY + WAVED + t];
+    let trapped_by_try = tally[TRY + TRAPPED + t];
+    Counts {
+        executed: tally[EXECUTED + t] + executed_by_try,
+        waved: tally[WAVED + t] + waved_by_try,
+        trapped: tally[TRAPPED + t] + trapped_by_try,
+        idle: tally[IDLE + t],
+        tries: executed_by_try
+            + waved_by_try
+            + trapped_by_try
+            + tally[THEN + EXECUTED + t]
+            + tally[THEN + WAVED + t],
     }
-    sum
 }
 
-// The items that ended by a step of this place, or by a try.
-fn ended(tally: &[u64], place: usize) -> u64
-    requires { ⌜ (place ≤ 2 * numbers) × (length (now tally) ≡ tallyCells) × (endedIn (now tally) place < 2 ^ 64) ⌝ }
-    ensures { λ r. ⌜ r ≡ endedIn (now (tally .entry)) place ⌝ }
-{
-    cells_sum(tally, place, NUMBERS) + cells_sum(tally, TRY + place, NUMBERS)
-}
-
-// The counts.
-fn counts_of(tally: [u64; CELLS]) -> Counts
-    requires { ⌜ Small (countsIn tally) ⌝ }
-    ensures { λ r. ⌜ r ≡ countsIn tally ⌝ }
+fn no_counts() -> Counts
+    ensures { λ r. ⌜ r ≡ noCounts ⌝ }
 {
     Counts {
-        executed: ended(&tally, EXECUTED),
-        waved: ended(&tally, WAVED),
-        trapped: ended(&tally, TRAPPED),
-        idle: cells_sum(&tally, IDLE, NUMBERS),
-        tries: cells_sum(&tally, TRY, OTHER - TRY),
+        executed: 0,
+        waved: 0,
+        trapped: 0,
+        idle: 0,
+        tries: 0,
     }
+}
+
+// The counts of all task numbers.
+fn own_of(tally: [u32; CELLS]) -> [Counts; TASK_NUMBERS]
+    requires { ⌜ ((t : ℕ) → t < numbers → Small (ownIn tally t)) ⌝ }
+    ensures { λ r. ⌜ r ≡ allOwn tally ⌝ }
+{
+    let mut own = [no_counts(); TASK_NUMBERS];
+    let mut t = 0;
+    while t < TASK_NUMBERS {
+        own[t] = own_at(&tally, t);
+        t += 1;
+    }
+    own
+}
+
+fn plus(c: Counts, d: Counts) -> Counts
+    requires { ⌜ Small (plus c d) ⌝ }
+    ensures { λ r. ⌜ r ≡ plus c d ⌝ }
+{
+    Counts {
+        executed: c.executed + d.executed,
+        waved: c.waved + d.waved,
+        trapped: c.trapped + d.trapped,
+        idle: c.idle + d.idle,
+        tries: c.tries + d.tries,
+    }
+}
+
+// Those of all task numbers together.
+fn total(own: [Counts; TASK_NUMBERS]) -> Counts
+    requires { ⌜ Small (summed own) ⌝ }
+    ensures { λ r. ⌜ r ≡ summed own ⌝ }
+{
+    let mut sum = no_counts();
+    let mut t = 0;
+    while t < TASK_NUMBERS {
+        sum = plus(sum, own[t]);
+        t += 1;
+    }
+    sum
 }
 
 // ---- the PSWs, and behind them that of a process just created
@@ -364,12 +404,15 @@ fn users_of(left: Carried) -> Processes
 }
 
 fn refused(e: Refusal, rows: Rows, table: ProcessTable) -> AfterRun
-    ensures { λ r. ⌜ r ≡ record { rows = rows; table = table; answer = Refused e } ⌝ }
+    ensures { λ r. ⌜ r ≡ record { rows = rows; table = table; result = runAnswered (refuses e) } ⌝ }
 {
     AfterRun {
         rows,
         table,
-        answer: RunAnswer::Refused(e),
+        result: RunResult {
+            answer: RunAnswer::Refused(e),
+            own: [no_counts(); TASK_NUMBERS],
+        },
     }
 }
 
@@ -388,7 +431,7 @@ fn run_cut(
     n: Sizes,
 ) -> AfterRun
     requires { ⌜ (stateRefused n (lentBuffers (heldRows rows) table (now «constant_tags») (now «constant_words») (now «register_tags») (now «register_words») (now program) (now data_tags) (now data_words)) ≡ false) × (length (now schedule) ≤ mostItems) × (every itemSound (now schedule) ≡ true) ⌝ }
-    ensures { λ r. ⌜ RunPromise n (lentBuffers (heldRows rows) table (now («constant_tags» .entry)) (now («constant_words» .entry)) (now («register_tags» .entry)) (now («register_words» .entry)) (now (program .entry)) (now (data_tags .entry)) (now (data_words .entry))) (now (schedule .entry)) (r .answer) (lentBuffers (heldRows (r .rows)) (r .table) (now («constant_tags» .entry)) (now («constant_words» .entry)) (now («register_tags» .exit)) (now («register_words» .exit)) (now (program .entry)) (now (data_tags .exit)) (now (data_words .exit))) × SamePlaces rows (r .rows) ⌝ }
+    ensures { λ r. ⌜ RunPromise n (lentBuffers (heldRows rows) table (now («constant_tags» .entry)) (now («constant_words» .entry)) (now («register_tags» .entry)) (now («register_words» .entry)) (now (program .entry)) (now (data_tags .entry)) (now (data_words .entry))) (now (schedule .entry)) (r .result) (lentBuffers (heldRows (r .rows)) (r .table) (now («constant_tags» .entry)) (now («constant_words» .entry)) (now («register_tags» .exit)) (now («register_words» .exit)) (now (program .entry)) (now (data_tags .exit)) (now (data_words .exit))) × SamePlaces rows (r .rows) ⌝ }
 {
     let at = rows.at;
     let users = table.users;
@@ -412,6 +455,7 @@ fn run_cut(
     let kinds = left.kinds;
     let stored = left.stored;
     let tally = left.tally;
+    let own = own_of(tally);
     AfterRun {
         rows: Rows {
             at: run_rings::rows_with(at, n.rows, kinds, stored),
@@ -420,7 +464,10 @@ fn run_cut(
         table: ProcessTable {
             users: users_of(left),
         },
-        answer: RunAnswer::Counted(counts_of(tally)),
+        result: RunResult {
+            answer: RunAnswer::Counted(total(own)),
+            own,
+        },
     }
 }
 
@@ -438,7 +485,7 @@ pub fn run(
     schedule: &[u8],
     n: Sizes,
 ) -> AfterRun
-    ensures { λ r. ⌜ RunPromise n (lentBuffers (heldRows rows) table (now («constant_tags» .entry)) (now («constant_words» .entry)) (now («register_tags» .entry)) (now («register_words» .entry)) (now (program .entry)) (now (data_tags .entry)) (now (data_words .entry))) (now (schedule .entry)) (r .answer) (lentBuffers (heldRows (r .rows)) (r .table) (now («constant_tags» .entry)) (now («constant_words» .entry)) (now («register_tags» .exit)) (now («register_words» .exit)) (now (program .entry)) (now (data_tags .exit)) (now (data_words .exit))) × SamePlaces rows (r .rows) ⌝ }
+    ensures { λ r. ⌜ RunPromise n (lentBuffers (heldRows rows) table (now («constant_tags» .entry)) (now («constant_words» .entry)) (now («register_tags» .entry)) (now («register_words» .entry)) (now (program .entry)) (now (data_tags .entry)) (now (data_words .entry))) (now (schedule .entry)) (r .result) (lentBuffers (heldRows (r .rows)) (r .table) (now («constant_tags» .entry)) (now («constant_words» .entry)) (now («register_tags» .exit)) (now («register_words» .exit)) (now (program .entry)) (now (data_tags .exit)) (now (data_words .exit))) × SamePlaces rows (r .rows) ⌝ }
 {
     if library_state::refused(
         rows,
@@ -557,7 +604,8 @@ pub fn step(
     );
     let rows = after.rows;
     let table = after.table;
-    let answer = after.answer;
+    let result = after.result;
+    let answer = result.answer;
     let at = rows.at;
     let row = row_at(at, place);
     AfterStep {

@@ -535,8 +535,8 @@ pub(crate) fn lay_next(marks: &mut [u8], kinds: &[u8], pts: &[u8], heads: &[usiz
 }
 
 // One attempt more at this place of task t.
-pub(crate) fn count_attempt(tally: &mut [u64], place: usize, t: usize)
-    requires { ⌜ (t < numbers) × (place < noPlace) × (tallyCells ≤ length (now tally)) × (getD (now tally) (place + t) 0 < 2 ^ 64 - 1) ⌝ }
+pub(crate) fn count_attempt(tally: &mut [u32], place: usize, t: usize)
+    requires { ⌜ (t < numbers) × (place < noPlace) × (tallyCells ≤ length (now tally)) × (getD (now tally) (place + t) 0 < 2 ^ 32 - 1) ⌝ }
     ensures { λ _. ⌜ now (tally .exit) ≡ set (now (tally .entry)) (place + t) (getD (now (tally .entry)) (place + t) 0 + 1) ⌝ }
 {
     let k = place + t;

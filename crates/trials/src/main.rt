@@ -1,5 +1,6 @@
 // Refusals 7 to 10 of the calls read, run, step and write, at both sides of their boundaries, on one small state; its live counts on one of seven
-// tasks; runs with tries. A line for each call: what it answered, and how many lent places are as they were before it.
+// tasks; runs with tries. A line for each call: what it answered, of a run also each task's own counts, and how many lent places are as they were
+// before it.
 ghost use Prim.Native.Nat.{_≤_};
 use libc::STDOUT_FILENO;
 use library::ReadAnswer;
@@ -9,6 +10,7 @@ use library::StepAnswer;
 use library::WriteAnswer;
 use refusal::Refusal;
 use run::Counts;
+use run::TASK_NUMBERS;
 use step::Ending;
 use step::NO_TRAP;
 use step::NUMBERS;
@@ -593,16 +595,61 @@ fn read_state() {
 // ---- run
 
 fn print_counts(c: Counts) {
-    print(b"ran E");
-    io::print_decimal(STDOUT_FILENO, c.executed);
+    print(b"E");
+    io::print_decimal(STDOUT_FILENO, c.executed as u64);
     print(b" W");
-    io::print_decimal(STDOUT_FILENO, c.waved);
+    io::print_decimal(STDOUT_FILENO, c.waved as u64);
     print(b" T");
-    io::print_decimal(STDOUT_FILENO, c.trapped);
+    io::print_decimal(STDOUT_FILENO, c.trapped as u64);
     print(b" I");
-    io::print_decimal(STDOUT_FILENO, c.idle);
+    io::print_decimal(STDOUT_FILENO, c.idle as u64);
     print(b" S");
-    io::print_decimal(STDOUT_FILENO, c.tries);
+    io::print_decimal(STDOUT_FILENO, c.tries as u64);
+}
+
+fn print_ran(c: Counts) {
+    print(b"ran ");
+    print_counts(c);
+}
+
+fn none_counted(c: Counts) -> bool {
+    if c.executed != 0 {
+        return false;
+    }
+    if c.waved != 0 {
+        return false;
+    }
+    if c.trapped != 0 {
+        return false;
+    }
+    if c.idle != 0 {
+        return false;
+    }
+    c.tries == 0
+}
+
+fn print_task(task: usize, c: Counts) {
+    if none_counted(c) {
+        return;
+    }
+    print(b", task ");
+    print_number(task);
+    print(b" ");
+    print_counts(c);
+}
+
+// The own counts of each task number that has any, and how many have none.
+fn print_own(own: [Counts; TASK_NUMBERS]) {
+    let mut without = 0;
+    let mut task = 0;
+    while task < TASK_NUMBERS {
+        print_task(task, own[task]);
+        without += one_if(none_counted(own[task]));
+        task += 1;
+    }
+    print(b", ");
+    print_number(without);
+    print(b" numbers without counts");
 }
 
 // The kind of the first row, and how many processes task 1 has in its queue and in its SFU queue.
@@ -648,11 +695,14 @@ fn run_state(
         schedule,
         sizes(n),
     );
-    let answer = x.answer;
+    let result = x.result;
+    let answer = result.answer;
     match answer {
         RunAnswer::Refused(e) => print_refusal(e),
-        RunAnswer::Counted(c) => print_counts(c),
+        RunAnswer::Counted(c) => print_ran(c),
     }
+    let own = result.own;
+    print_own(own);
     let left = x.rows;
     let at = left.at;
     print_left(at, x.table);

@@ -16,10 +16,12 @@ pub const COMMAND: Command = Command {
     operands: "[FILE..]",
     summary: "run each file by the proved library, and report",
     about: "Runs each file's schedule by the proved library and writes the report, of one file the very bytes that\n\
-            hep_batch writes, of several a line each: name, `accepted` or the refusal, counts. The counts are items\n\
-            executed (E), waved (W), trapped (T), idle (I), tries of SFU queues (S) and the create fault flag (CF). An\n\
-            image may have any size, a schedule any length: over 65,535 items it is run in slices, and the counts add\n\
-            up. Without FILE it reads standard input.",
+            hep_batch writes, of several a line each: name, `accepted` or the refusal, counts, then each task with the\n\
+            counts of its own items. The counts are items executed (E), waved (W), trapped (T), idle (I), tries of SFU\n\
+            queues (S) and, of the whole run, the create fault flag (CF). Items of a task that the image does not list\n\
+            are idle: they are in the counts, in that line and in --json, and the report has no line for them. An image\n\
+            may have any size, a schedule any length: over 65,535 items it is run in slices, and the counts add up.\n\
+            Without FILE it reads standard input.",
     options: &[
         INPUT,
         IMAGE,

@@ -13,9 +13,10 @@ pub const COMMAND: Command = Command {
     name: "share",
     operands: "TASK [FILE]",
     summary: "what a task has after the run",
-    about: "Runs the schedule by the proved library and writes what the task has then: trap record, status words from\n\
-            head to tail (`sfu` for those in its SFU queue), registers and data words, each at its place in the window.\n\
-            Process numbers are left out. An image alone is shown as it is.",
+    about: "Runs the schedule by the proved library and writes what the task has then: the counts of its own items, as in\n\
+            the report (E executed, W waved, T trapped, I idle, S tries), trap record, status words from head to tail\n\
+            (`sfu` for those in its SFU queue), registers and data words, each at its place in the window. Process\n\
+            numbers are left out. An image alone is shown as it is, without counts.",
     options: &[
         valued("registers", "A..B", "only the registers A to B, or A alone, in decimal: place, value, state"),
         valued("data", "A..B", "only the data words A to B, or A alone, in decimal: place, value, state"),
@@ -33,9 +34,10 @@ fn run(arguments: &Arguments) -> Result<Status, Failure> {
     let data = range(arguments, "data")?;
     let file = files::one(arguments, 1)?;
     let loaded = files::load(file, arguments)?;
-    let draft = runs::after(file, &loaded.source)?;
+    let outcome = runs::run(file, &loaded.source)?;
+    let (draft, own) = (runs::draft(file, &outcome.image)?, outcome.own(task));
     let refused = |reason: String| Failure::refused(files::name(file), reason);
-    let share = share(&draft, task).ok_or_else(|| refused(format!("task {task} isn't listed")))?;
+    let share = share(&draft, task).ok_or_else(|| refused(unlisted(task, own)))?;
     let mut out = String::new();
     if let Some(places) = &registers {
         out += &cells_shown(&share.registers, places, "registers", |tag| tag & 8 != 0)
@@ -48,10 +50,22 @@ fn run(arguments: &Arguments) -> Result<Status, Failure> {
     if registers.is_none() && data.is_none() {
         let base =
             draft.tasks.iter().find(|row| row.number == task).map_or(0, |row| program(row).start);
-        out = share.show(|pc| loaded.symbols.place(base, base + pc as usize));
+        out = match loaded.source.schedule {
+            Some(_) => format!("counts {own}\n"),
+            None => String::new(),
+        };
+        out += &share.show(|pc| loaded.symbols.place(base, base + pc as usize));
     }
     output::answer(arguments, out)?;
     Ok(Status::Done)
+}
+
+/// Why there is nothing to show of a task.
+fn unlisted(task: u8, own: hep::Counts) -> String {
+    match own.idle {
+        0 => format!("task {task} isn't listed"),
+        items => format!("task {task} isn't listed: its items ({items}) are idle"),
+    }
 }
 
 /// `5..7` or `5`.

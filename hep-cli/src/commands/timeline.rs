@@ -14,10 +14,11 @@ pub const COMMAND: Command = Command {
     name: "timeline",
     operands: "[FILE]",
     summary: "a picture of the run, as SVG",
-    about: "Runs the schedule and draws it as SVG: a lane for each task, each item coloured by its ending, with the\n\
-            counts and what the task waited for, and below it a thin lane for its tries; a trap is marked at its item.\n\
-            Of more than 240 items a column shows several. The steps are those of hep-tools' emulator, not proved; the\n\
-            image that they end in is held to the proved library's.",
+    about: "Runs the schedule and draws it as SVG: a lane for each task, also for an unlisted one that has items; each item\n\
+            coloured by its ending, with the counts of the task's own items that are drawn and what it waited for, and\n\
+            below it a thin lane for its tries; a trap is marked at its item. Of more than 240 items a column shows\n\
+            several. The steps are those of hep-tools' emulator, not proved; its counts and the image that they end in\n\
+            are held to the proved library's.",
     options: &[FROM, TO, SCHEDULE, OUTPUT, INPUT, IMAGE],
     run,
 };

@@ -21,8 +21,8 @@ pub const COMMAND: Command = Command {
             the task's head: task, process number, PC in hex and as label+distance, instruction, ending, and what it\n\
             wrote or why it waits or traps, with the values that it read. `rN` and `data N` count from the window's\n\
             start. Behind a data word stands the part of it that was named, as `(byte 7)`, unless it is the whole. The\n\
-            attempts are those of hep-tools' emulator, not proved; the image that they end in is held to the proved\n\
-            library's.",
+            attempts are those of hep-tools' emulator, not proved; its counts and the image that they end in are held to\n\
+            the proved library's.",
     options: &[
         valued("task", "N", "only this task"),
         FROM,

@@ -13,9 +13,9 @@ pub const COMMAND: Command = Command {
     operands: "[FILE]",
     summary: "where each process stands after the run, what it waits for, why it trapped",
     about: "Runs the schedule and says of each live process where it stands, what it waits for and who last changed that\n\
-            cell, or why it trapped; `(SFU queue)` marks those that are tried, not stepped. An image alone is told as it\n\
-            stands. The steps are those of hep-tools' emulator, not proved; the image that they end in is held to the\n\
-            proved library's.",
+            cell, or why it trapped; `(SFU queue)` marks those that are tried, not stepped. Behind each task stand the\n\
+            counts of its own items, as in the report. An image alone is told as it stands. The steps are those of\n\
+            hep-tools' emulator, not proved; its counts and the image that they end in are held to the proved library's.",
     options: &[SCHEDULE, OUTPUT, INPUT, IMAGE],
     run,
 };

@@ -11,7 +11,7 @@ use std::time::Duration;
 /// How long a program may take for an input.
 const LIMIT: Duration = Duration::from_secs(10);
 
-/// Something that answers batch inputs; one that gives no image has none.
+/// Something that answers batch inputs; one that gives no images or own counts has none in its answers.
 pub trait Implementation {
     /// The answer, or why there is none.
     fn answer(&mut self, input: &[u8]) -> Result<Answer, String>;
@@ -54,7 +54,7 @@ impl Implementation for Program {
             return Err(format!("it ended with {status}"));
         }
         let output = output.map_err(|error| error.to_string())?;
-        Ok(Answer { output, image: None })
+        Ok(Answer::of(output))
     }
 }
 
@@ -105,6 +105,6 @@ impl Implementation for Lines {
             "-" => None,
             image => Some(from_hex(image).ok_or("the image isn't hex")?),
         };
-        Ok(Answer { output, image })
+        Ok(Answer { image, ..Answer::of(output) })
     }
 }

@@ -1,14 +1,15 @@
 //! Isolation tried: pairs of inputs that agree on one task, with other neighbours and
-//! another order; what the task has afterwards must be equal.
+//! another order; what the task has afterwards, its line of the report and its counts must be equal.
 
 use crate::compare::Implementation;
 use crate::emulator::batch::Answer;
 use crate::emulator::draft::Draft;
 use crate::emulator::image;
+use crate::emulator::machine::Counts;
 use crate::generate::{self, Pair};
 use crate::tool::agree::premises;
 pub use crate::tool::agree::Broken;
-use crate::tool::share::share;
+use crate::tool::share::{share, Share};
 use crate::tool::text::Source;
 
 pub const PREMISES: [(Broken, &str); 4] = [
@@ -34,10 +35,10 @@ pub fn tried(tried: &mut dyn Implementation, seed: u64, count: u64) -> Result<Ta
     let mut tally = Tally::default();
     for n in 0..count {
         let pair = generate::pair(seed, n);
-        let after = [answered(tried, &pair.first)?, answered(tried, &pair.second)?];
-        let shares = after.each_ref().map(|draft| share(draft, pair.task));
-        let equal = shares[0] == shares[1];
-        match broken(&pair, &after) {
+        let (first, a) = answered(tried, &pair.first, pair.task)?;
+        let (second, b) = answered(tried, &pair.second, pair.task)?;
+        let equal = a == b;
+        match broken(&pair, &[first, second]) {
             Some(premise) => {
                 let place = PREMISES.iter().position(|(broken, _)| *broken == premise);
                 tally.broken[place.unwrap_or(0)] += 1;
@@ -45,7 +46,7 @@ pub fn tried(tried: &mut dyn Implementation, seed: u64, count: u64) -> Result<Ta
             }
             None => {
                 tally.met += 1;
-                tally.met_changed += u64::from(shares[0] != share(&pair.first.draft, pair.task));
+                tally.met_changed += u64::from(a.share != share(&pair.first.draft, pair.task));
                 if !equal && tally.failure.is_none() {
                     tally.failure = Some((pair.first.bytes(), pair.second.bytes(), pair.task));
                 }
@@ -55,16 +56,33 @@ pub fn tried(tried: &mut dyn Implementation, seed: u64, count: u64) -> Result<Ta
     Ok(tally)
 }
 
-/// The state after an accepted input.
-fn answered(tried: &mut dyn Implementation, source: &Source) -> Result<Draft, String> {
-    let Answer { output, image } = tried.answer(&source.bytes())?;
-    match image {
-        Some(image) => {
-            Ok(image::draft(&image::read(&image).map_err(|refusal| refusal.to_string())?))
-        }
-        None if output.starts_with(b"R") => Err("a generated pair is refused".to_string()),
-        None => Err("it gives no images".to_string()),
-    }
+/// What a run leaves of a task: its share of the state, its line of the report, and its counts where they are given.
+#[derive(PartialEq, Eq)]
+struct Left {
+    share: Option<Share>,
+    line: Option<String>,
+    own: Option<Counts>,
+}
+
+/// The state after an accepted input, and what it leaves of a task.
+fn answered(
+    tried: &mut dyn Implementation,
+    source: &Source,
+    task: u8,
+) -> Result<(Draft, Left), String> {
+    let Answer { output, image, own } = tried.answer(&source.bytes())?;
+    let Some(image) = image else {
+        let refused = output.starts_with(b"R");
+        return Err(
+            if refused { "a generated pair is refused" } else { "it gives no images" }.into()
+        );
+    };
+    let draft = image::draft(&image::read(&image).map_err(|refusal| refusal.to_string())?);
+    let report = String::from_utf8_lossy(&output);
+    let line = report.lines().find(|line| line.starts_with(&format!("{task} ")));
+    let own = own.map(|own| own[usize::from(task)]);
+    let left = Left { share: share(&draft, task), line: line.map(str::to_string), own };
+    Ok((draft, left))
 }
 
 /// The first premise that a pair breaks, from the states before and after.

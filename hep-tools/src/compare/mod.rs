@@ -27,11 +27,14 @@ pub struct Difference {
     pub found: Result<Answer, String>,
 }
 
-/// Whether an answer is the expected one; images count where both have one.
+/// Whether an answer is the expected one; images and own counts are compared where both have them.
 pub fn agrees(expected: &Answer, found: &Result<Answer, String>) -> bool {
     let Ok(found) = found else { return false };
     let images = expected.image.as_ref().zip(found.image.as_ref());
-    found.output == expected.output && images.is_none_or(|(expected, found)| expected == found)
+    let own = expected.own.zip(found.own);
+    found.output == expected.output
+        && images.is_none_or(|(expected, found)| expected == found)
+        && own.is_none_or(|(expected, found)| expected == found)
 }
 
 /// The first trial that the implementation doesn't meet.

@@ -2,6 +2,7 @@
 
 use crate::compare::isolation::{Tally, PREMISES};
 use crate::compare::Difference;
+use crate::emulator::machine::OwnCounts;
 use crate::tool::{self, text};
 use std::fs;
 use std::path::Path;
@@ -20,6 +21,9 @@ pub fn difference(difference: &Difference, folder: &Path) -> Result<(), String> 
             images(expected, found);
         }
     }
+    if let (Some(expected), Ok(Some(found))) = (&expected.own, found.as_ref().map(|f| f.own)) {
+        own_counts(expected, &found);
+    }
     if let Ok(source) = tool::load(input) {
         println!("the input:\n{}", text::dump(&source));
     }
@@ -32,6 +36,14 @@ fn images(expected: &[u8], found: &[u8]) {
     let (expected, found) = (text(expected), text(found));
     for (expected, found) in expected.lines().zip(found.lines()).filter(|(a, b)| a != b) {
         println!("image, expected: {expected}\nimage, found:    {found}");
+    }
+}
+
+/// Prints the counts of the tasks that differ.
+fn own_counts(expected: &OwnCounts, found: &OwnCounts) {
+    let both = expected.iter().zip(found).enumerate();
+    for (task, (expected, found)) in both.filter(|(_, (a, b))| a != b) {
+        println!("task {task}, expected: {expected}\ntask {task}, found:    {found}");
     }
 }
 

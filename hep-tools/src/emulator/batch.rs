@@ -1,18 +1,26 @@
 //! The batch program: input bytes to output bytes.
 
 use crate::emulator::image;
-use crate::emulator::machine::{Counts, Machine};
+use crate::emulator::machine::{Machine, OwnCounts, RunCounts};
 use crate::emulator::psw;
 use crate::emulator::refusal::*;
 
 /// The longest input.
 pub const MOST_BYTES: usize = 65_536;
 
-/// What the batch program prints, and the image after the run unless it is refused.
+/// What the batch program prints, and unless it is refused the image after the run and the counts of each task number.
 #[derive(Clone, PartialEq, Eq, Debug)]
 pub struct Answer {
     pub output: Vec<u8>,
     pub image: Option<Vec<u8>>,
+    pub own: Option<OwnCounts>,
+}
+
+impl Answer {
+    /// An output alone.
+    pub fn of(output: Vec<u8>) -> Self {
+        Answer { output, image: None, own: None }
+    }
 }
 
 pub fn answer(input: &[u8]) -> Answer {
@@ -20,8 +28,9 @@ pub fn answer(input: &[u8]) -> Answer {
         Ok((machine, counts)) => Answer {
             output: report(&machine, &counts).into_bytes(),
             image: Some(image::write(&machine)),
+            own: Some(counts.own),
         },
-        Err(refusal) => Answer { output: line(&refusal), image: None },
+        Err(refusal) => Answer::of(line(&refusal)),
     }
 }
 
@@ -37,7 +46,7 @@ fn line(refusal: &Refusal) -> Vec<u8> {
     format!("R{}\n", refusal.number).into_bytes()
 }
 
-fn run(input: &[u8]) -> Result<(Machine, Counts), Refusal> {
+fn run(input: &[u8]) -> Result<(Machine, RunCounts), Refusal> {
     let (schedule, mut machine) = accepted(input)?;
     let counts = machine.run(schedule);
     Ok((machine, counts))
@@ -111,7 +120,7 @@ pub fn split(input: &[u8]) -> Option<(&[u8], &[u8])> {
 }
 
 /// The report of a run that left this machine.
-pub fn report(machine: &Machine, counts: &Counts) -> String {
+pub fn report(machine: &Machine, counts: &RunCounts) -> String {
     let mut text = String::new();
     for task in machine.tasks() {
         let live = machine.live_count(task);
@@ -119,9 +128,7 @@ pub fn report(machine: &Machine, counts: &Counts) -> String {
             Some((kind, psw)) => format!("{kind:02X} {:05X}", psw::pc(psw)),
             None => "-- -----".to_string(),
         };
-        text += &format!("{task} {live} {trap}\n");
+        text += &format!("{task} {live} {trap} {}\n", counts.own(task));
     }
-    let Counts { executed, waved, trapped, idle, tries } = counts;
-    let flag = u8::from(machine.create_fault());
-    text + &format!("E{executed} W{waved} T{trapped} I{idle} S{tries} CF{flag}\n")
+    text + &format!("{} CF{}\n", counts.counts, u8::from(machine.create_fault()))
 }

@@ -1,5 +1,8 @@
 //! The machine's state in flat arrays, and runs over a schedule.
 
+use std::fmt;
+use std::iter::Sum;
+
 /// Trap kinds; `NO_TRAP` stands in a row that isn't trapped.
 pub const CREATE_FAULT: u8 = 0x00;
 pub const ILLEGAL: u8 = 0x12;
@@ -43,7 +46,7 @@ pub struct Item {
     pub ending: Ending,
 }
 
-/// How many items of a run ended each way, and how many tries they made.
+/// How many items ended each way, and how many tries they made.
 #[derive(Clone, Copy, PartialEq, Eq, Debug, Default)]
 pub struct Counts {
     pub executed: u64,
@@ -51,6 +54,58 @@ pub struct Counts {
     pub trapped: u64,
     pub idle: u64,
     pub tries: u64,
+}
+
+impl Counts {
+    /// One item more.
+    #[inline(always)]
+    fn add_item(&mut self, Item { tried, ending }: Item) {
+        self.tries += u64::from(tried.is_some());
+        match ending {
+            Ending::Executed => self.executed += 1,
+            Ending::Waved => self.waved += 1,
+            Ending::Trapped { .. } => self.trapped += 1,
+            Ending::Idle => self.idle += 1,
+        }
+    }
+}
+
+impl Sum for Counts {
+    fn sum<I: Iterator<Item = Counts>>(all: I) -> Counts {
+        all.fold(Counts::default(), |sum, counts| Counts {
+            executed: sum.executed + counts.executed,
+            waved: sum.waved + counts.waved,
+            trapped: sum.trapped + counts.trapped,
+            idle: sum.idle + counts.idle,
+            tries: sum.tries + counts.tries,
+        })
+    }
+}
+
+/// As a report has them.
+impl fmt::Display for Counts {
+    fn fmt(&self, f: &mut fmt::Formatter) -> fmt::Result {
+        let Counts { executed, waved, trapped, idle, tries } = self;
+        write!(f, "E{executed} W{waved} T{trapped} I{idle} S{tries}")
+    }
+}
+
+/// The counts of each task number, listed or not; place 0 is unused.
+pub type OwnCounts = [Counts; 8];
+
+/// What a run counted.
+#[derive(Clone, Copy, PartialEq, Eq, Debug, Default)]
+pub struct RunCounts {
+    /// Of all items.
+    pub counts: Counts,
+    pub own: OwnCounts,
+}
+
+impl RunCounts {
+    /// Of the items of this task number.
+    pub fn own(&self, task: u8) -> Counts {
+        self.own[usize::from(task)]
+    }
 }
 
 /// Base and limit as real addresses.
@@ -233,20 +288,13 @@ impl Machine {
         }
     }
 
-    /// Takes the items in turn and counts their endings and tries.
-    pub fn run(&mut self, schedule: &[u8]) -> Counts {
-        let mut counts = Counts::default();
+    /// Takes the items, numbers from 1 to 7, in turn and counts their endings and tries.
+    pub fn run(&mut self, schedule: &[u8]) -> RunCounts {
+        let mut own = OwnCounts::default();
         for &task in schedule {
-            let Item { tried, ending } = self.item(task);
-            counts.tries += u64::from(tried.is_some());
-            match ending {
-                Ending::Executed => counts.executed += 1,
-                Ending::Waved => counts.waved += 1,
-                Ending::Trapped { .. } => counts.trapped += 1,
-                Ending::Idle => counts.idle += 1,
-            }
+            own[usize::from(task)].add_item(self.item(task));
         }
-        counts
+        RunCounts { counts: own.into_iter().sum(), own }
     }
 
     /// A process joins at the tail of one of a task's queues.

@@ -16,7 +16,7 @@ pub struct Pair {
     pub task: u8,
 }
 
-/// A pair; most meet the premises of isolation, some break one.
+/// A pair; most meet the premises of isolation, some break one. The task may be one that neither image lists.
 pub fn pair(random: &mut Random) -> Pair {
     let first = loop {
         let draft = layout::draft(Size::Any, random);
@@ -24,10 +24,12 @@ pub fn pair(random: &mut Random) -> Pair {
             break draft;
         }
     };
-    let task = random.pick(&first.tasks).number;
+    let listed = random.pick(&first.tasks).number;
+    let task = if random.chance(5) { random.between(1, 7) as u8 } else { listed };
     let mut second = neighboured(&first, task, random);
     let items = schedule(&first, Size::Any, random);
-    let items: Vec<u8> = items.into_iter().filter(|item| (1..=7).contains(item)).collect();
+    let mut items: Vec<u8> = items.into_iter().filter(|item| (1..=7).contains(item)).collect();
+    items.extend(vec![task; random.below(4) as usize]);
     let mut other = reordered(&items, task, &second, random);
     match random.below(40) {
         0 => other.push(task),

@@ -3,7 +3,7 @@
 use super::share::{instructions, meetings, share};
 use super::text::{self, Source};
 use crate::emulator::draft::{Draft, Task};
-use crate::emulator::machine::NO_TRAP;
+use crate::emulator::machine::{OwnCounts, NO_TRAP};
 
 /// What a premise is about.
 #[derive(Clone, Copy, PartialEq, Eq, Debug)]
@@ -50,8 +50,13 @@ pub struct Agreement {
     pub equal: bool,
 }
 
-/// The premises in words, `!` before each that does not hold.
-pub fn agree(tasks: &[u8], inputs: [&Source; 2], after: [&Draft; 2]) -> Agreement {
+/// The premises in words, `!` before each that does not hold; compared are shares and own counts.
+pub fn agree(
+    tasks: &[u8],
+    inputs: [&Source; 2],
+    after: [&Draft; 2],
+    own: [&OwnCounts; 2],
+) -> Agreement {
     let premises = premises(tasks, inputs, after);
     let line = |Premise { name, held, .. }: &Premise| match held {
         Ok(said) => format!("  {name:<20}{said}\n"),
@@ -59,7 +64,8 @@ pub fn agree(tasks: &[u8], inputs: [&Source; 2], after: [&Draft; 2]) -> Agreemen
     };
     let lines = premises.iter().map(line).collect();
     let covered = premises.iter().all(|premise| premise.held.is_ok());
-    let equal = tasks.iter().all(|&task| share(after[0], task) == share(after[1], task));
+    let of = |run: usize, task: u8| (share(after[run], task), own[run][usize::from(task)]);
+    let equal = tasks.iter().all(|&task| of(0, task) == of(1, task));
     Agreement { lines, covered, equal }
 }
 

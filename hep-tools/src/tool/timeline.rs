@@ -21,7 +21,10 @@ const PLOT: usize = 960;
 const LEFT: usize = 80;
 const TOP: usize = 96;
 const PITCH: usize = 72;
-const WIDTH: usize = LEFT + PLOT + 190;
+
+/// The width behind the lanes: of a letter of the counts there, and the least of all.
+const LETTER: usize = 8;
+const BEHIND: usize = 190;
 
 /// A lane's kind: the height of its columns, and the least of an ending that came in one.
 #[derive(Clone, Copy)]
@@ -36,12 +39,12 @@ const THIN: Kind = Kind { height: 6, least: 2 };
 const THIN_TOP: usize = LANE.height + 2;
 const WAITS: usize = LANE.height + 19;
 
-/// The endings from a lane's foot up: name and colour.
+/// The endings from a lane's foot up: name with the letter of its count, and colour.
 const ENDINGS: [(&str, &str); 4] = [
-    ("executed", "#2f6fb5"),
-    ("idle", "#cfd4da"),
-    ("waved (waits)", "#f5a300"),
-    ("trapped", "#d0202a"),
+    ("executed E", "#2f6fb5"),
+    ("idle I", "#cfd4da"),
+    ("waved (waits) W", "#f5a300"),
+    ("trapped T", "#d0202a"),
 ];
 const NO_ITEM: &str = "#f6f7f9";
 
@@ -75,6 +78,17 @@ impl Lane {
 
     fn tries(&self) -> usize {
         self.tries.iter().flatten().sum()
+    }
+
+    /// The task's own counts, of the items that are drawn.
+    fn counts(&self) -> Counts {
+        Counts {
+            executed: self.total(0) as u64,
+            idle: self.total(1) as u64,
+            waved: self.total(2) as u64,
+            trapped: self.total(3) as u64,
+            tries: self.tries() as u64,
+        }
     }
 
     /// An attempt of this item, which stands in this column if it is drawn.
@@ -121,17 +135,23 @@ impl Picture {
         };
         Picture { items, all, each, lanes: shown.map(lane).collect(), fault_at: None }
     }
+
+    /// With room for the longest counts behind a lane.
+    fn width(&self) -> usize {
+        let letters = self.lanes.iter().map(|lane| lane.counts().to_string().len()).max();
+        LEFT + PLOT + BEHIND.max(LETTER * letters.unwrap_or(0) + 16)
+    }
 }
 
 /// Runs the schedule and draws it.
 pub fn svg(machine: &mut Machine, schedule: &[u8], view: &View) -> String {
     let picture = run(machine, schedule, view);
-    let height = TOP + PITCH * picture.lanes.len() + 56;
+    let (width, height) = (picture.width(), TOP + PITCH * picture.lanes.len() + 56);
     let mut out = format!(
-        "<svg xmlns=\"http://www.w3.org/2000/svg\" width=\"{WIDTH}\" height=\"{height}\" \
-         viewBox=\"0 0 {WIDTH} {height}\" font-family=\"sans-serif\" font-size=\"13\">\n\
+        "<svg xmlns=\"http://www.w3.org/2000/svg\" width=\"{width}\" height=\"{height}\" \
+         viewBox=\"0 0 {width} {height}\" font-family=\"sans-serif\" font-size=\"13\">\n\
          <title>{}: the steps of its schedule</title>\n\
-         <rect width=\"{WIDTH}\" height=\"{height}\" fill=\"#fff\"/>\n",
+         <rect width=\"{width}\" height=\"{height}\" fill=\"#fff\"/>\n",
         escaped(view.name)
     );
     heading(&mut out, &picture);
@@ -150,7 +170,7 @@ pub fn svg(machine: &mut Machine, schedule: &[u8], view: &View) -> String {
         format!("{}; steps by the emulator of hep-tools, which is not proved", escaped(view.name));
     text(
         &mut out,
-        &WIDTH.saturating_sub(16).to_string(),
+        &(width - 16).to_string(),
         height - 8,
         " text-anchor=\"end\" font-size=\"11\" fill=\"#555\"",
         &from,
@@ -236,13 +256,13 @@ fn heading(out: &mut String, picture: &Picture) {
     text(out, "16", 26, " font-size=\"16\" font-weight=\"bold\"", &title);
     for (place, (name, colour)) in ENDINGS.iter().enumerate() {
         let count: usize = picture.lanes.iter().map(|lane| lane.total(place)).sum();
-        legend(out, place, colour, &format!("{name} {count}"));
+        legend(out, place, colour, &format!("{name}{count}"));
     }
     legend(out, ENDINGS.len(), NO_ITEM, "no item of the task");
     let tries: usize = picture.lanes.iter().map(Lane::tries).sum();
     if tries > 0 {
         let x = LEFT + LEGEND * (ENDINGS.len() + 1);
-        text(out, &x.to_string(), 55, "", &format!("thin lane: tries {tries}"));
+        text(out, &x.to_string(), 55, "", &format!("thin lane: tries S{tries}"));
     }
 }
 
@@ -301,20 +321,11 @@ fn columns(out: &mut String, picture: &Picture, columns: &Columns, top: usize, k
     }
 }
 
-/// The task's name, and its counts and processes behind the lane.
+/// The task's name, and its own counts and processes behind the lane.
 fn labels(out: &mut String, machine: &Machine, lane: &Lane, top: usize) {
     text(out, "16", top + 21, " font-weight=\"bold\"", &format!("task {}", lane.task));
-    let counts = Counts {
-        executed: lane.total(0) as u64,
-        idle: lane.total(1) as u64,
-        waved: lane.total(2) as u64,
-        trapped: lane.total(3) as u64,
-        tries: lane.tries() as u64,
-    };
-    let Counts { executed, waved, trapped, idle, tries } = counts;
     let x = (LEFT + PLOT + 10).to_string();
-    let counted = format!("E{executed} W{waved} T{trapped} I{idle} S{tries}");
-    text(out, &x, top + 13, "", &counted);
+    text(out, &x, top + 13, "", &lane.counts().to_string());
     let live = match machine.live_count(lane.task) {
         _ if machine.tasks().all(|task| task != lane.task) => "not in the image".to_string(),
         1 => "1 process at the end".to_string(),

@@ -3,7 +3,9 @@
 use super::reason::{reason, Look};
 use super::taken::{item, live, place, queue, Cell, Taken};
 use super::text::{psw_fields, Symbols};
-use crate::emulator::machine::{Attempt, Ending, Machine, CREATE_FAULT, SUPERVISOR_CALL};
+use crate::emulator::machine::{
+    Attempt, Ending, Machine, OwnCounts, CREATE_FAULT, SUPERVISOR_CALL,
+};
 use std::collections::HashMap;
 
 /// An attempt of the run that changed a cell or trapped.
@@ -23,9 +25,11 @@ struct Ran<'a> {
     trapped: HashMap<u8, Made>,
     /// The item that raised the create fault flag.
     fault_at: Option<usize>,
+    /// None of a schedule without items.
+    own: Option<OwnCounts>,
 }
 
-/// Runs the schedule and says where each live process stands.
+/// Runs the schedule and says of each task what its items came to, and where each live process stands.
 pub fn why(machine: Machine, schedule: &[u8], symbols: &Symbols) -> (String, Machine) {
     let mut ran = run(machine, schedule, symbols);
     let mut out = String::new();
@@ -33,14 +37,19 @@ pub fn why(machine: Machine, schedule: &[u8], symbols: &Symbols) -> (String, Mac
         let since = ran.fault_at.map_or("before the run".into(), |item| format!("item {item}"));
         out += &format!("the create fault flag is up since {since}: every create waits\n");
     }
-    for task in ran.machine.tasks().collect::<Vec<_>>() {
-        out += &ran.task(task);
+    let listed: Vec<u8> = ran.machine.tasks().collect();
+    for task in (1..=7).filter(|task| listed.contains(task) || schedule.contains(task)) {
+        out += &match listed.contains(&task) {
+            true => ran.task(task),
+            false => format!("task {task}: not listed, so it is idle{}\n", ran.counts_told(task)),
+        };
     }
     (out, ran.machine)
 }
 
 fn run<'a>(mut machine: Machine, schedule: &[u8], symbols: &'a Symbols) -> Ran<'a> {
     let (mut changed, mut trapped) = (HashMap::new(), HashMap::new());
+    let own = (!schedule.is_empty()).then(|| machine.clone().run(schedule).own);
     let mut fault_at = None;
     for (number, &task) in schedule.iter().enumerate() {
         let before = |machine: &Machine, taken: Taken| (taken, taken.changes(machine));
@@ -59,23 +68,23 @@ fn run<'a>(mut machine: Machine, schedule: &[u8], symbols: &'a Symbols) -> Ran<'
             fault_at = Some(number);
         }
     }
-    Ran { machine, symbols, changed, trapped, fault_at }
+    Ran { machine, symbols, changed, trapped, fault_at, own }
 }
 
 impl Ran<'_> {
     /// The lines of a task.
     fn task(&mut self, task: u8) -> String {
         let count = live(&self.machine, task).len();
-        let processes = self.processes_told(task);
+        let (processes, counts) = (self.processes_told(task), self.counts_told(task));
         let Some((kind, psw)) = self.machine.trap_record(task) else {
             let lines = [Attempt::Step, Attempt::Try].map(|attempt| self.queue(task, attempt));
-            return format!("task {task}: {processes}\n{}", lines.concat());
+            return format!("task {task}: {processes}{counts}\n{}", lines.concat());
         };
         let (when, taken) = match self.trapped.get(&task) {
             Some(made) => (format!("at item {}", made.item), Some(made.taken)),
             None => ("before the run".to_string(), self.trapped_before(task, kind, psw)),
         };
-        let mut out = format!("task {task}: {processes}, trapped {kind:02X} {when}\n");
+        let mut out = format!("task {task}: {processes}, trapped {kind:02X} {when}{counts}\n");
         if let Some(taken) = taken {
             out += &self.standing(&taken, Ending::Trapped { kind, psw });
         }
@@ -98,6 +107,11 @@ impl Ran<'_> {
             0 => all,
             n => format!("{all}, {n} in the SFU queue"),
         }
+    }
+
+    /// What a task's items came to.
+    fn counts_told(&self, task: u8) -> String {
+        self.own.map_or(String::new(), |own| format!("; {}", own[usize::from(task)]))
     }
 
     /// The head of the queue in which a task was trapped before the run, where PC is still at the instruction: the one with the trapped

@@ -9,10 +9,10 @@
 //! A line is two trials: in the second every process starts in the SFU queue, so that the
 //! first item is a try.
 
+use super::report::{self, Item};
 use super::Trial;
-use crate::emulator::batch::Answer;
 use crate::emulator::draft::{batch_input, Draft, Process, Task};
-use crate::emulator::machine::{EMPTY, NO_TRAP};
+use crate::emulator::machine::EMPTY;
 use crate::tool::text::{instruction, Error, Line, Names};
 
 /// What a line changes.
@@ -179,11 +179,10 @@ fn trial(line: &str, sfu: bool) -> Result<Trial, String> {
     if sfu && schedule.len() > 1 && state.draft.processes.len() > 1 {
         return Err(format!("{name}: several processes and items"));
     }
-    let tries = run(&mut state, &endings);
+    let items = run(&mut state, &schedule, &endings);
     state.changes(after).map_err(told)?;
     settle(&mut state, &endings);
-    let output = report(&state.draft, &endings, tries).into_bytes();
-    let expected = Answer { output, image: Some(state.draft.bytes()) };
+    let expected = report::answer(&state.draft, &items);
     let name = format!("{name}{}", if sfu { ", in a try" } else { "" });
     Ok(Trial { name, input: batch_input(&schedule, &image), expected })
 }
@@ -198,24 +197,29 @@ pub fn items(text: &str) -> Result<(Vec<u8>, Vec<&str>), String> {
     Ok(items.map_err(|_| "a bad item")?.into_iter().unzip())
 }
 
-/// Takes the head process, adds 1 to PC for each executed attempt, and says in which queue it
-/// ends; gives how many of the attempts were tries.
-fn run(state: &mut State, endings: &[&str]) -> usize {
-    let mut tries = 0;
-    for ending in endings.iter().filter(|ending| **ending != "I") {
-        let process = state.stepping.get_or_insert_with(|| state.draft.processes.remove(0));
-        tries += usize::from(process.sfu);
-        match *ending {
-            "E" => {
-                let pc = process.psw + 1;
-                put(&mut process.psw, 0, 0xF_FFFF, pc);
-                process.sfu = false;
-            }
-            "WD" => process.sfu = true,
-            _ => {}
+/// The items in turn; those that aren't idle are the head process's.
+fn run<'a>(state: &mut State, schedule: &[u8], endings: &[&'a str]) -> Vec<Item<'a>> {
+    let item = |(&task, &ending)| {
+        let tried = ending != "I" && attempt(state, ending);
+        Item { task, ending, tried }
+    };
+    schedule.iter().zip(endings).map(item).collect()
+}
+
+/// Takes the head process, adds 1 to PC if it is executed, and says in which queue it ends; gives whether it was tried.
+fn attempt(state: &mut State, ending: &str) -> bool {
+    let process = state.stepping.get_or_insert_with(|| state.draft.processes.remove(0));
+    let tried = process.sfu;
+    match ending {
+        "E" => {
+            let pc = process.psw + 1;
+            put(&mut process.psw, 0, 0xF_FFFF, pc);
+            process.sfu = false;
         }
+        "WD" => process.sfu = true,
+        _ => {}
     }
-    tries
+    tried
 }
 
 /// Puts the process where the last ending leaves it, and records a trap.
@@ -238,26 +242,4 @@ fn settle(state: &mut State, endings: &[&str]) {
 /// Puts processes into the order of an image, each queue as it is.
 pub fn in_order(processes: &mut [Process]) {
     processes.sort_by_key(|process| (process.task, process.sfu));
-}
-
-/// The report by documents 01 and 02.
-pub fn report(draft: &Draft, endings: &[&str], tries: usize) -> String {
-    let own = |task: u8| draft.processes.iter().filter(move |process| process.task == task);
-    let lines = draft.tasks.iter().map(|task| task_line(task, own(task.number).count()));
-    lines.collect::<String>() + &counts_line(draft, endings, tries)
-}
-
-/// A task's line of the report, with so many live processes.
-pub fn task_line(task: &Task, live: usize) -> String {
-    match task.kind {
-        NO_TRAP => format!("{} {live} -- -----\n", task.number),
-        kind => format!("{} {live} {kind:02X} {:05X}\n", task.number, task.trapped & 0xF_FFFF),
-    }
-}
-
-/// The report's last line.
-pub fn counts_line(draft: &Draft, endings: &[&str], tries: usize) -> String {
-    let count = |first| endings.iter().filter(|ending| ending.starts_with(first)).count();
-    let (executed, waved, trapped, idle) = (count('E'), count('W'), count('T'), count('I'));
-    format!("E{executed} W{waved} T{trapped} I{idle} S{tries} CF{}\n", draft.flag)
 }

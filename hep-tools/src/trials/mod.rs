@@ -1,11 +1,13 @@
 //! Trials: inputs with the answers that document 01 gives them, worked out by hand.
 
 mod bench;
+mod counts;
 mod crowds;
 pub mod edges;
 mod families;
 mod live;
 mod queues;
+mod report;
 
 use crate::emulator::batch::Answer;
 use crate::tool::from_hex;
@@ -22,13 +24,14 @@ pub struct Trial {
 type Reading = fn(&str) -> Result<Vec<Trial>, String>;
 
 /// The trials that are written line by line.
-const WRITTEN: [(&str, &str, Reading); 6] = [
+const WRITTEN: [(&str, &str, Reading); 7] = [
     ("operations", include_str!("../../trials/operations.trials"), bench::trials),
     ("operands", include_str!("../../trials/operands.trials"), bench::trials),
     ("checks", include_str!("../../trials/checks.trials"), bench::trials),
     ("processes", include_str!("../../trials/processes.trials"), bench::trials),
     ("queues", include_str!("../../trials/queues.trials"), queues::trials),
     ("live", include_str!("../../trials/live.trials"), live::trials),
+    ("counts", include_str!("../../trials/counts.trials"), counts::trials),
 ];
 
 /// Every trial. A line that can't be read is an error with its file's name.
@@ -58,7 +61,7 @@ pub fn all() -> Result<Vec<Trial>, String> {
 fn printed() -> Trial {
     let hex = "0001 01 | 01 01 0000 0001 0000 0001 0000 00000001 00000000 FF 0000000000000000 | \
                01 00 00 01 0000000000000000 | 0000 | 0000 | 00000000 | 00000000";
-    let output = b"1 1 14 00000\nE0 W0 T1 I0 S0 CF0\n".to_vec();
-    let expected = Answer { output, image: None };
+    let output = b"1 1 14 00000 E0 W0 T1 I0 S0\nE0 W0 T1 I0 S0 CF0\n".to_vec();
+    let expected = Answer::of(output);
     Trial { name: "printed".to_string(), input: from_hex(hex).unwrap_or_default(), expected }
 }

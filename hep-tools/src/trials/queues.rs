@@ -6,8 +6,8 @@
 //!
 //! An item is the ending of its try, `+` and the ending of its step: `W+E`. `E+` has no step, `E` no try; `2:` before it is an item of task 2.
 
+use super::report::{self, Item};
 use super::{bench, Trial};
-use crate::emulator::batch::Answer;
 use crate::emulator::draft::{batch_input, Draft, Process};
 
 /// The trial of a line.
@@ -23,9 +23,8 @@ pub fn trials(line: &str) -> Result<Vec<Trial>, String> {
     let image = state.draft.bytes();
     let (schedule, items) = bench::items(items)?;
     changes(&mut state, after)?;
-    let (endings, tries) = counted(&items);
-    let output = bench::report(&state.draft, &endings, tries).into_bytes();
-    let expected = Answer { output, image: Some(state.draft.bytes()) };
+    let items = ended(&schedule, &items);
+    let expected = report::answer(&state.draft, &items);
     Ok(vec![Trial { name: name.to_string(), input: batch_input(&schedule, &image), expected }])
 }
 
@@ -72,14 +71,13 @@ pub fn attempts(item: &str) -> Vec<(&str, bool)> {
     [(tried, true), (stepped, false)].into_iter().filter(|(ending, _)| !ending.is_empty()).collect()
 }
 
-/// The endings by which items count, and how many tries they made.
-fn counted<'a>(items: &[&'a str]) -> (Vec<&'a str>, usize) {
+/// The items as they count: by their last attempts.
+pub fn ended<'a>(schedule: &[u8], items: &[&'a str]) -> Vec<Item<'a>> {
     let last = |item| attempts(item).last().map_or("", |(ending, _)| *ending);
-    (items.iter().copied().map(last).collect(), items.iter().filter(|i| i.contains('+')).count())
-}
-
-/// The report's last line for these items.
-pub fn counts_line(draft: &Draft, items: &[&str]) -> String {
-    let (endings, tries) = counted(items);
-    bench::counts_line(draft, &endings, tries)
+    let item = |(&task, &item): (&u8, &&'a str)| Item {
+        task,
+        ending: last(item),
+        tried: item.contains('+'),
+    };
+    schedule.iter().zip(items).map(item).collect()
 }

@@ -12,7 +12,8 @@ usage: hep-trials [OPTION..]
 
 Holds the proved library (libhep_c.a) to the trials of document 01, its calls to their refusals, then the
 library to the emulator of hep-tools on an image with each of its bits changed and on random inputs: output,
-counts, memories and image. Pairs of inputs try isolation. Fillings of random jobs are held to a plain search.
+counts of the run and of each task, memories and image. Pairs of inputs try isolation. Fillings of random jobs
+are held to a plain search.
 
   --seed N     the first of the random inputs, 1 if not given; each seed has 1,000 inputs
   --count N    random inputs, 50000 if not given; a line on standard error tells how many are done

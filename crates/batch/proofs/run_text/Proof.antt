@@ -34,7 +34,7 @@ same-length-5 : tie.Need-same-length-5
 same-length-5 c = search needs
 
 returns : tie.Need-returns
-returns c = promised-as _ _ _ _ _ (run-refused _ _ _ _ _ (c .before .before .before .before .before .before .before .before .before .before .before .before .before .before .before .before .before .run-owned .ensures .0) _ (c .before .before .before .before .before .answer .given .1)) (c .before .before .refusal-text .ensures)
+returns c = promised-as _ _ _ _ _ (run-refused _ _ _ _ _ (c .before .before .before .before .before .before .before .before .before .before .before .before .before .before .before .before .before .before .before .run-owned .ensures .0) _ (c .before .before .before .before .before .answer .given .1)) (c .before .before .refusal-text .ensures)
 
 same-length-6 : tie.Need-same-length-6
 same-length-6 c = search needs
@@ -52,7 +52,7 @@ same-length-10 : tie.Need-same-length-10
 same-length-10 c = search needs
 
 returns-2 : tie.Need-returns-2
-returns-2 c = promised-as _ _ _ _ _ (run-counted _ _ _ _ _ (c .before .before .before .before .before .before .before .before .before .before .before .before .before .before .before .before .before .run-owned .ensures .0) _ (c .before .before .before .before .before .answer2 .given .1)) (c .before .before .report-text .ensures)
+returns-2 c = promised-as _ _ _ _ _ (run-counted _ _ _ _ _ (c .before .before .before .before .before .before .before .before .before .before .before .before .before .before .before .before .before .before .before .run-owned .ensures .0) _ (c .before .before .before .before .before .answer2 .given .1)) (c .before .before .report-text .ensures)
 
 pub run-text-spec : {M : Type 1} → statement M
 run-text-spec =

@@ -66,9 +66,9 @@ use Rattle.step.proofs.ProcessTable.Laws as B′
 use Rattle.library.specs.declared.Sizes.{Sizes}
 use Rattle.library.proofs.Sizes as Z
 use Rattle.library.proofs.Sizes.Laws as Z′
-use Rattle.library.specs.declared.RunAnswer.{RunAnswer}
-use Rattle.library.proofs.RunAnswer as N
-use Rattle.library.proofs.RunAnswer.Laws as N′
+use Rattle.library.specs.declared.RunResult.{RunResult}
+use Rattle.library.proofs.RunResult as N
+use Rattle.library.proofs.RunResult.Laws as N′
 use Rattle.library.specs.declared.AfterRun.{AfterRun}
 use Rattle.library.proofs.AfterRun as O
 use Rattle.library.proofs.AfterRun.Laws as O′
@@ -102,11 +102,11 @@ val-B = LL.val B.the-type B′.the-laws
 abbrev val-Z : Sizes → Val
 val-Z = LL.val Z.the-type Z′.the-laws
 
-abbrev val-N : RunAnswer → Val
-val-N = EL.val N.the-type N′.the-laws
+abbrev val-N : RunResult → Val
+val-N = LL.val N.the-type N′.the-laws
 
 abbrev Parts : AfterRun → Type 0
-Parts r = (Is S.the-row (r .rows) (val-S (r .rows) ∷ []) × (Is B.the-row (r .table) (val-B (r .table) ∷ []) × (Is N.the-row (r .answer) (val-N (r .answer) ∷ []) × Unit {0})))
+Parts r = (Is S.the-row (r .rows) (val-S (r .rows) ∷ []) × (Is B.the-row (r .table) (val-B (r .table) ∷ []) × (Is N.the-row (r .result) (val-N (r .result) ∷ []) × Unit {0})))
 
 parts : (r : AfterRun) (w : Val) → Is O.the-row r (w ∷ []) → Parts r
 parts r w is = LL.owed O.the-type O′.the-laws r _ is
@@ -207,15 +207,15 @@ module _ {M : Type 1} (𝓤 : URA M) (H : Heap 𝓤) (A : Atoms 𝓤) (W : Given
   abbrev lent : GName → RefT (List Row)
   lent δ = record { ptr = (b₀, o₀); name = δ; now = x₀ }
 
-  exits : (v : Rows) (r : AfterRun) (z₀ : List Row) (z₄ : List ℕ) (z₅ : List ℕ) (z₇ : List ℕ) (z₈ : List ℕ) → Parts r → v ≡ loadedRows x₀ → RunPromise x₁₀ (lentBuffers (heldRows v) x₁ x₂ x₃ x₄ x₅ x₆ x₇ x₈) x₉ (r .answer) (lentBuffers (heldRows (r .rows)) (r .table) x₂ x₃ z₄ z₅ x₆ z₇ z₈) × SamePlaces v (r .rows) → z₀ ≡ storedRows x₀ (r .rows) → length z₀ ≡ length x₀ → length z₄ ≡ length x₄ → length z₅ ≡ length x₅ → length z₇ ≡ length x₇ → length z₈ ≡ length x₈
-      → ent 𝓤 (⋆ 𝓤 H A (‵ (flft κ₀ q₀) ∷ ‵ (flft κ₁ q₁) ∷ (‵ (flft κ₂ q₂) ⊛ (‵ (flft κ₃ q₃) ⊛ (‵ (flft κ₄ q₄) ⊛ (‵ (flft κ₅ q₅) ⊛ (‵ (flft κ₆ q₆) ⊛ (‵ (flft κ₇ q₇) ⊛ (‵ (flft κ₈ q₈) ⊛ (‵ (flft κ₉ q₉) ⊛ ‵ ftrue)))))))) ∷ ‵ (fobs γ₁ (B.the-row .coded .code (r .table))) ∷ ‵ (fbor κ₁ (Body (mem B.the-row) b₁ o₁ γ₁)) ∷ ‵ (finally T.the-row γ₀ z₀) ∷ ‵ (finally u8 γ₄ z₄) ∷ ‵ (finally u64 γ₅ z₅) ∷ ‵ (finally u8 γ₇ z₇) ∷ ‵ (finally u64 γ₈ z₈) ∷ [])) (Post (val-N (r .answer)))
+  exits : (v : Rows) (r : AfterRun) (z₀ : List Row) (z₄ : List ℕ) (z₅ : List ℕ) (z₇ : List ℕ) (z₈ : List ℕ) → Parts r → v ≡ loadedRows x₀ → RunPromise x₁₀ (lentBuffers (heldRows v) x₁ x₂ x₃ x₄ x₅ x₆ x₇ x₈) x₉ (r .result) (lentBuffers (heldRows (r .rows)) (r .table) x₂ x₃ z₄ z₅ x₆ z₇ z₈) × SamePlaces v (r .rows) → z₀ ≡ storedRows x₀ (r .rows) → length z₀ ≡ length x₀ → length z₄ ≡ length x₄ → length z₅ ≡ length x₅ → length z₇ ≡ length x₇ → length z₈ ≡ length x₈
+      → ent 𝓤 (⋆ 𝓤 H A (‵ (flft κ₀ q₀) ∷ ‵ (flft κ₁ q₁) ∷ (‵ (flft κ₂ q₂) ⊛ (‵ (flft κ₃ q₃) ⊛ (‵ (flft κ₄ q₄) ⊛ (‵ (flft κ₅ q₅) ⊛ (‵ (flft κ₆ q₆) ⊛ (‵ (flft κ₇ q₇) ⊛ (‵ (flft κ₈ q₈) ⊛ (‵ (flft κ₉ q₉) ⊛ ‵ ftrue)))))))) ∷ ‵ (fobs γ₁ (B.the-row .coded .code (r .table))) ∷ ‵ (fbor κ₁ (Body (mem B.the-row) b₁ o₁ γ₁)) ∷ ‵ (finally T.the-row γ₀ z₀) ∷ ‵ (finally u8 γ₄ z₄) ∷ ‵ (finally u64 γ₅ z₅) ∷ ‵ (finally u8 γ₇ z₇) ∷ ‵ (finally u64 γ₈ z₈) ∷ [])) (Post (val-N (r .result)))
   exits v r z₀ z₄ z₅ z₇ z₈ os e₀ e₁ e₂ n₀ n₄ n₅ n₇ n₈ =
       qed W (‵ (flft κ₀ q₀) ∷ ‵ (flft κ₁ q₁) ∷ (‵ (flft κ₂ q₂) ⊛ (‵ (flft κ₃ q₃) ⊛ (‵ (flft κ₄ q₄) ⊛ (‵ (flft κ₅ q₅) ⊛ (‵ (flft κ₆ q₆) ⊛ (‵ (flft κ₇ q₇) ⊛ (‵ (flft κ₈ q₈) ⊛ (‵ (flft κ₉ q₉) ⊛ ‵ ftrue)))))))) ∷ ‵ (fobs γ₁ (B.the-row .coded .code (r .table))) ∷ ‵ (fbor κ₁ (Body (mem B.the-row) b₁ o₁ γ₁)) ∷ ‵ (finally T.the-row γ₀ z₀) ∷ ‵ (finally u8 γ₄ z₄) ∷ ‵ (finally u64 γ₅ z₅) ∷ ‵ (finally u8 γ₇ z₇) ∷ ‵ (finally u64 γ₈ z₈) ∷ []) ∵
-      suffices ! _ (ends-at 𝓤 H A run′.ended stayed (run′.clauses 𝓤 H A at-mem run) W bound (val-N (r .answer)) (r .answer) (z₀, (r .table, (tt, (tt, (z₄, (z₅, (tt, (z₇, (z₈, (tt, (tt, tt))))))))))) (n₀, (tt, (tt, (tt, (n₄, (n₅, (tt, (n₇, (n₈, (tt, (tt, tt)))))))))))) $
-      says ! (run-lent (lentBuffers x₀ x₁ x₂ x₃ x₄ x₅ x₆ x₇ x₈) x₁₀ x₉ (r .answer) v (r .rows) z₀ (lentBuffers z₀ (r .table) x₂ x₃ z₄ z₅ x₆ z₇ z₈) e₀ e₁ e₂) $
+      suffices ! _ (ends-at 𝓤 H A run′.ended stayed (run′.clauses 𝓤 H A at-mem run) W bound (val-N (r .result)) (r .result) (z₀, (r .table, (tt, (tt, (z₄, (z₅, (tt, (z₇, (z₈, (tt, (tt, tt))))))))))) (n₀, (tt, (tt, (tt, (n₄, (n₅, (tt, (n₇, (n₈, (tt, (tt, tt)))))))))))) $
+      says ! (run-lent (lentBuffers x₀ x₁ x₂ x₃ x₄ x₅ x₆ x₇ x₈) x₁₀ x₉ (r .result) v (r .rows) z₀ (lentBuffers z₀ (r .table) x₂ x₃ z₄ z₅ x₆ z₇ z₈) e₀ e₁ e₂) $
       move ! (1 ∷ 2 ∷ []) $ join ! $ move ! (1 ∷ 0 ∷ []) $ join ! $ frame ! $ feqI ! (List Val) (s₁ ∷ []) (s₁ ∷ []) refl $ fjoin3 ! $ nothing ! $ nothing ! $ fjoin ! $ nothing ! $ fjoin ! $ move ! (6 ∷ 0 ∷ []) $ fjoin ! $
       move ! (5 ∷ 0 ∷ []) $ fjoin ! $ nothing ! $ fjoin ! $ move ! (4 ∷ 0 ∷ []) $ fjoin ! $ move ! (3 ∷ 0 ∷ []) $ fjoin ! $ nothing ! $ fjoin ! $ nothing ! $ fjoin ! $ move ! (1 ∷ 0 ∷ []) $ fjoin ! $ move ! (1 ∷ 0 ∷ []) $ fjoin ! $
-      owned ! N.the-row (Is N.the-row) (EL.makes N.the-type N′.the-plain 𝓤 H A) (r .answer) _ (os .1 .1 .0) $ move ! (1 ∷ 0 ∷ []) $ done !
+      owned ! N.the-row (Is N.the-row) (LL.makes N.the-type N′.the-plain 𝓤 H A) (r .result) _ (os .1 .1 .0) $ move ! (1 ∷ 0 ∷ []) $ done !
 
   -- what the callees' triples bind outside, and that the caller has what they ask
   abbrev args-load : ℕ → GName → (RefT (List Row) × Unit {0})
@@ -291,9 +291,9 @@ module _ {M : Type 1} (𝓤 : URA M) (H : Heap 𝓤) (A : Atoms 𝓤) (W : Given
         calls-at ! fm (Core 𝓤 H A at-mem run) known-core (to-core v) (and-then ! (load ! (from ! (stop !)) (look ! 38 refl)) (and-then ! (load ! (from ! (stop !)) (look ! 30 refl)) (and-then ! (load ! (from ! (stop !)) (look ! 56 refl)) (and-then ! (load ! (from ! (stop !)) (look ! 54 refl)) (and-then ! (load ! (from ! (stop !)) (look ! 26 refl)) (and-then ! (load ! (from ! (stop !)) (look ! 22 refl)) (and-then ! (load ! (from ! (stop !)) (look ! 48 refl)) (and-then ! (load ! (from ! (stop !)) (look ! 18 refl)) (and-then ! (load ! (from ! (stop !)) (look ! 14 refl)) (and-then ! (load ! (from ! (stop !)) (look ! 42 refl)) (and-then ! (load ! (from ! (stop !)) (look ! 40 refl)) (no-more !)))))))))))) (λ w₁.
         use1 W (later (some (λ (r : AfterRun). ((‵ (flft κ₂ q₂) ⊛ (‵ (flft κ₃ q₃) ⊛ (‵ (flft κ₄ q₄) ⊛ (‵ (flft κ₅ q₅) ⊛ (‵ (flft κ₆ q₆) ⊛ (‵ (flft κ₇ q₇) ⊛ (‵ (flft κ₈ q₈) ⊛ (‵ (flft κ₉ q₉) ⊛ ‵ ftrue)))))))) ⊛ ‵ (O.the-row .own r (w₁ ∷ []))) ⊛ raw (ensured 𝓤 H A core-fn.ended (core-fn.clauses 𝓤 H A at-mem run) (κ₂, (κ₃, (κ₄, (κ₅, (κ₆, (κ₇, (κ₈, (κ₉, tt)))))))) (args-core v) tt r)))) (id⊢ 𝓤 _) $ await ! tt $ pick ! (λ r.
         split ! $ move ! (1 ∷ []) $
-        use1 W (some (λ (ws₁ : Lasts core-fn.ended (κ₂, (κ₃, (κ₄, (κ₅, (κ₆, (κ₇, (κ₈, (κ₉, tt)))))))) (args-core v)). ‵ (lasts core-fn.ended (κ₂, (κ₃, (κ₄, (κ₅, (κ₆, (κ₇, (κ₈, (κ₉, tt)))))))) (args-core v) ws₁) ⊛ raw (fact 𝓤 (RunPromise x₁₀ (lentBuffers (heldRows v) x₁ x₂ x₃ x₄ x₅ x₆ x₇ x₈) x₉ (r .answer) (lentBuffers (heldRows (r .rows)) (r .table) x₂ x₃ (ws₁ .1 .1 .1 .1 .0) (ws₁ .1 .1 .1 .1 .1 .0) x₆ (ws₁ .1 .1 .1 .1 .1 .1 .1 .0) (ws₁ .1 .1 .1 .1 .1 .1 .1 .1 .0)) × SamePlaces v (r .rows))))) (id⊢ 𝓤 _) $ pick ! (λ ws₁.
+        use1 W (some (λ (ws₁ : Lasts core-fn.ended (κ₂, (κ₃, (κ₄, (κ₅, (κ₆, (κ₇, (κ₈, (κ₉, tt)))))))) (args-core v)). ‵ (lasts core-fn.ended (κ₂, (κ₃, (κ₄, (κ₅, (κ₆, (κ₇, (κ₈, (κ₉, tt)))))))) (args-core v) ws₁) ⊛ raw (fact 𝓤 (RunPromise x₁₀ (lentBuffers (heldRows v) x₁ x₂ x₃ x₄ x₅ x₆ x₇ x₈) x₉ (r .result) (lentBuffers (heldRows (r .rows)) (r .table) x₂ x₃ (ws₁ .1 .1 .1 .1 .0) (ws₁ .1 .1 .1 .1 .1 .0) x₆ (ws₁ .1 .1 .1 .1 .1 .1 .1 .0) (ws₁ .1 .1 .1 .1 .1 .1 .1 .1 .0)) × SamePlaces v (r .rows))))) (id⊢ 𝓤 _) $ pick ! (λ ws₁.
         split ! $ move ! (1 ∷ []) $
-        heard ! (RunPromise x₁₀ (lentBuffers (heldRows v) x₁ x₂ x₃ x₄ x₅ x₆ x₇ x₈) x₉ (r .answer) (lentBuffers (heldRows (r .rows)) (r .table) x₂ x₃ (ws₁ .1 .1 .1 .1 .0) (ws₁ .1 .1 .1 .1 .1 .0) x₆ (ws₁ .1 .1 .1 .1 .1 .1 .1 .0) (ws₁ .1 .1 .1 .1 .1 .1 .1 .1 .0)) × SamePlaces v (r .rows)) (λ e₁.
+        heard ! (RunPromise x₁₀ (lentBuffers (heldRows v) x₁ x₂ x₃ x₄ x₅ x₆ x₇ x₈) x₉ (r .result) (lentBuffers (heldRows (r .rows)) (r .table) x₂ x₃ (ws₁ .1 .1 .1 .1 .0) (ws₁ .1 .1 .1 .1 .1 .0) x₆ (ws₁ .1 .1 .1 .1 .1 .1 .1 .0) (ws₁ .1 .1 .1 .1 .1 .1 .1 .1 .0)) × SamePlaces v (r .rows)) (λ e₁.
         fsplit ! $ drop ! $ fsplit ! $ drop ! $ fsplit ! $ drop ! $ fsplit ! $ drop ! $ fsplit ! $ fsplit ! $ move ! (1 ∷ []) $ feqL ! (λ n₁·4. move ! (1 ∷ []) $ fsplit ! $ fsplit ! $ move ! (1 ∷ []) $ feqL ! (λ n₁·5. move ! (1 ∷ []) $
         fsplit ! $ drop ! $ fsplit ! $ fsplit ! $ move ! (1 ∷ []) $ feqL ! (λ n₁·7. move ! (1 ∷ []) $ fsplit ! $ fsplit ! $ move ! (1 ∷ []) $ feqL ! (λ n₁·8. move ! (1 ∷ []) $ fsplit ! $ drop ! $ fsplit ! $ drop ! $ drop ! $
         move ! (4 ∷ []) $ split ! $ move ! (1 ∷ []) $ peeks ! O.the-row (Is O.the-row) (shows 𝓤 H A O.the-row) r (w₁ ∷ []) (λ is₁. land ! (from ! (stop !)) (init ! 41 refl (LL.lawful O.the-type O′.the-laws 𝓤 H A W .typed r _ is₁ .0)) $
@@ -312,7 +312,7 @@ module _ {M : Type 1} (𝓤 : URA M) (H : Heap 𝓤) (A : Atoms 𝓤) (W : Given
         split ! $ move ! (1 ∷ []) $ use1 W (some (λ (ws₂ : Lasts store-fn.ended (κ₀, tt) (args-store r)). ‵ (lasts store-fn.ended (κ₀, tt) (args-store r) ws₂) ⊛ raw (fact 𝓤 ((ws₂ .0) ≡ storedRows x₀ (r .rows))))) (id⊢ 𝓤 _) $ pick ! (λ ws₂.
         split ! $ move ! (1 ∷ []) $ heard ! ((ws₂ .0) ≡ storedRows x₀ (r .rows)) (λ e₂. fsplit ! $ fsplit ! $ move ! (1 ∷ []) $ feqL ! (λ n₂·0. move ! (1 ∷ []) $ fsplit ! $ drop ! $ drop ! $ move ! (1 ∷ []) $ split ! $ move ! (1 ∷ []) $
         peeks ! Nothing (Is Nothing) (shows 𝓤 H A Nothing) u (w₂ ∷ []) (λ is₂. land ! (from ! (stop !)) (init ! 15 refl (nothing-lawful 𝓤 H A W .typed u _ is₂ .0)) $ drop ! $ split ! $ move ! (1 ∷ []) $ drop ! $
-        assigns ! (of-opd ! (load ! (from ! (fld ! refl (stop !))) (look-in ! 38 (sub ! 2 refl (whole !))))) (from ! (stop !)) (init ! 64 refl (EL.lawful N.the-type N′.the-laws 𝓤 H A W tt .typed (r .answer) _ (parts r w₁ is₁ .1 .1 .0) .0)) $
+        assigns ! (of-opd ! (load ! (from ! (fld ! refl (stop !))) (look-in ! 38 (sub ! 2 refl (whole !))))) (from ! (stop !)) (init ! 64 refl (LL.lawful N.the-type N′.the-laws 𝓤 H A W .typed (r .result) _ (parts r w₁ is₁ .1 .1 .0) .0)) $
         returns ! (look ! 64 refl) $ forget ! 10 refl $ forget ! 12 refl $ forget ! 14 refl $ forget ! 16 refl $ forget ! 18 refl $ forget ! 20 refl $ forget ! 22 refl $ forget ! 24 refl $ forget ! 26 refl $ forget ! 28 refl $
         forget ! 30 refl $ forget ! 32 refl $ forget ! 34 refl $ forget ! 36 refl $ forget ! 38 refl $ forget ! 40 refl $ forget ! 42 refl $ forget ! 44 refl $ forget ! 46 refl $ forget ! 48 refl $ forget ! 50 refl $ forget ! 52 refl $
         forget ! 54 refl $ forget ! 56 refl $ forget ! 58 refl $ forget ! 60 refl $ forget ! 62 refl $ forget ! 64 refl $ move ! (64 ∷ 65 ∷ []) $ free1 ! $ move ! (62 ∷ 63 ∷ []) $ free1 ! $ move ! (60 ∷ 61 ∷ []) $ free1 ! $

@@ -62,9 +62,9 @@ use Rattle.step.proofs.ProcessTable.Laws as B′
 use Rattle.library.specs.declared.Sizes.{Sizes}
 use Rattle.library.proofs.Sizes as Z
 use Rattle.library.proofs.Sizes.Laws as Z′
-use Rattle.library.specs.declared.RunAnswer.{RunAnswer}
-use Rattle.library.proofs.RunAnswer as N
-use Rattle.library.proofs.RunAnswer.Laws as N′
+use Rattle.library.specs.declared.RunResult.{RunResult}
+use Rattle.library.proofs.RunResult as N
+use Rattle.library.proofs.RunResult.Laws as N′
 use Rattle.library.specs.declared.AfterRun.{AfterRun}
 use Rattle.library.proofs.AfterRun as O
 use Rattle.library.proofs.AfterRun.Laws as O′
@@ -88,11 +88,11 @@ val-B = LL.val B.the-type B′.the-laws
 abbrev val-Z : Sizes → Val
 val-Z = LL.val Z.the-type Z′.the-laws
 
-abbrev val-N : RunAnswer → Val
-val-N = EL.val N.the-type N′.the-laws
+abbrev val-N : RunResult → Val
+val-N = LL.val N.the-type N′.the-laws
 
-spelled-N : (x : RunAnswer) (w : Val) → Is N.the-row x (w ∷ []) → Is N.the-row x (val-N x ∷ [])
-spelled-N x w is = subst (Is N.the-row x) (EL.tells N.the-type N′.the-laws x _ is) is
+spelled-N : (x : RunResult) (w : Val) → Is N.the-row x (w ∷ []) → Is N.the-row x (val-N x ∷ [])
+spelled-N x w is = subst (Is N.the-row x) (LL.tells N.the-type N′.the-laws x _ is) is
 
 -- the array's type, its machine values, and the types of the locals
 abbrev Seven : RattleType
@@ -231,12 +231,12 @@ module _ {M : Type 1} (𝓤 : URA M) (H : Heap 𝓤) (A : Atoms 𝓤) (W : Given
   abbrev lent-table : ℕ → GName → RefT ProcessTable
   lent-table l δ = record { ptr = (l, 0); name = δ; now = x₁ }
 
-  exits : (r : RunAnswer) (o : AfterRun) (w : Val) (z₀ : List Row) (z₁ : ProcessTable) (z₄ : List ℕ) (z₅ : List ℕ) (z₇ : List ℕ) (z₈ : List ℕ) → RunPromise x₁₀ (lentBuffers x₀ x₁ x₂ x₃ x₄ x₅ x₆ x₇ x₈) x₉ r (lentBuffers z₀ z₁ x₂ x₃ z₄ z₅ x₆ z₇ z₈) → o ≡ record { rows = record { at = z₀; n = 7 }; table = z₁; answer = r } → length z₄ ≡ length x₄ → length z₅ ≡ length x₅ → length z₇ ≡ length x₇ → length z₈ ≡ length x₈
+  exits : (r : RunResult) (o : AfterRun) (w : Val) (z₀ : List Row) (z₁ : ProcessTable) (z₄ : List ℕ) (z₅ : List ℕ) (z₇ : List ℕ) (z₈ : List ℕ) → RunPromise x₁₀ (lentBuffers x₀ x₁ x₂ x₃ x₄ x₅ x₆ x₇ x₈) x₉ r (lentBuffers z₀ z₁ x₂ x₃ z₄ z₅ x₆ z₇ z₈) → o ≡ record { rows = record { at = z₀; n = 7 }; table = z₁; result = r } → length z₄ ≡ length x₄ → length z₅ ≡ length x₅ → length z₇ ≡ length x₇ → length z₈ ≡ length x₈
       → ent 𝓤 (⋆ 𝓤 H A ((‵ (flft κ₂ q₂) ⊛ (‵ (flft κ₃ q₃) ⊛ (‵ (flft κ₄ q₄) ⊛ (‵ (flft κ₅ q₅) ⊛ (‵ (flft κ₆ q₆) ⊛ (‵ (flft κ₇ q₇) ⊛ (‵ (flft κ₈ q₈) ⊛ (‵ (flft κ₉ q₉) ⊛ ‵ ftrue)))))))) ∷ ‵ (O.the-row .own o (w ∷ [])) ∷ ‵ (finally u8 γ₄ z₄) ∷ ‵ (finally u64 γ₅ z₅) ∷ ‵ (finally u8 γ₇ z₇) ∷ ‵ (finally u64 γ₈ z₈) ∷ [])) (Post (w))
   exits r o w z₀ z₁ z₄ z₅ z₇ z₈ e₁ e₂ n₄ n₅ n₇ n₈ =
       qed W ((‵ (flft κ₂ q₂) ⊛ (‵ (flft κ₃ q₃) ⊛ (‵ (flft κ₄ q₄) ⊛ (‵ (flft κ₅ q₅) ⊛ (‵ (flft κ₆ q₆) ⊛ (‵ (flft κ₇ q₇) ⊛ (‵ (flft κ₈ q₈) ⊛ (‵ (flft κ₉ q₉) ⊛ ‵ ftrue)))))))) ∷ ‵ (O.the-row .own o (w ∷ [])) ∷ ‵ (finally u8 γ₄ z₄) ∷ ‵ (finally u64 γ₅ z₅) ∷ ‵ (finally u8 γ₇ z₇) ∷ ‵ (finally u64 γ₈ z₈) ∷ []) ∵
       suffices ! _ (ends-at 𝓤 H A run-owned′.ended stayed (run-owned′.clauses 𝓤 H A at-mem run) W bound (w) (o) (tt, (tt, (tt, (tt, (z₄, (z₅, (tt, (z₇, (z₈, (tt, (tt, tt))))))))))) (tt, (tt, (tt, (tt, (n₄, (n₅, (tt, (n₇, (n₈, (tt, (tt, tt)))))))))))) $
-      says ! (subst (λ (y : AfterRun). RunPromise x₁₀ (lentBuffers x₀ x₁ x₂ x₃ x₄ x₅ x₆ x₇ x₈) x₉ (y .answer) (lentBuffers (y .rows .at) (y .table) x₂ x₃ z₄ z₅ x₆ z₇ z₈) × (y .rows .n ≡ 7)) (sym e₂) (e₁, refl)) $
+      says ! (subst (λ (y : AfterRun). RunPromise x₁₀ (lentBuffers x₀ x₁ x₂ x₃ x₄ x₅ x₆ x₇ x₈) x₉ (y .result) (lentBuffers (y .rows .at) (y .table) x₂ x₃ z₄ z₅ x₆ z₇ z₈) × (y .rows .n ≡ 7)) (sym e₂) (e₁, refl)) $
       frame ! $ nothing ! $ nothing ! $ fjoin ! $ nothing ! $ fjoin ! $ move ! (5 ∷ 0 ∷ []) $ fjoin ! $ move ! (4 ∷ 0 ∷ []) $ fjoin ! $ nothing ! $ fjoin ! $ move ! (3 ∷ 0 ∷ []) $ fjoin ! $ move ! (2 ∷ 0 ∷ []) $ fjoin ! $ nothing ! $
       fjoin ! $ nothing ! $ fjoin ! $ nothing ! $ fjoin ! $ nothing ! $ fjoin ! $ done !
 
@@ -250,13 +250,13 @@ module _ {M : Type 1} (𝓤 : URA M) (H : Heap 𝓤) (A : Atoms 𝓤) (W : Given
   goes-lent : (l : ℕ) (m : ℕ) (α : ℕ) (β : ℕ) (γ : GName) (δ : GName) → ent 𝓤 (⋆ 𝓤 H A ((‵ (flft (α ∷ []) fullShare) ⊛ (‵ (flft (β ∷ []) fullShare) ⊛ (‵ (flft κ₂ q₂) ⊛ (‵ (flft κ₃ q₃) ⊛ (‵ (flft κ₄ q₄) ⊛ (‵ (flft κ₅ q₅) ⊛ (‵ (flft κ₆ q₆) ⊛ (‵ (flft κ₇ q₇) ⊛ (‵ (flft κ₈ q₈) ⊛ (‵ (flft κ₉ q₉) ⊛ ‵ ftrue)))))))))) ∷ ‵ (owns (MutSlice (named 0) (α ∷ []) T.the-row ∷ MutRef (named 1) (β ∷ []) B.the-row ∷ ShrSlice (named 0) κ₂ u8 ∷ ShrSlice (named 1) κ₃ u64 ∷ MutSlice (named 2) κ₄ u8 ∷ MutSlice (named 3) κ₅ u64 ∷ ShrSlice (named 4) κ₆ u64 ∷ MutSlice (named 5) κ₇ u8 ∷ MutSlice (named 6) κ₈ u64 ∷ ShrSlice (named 7) κ₉ u8 ∷ Z.the-row ∷ []) (args-lent l m α β γ δ) (sliceVal (l, 0) (length x₀) ∷ [], (vptr m 0 ∷ [], (s₂ ∷ [], (s₃ ∷ [], (s₄ ∷ [], (s₅ ∷ [], (s₆ ∷ [], (s₇ ∷ [], (s₈ ∷ [], (s₉ ∷ [], (val-Z x₁₀ ∷ [], tt)))))))))))) ∷ [])) (Lent 𝓤 H A at-mem run .pre (to-lent l m α β γ δ))
   goes-lent l m α β γ δ = qed W ((‵ (flft (α ∷ []) fullShare) ⊛ (‵ (flft (β ∷ []) fullShare) ⊛ (‵ (flft κ₂ q₂) ⊛ (‵ (flft κ₃ q₃) ⊛ (‵ (flft κ₄ q₄) ⊛ (‵ (flft κ₅ q₅) ⊛ (‵ (flft κ₆ q₆) ⊛ (‵ (flft κ₇ q₇) ⊛ (‵ (flft κ₈ q₈) ⊛ (‵ (flft κ₉ q₉) ⊛ ‵ ftrue)))))))))) ∷ ‵ (owns (MutSlice (named 0) (α ∷ []) T.the-row ∷ MutRef (named 1) (β ∷ []) B.the-row ∷ ShrSlice (named 0) κ₂ u8 ∷ ShrSlice (named 1) κ₃ u64 ∷ MutSlice (named 2) κ₄ u8 ∷ MutSlice (named 3) κ₅ u64 ∷ ShrSlice (named 4) κ₆ u64 ∷ MutSlice (named 5) κ₇ u8 ∷ MutSlice (named 6) κ₈ u64 ∷ ShrSlice (named 7) κ₉ u8 ∷ Z.the-row ∷ []) (args-lent l m α β γ δ) (sliceVal (l, 0) (length x₀) ∷ [], (vptr m 0 ∷ [], (s₂ ∷ [], (s₃ ∷ [], (s₄ ∷ [], (s₅ ∷ [], (s₆ ∷ [], (s₇ ∷ [], (s₈ ∷ [], (s₉ ∷ [], (val-Z x₁₀ ∷ [], tt)))))))))))) ∷ []) ∵ join ! $ frame ! $ done !
 
-  abbrev args-again : List Row → ProcessTable → RunAnswer → (List Row × (ProcessTable × (RunAnswer × Unit {0})))
+  abbrev args-again : List Row → ProcessTable → RunResult → (List Row × (ProcessTable × (RunResult × Unit {0})))
   args-again z₀ z₁ r = (z₀, (z₁, (r, tt)))
 
-  abbrev to-again : List Row → ProcessTable → RunAnswer → Again 𝓤 H A at-mem run .Ghost
+  abbrev to-again : List Row → ProcessTable → RunResult → Again 𝓤 H A at-mem run .Ghost
   to-again z₀ z₁ r = ((tt, tt, tt, (args-again z₀ z₁ r), (array-vals (LL.vals T.the-type T′.the-laws) z₀, (val-B z₁ ∷ [], (val-N r ∷ [], tt)))), tt)
 
-  goes-again : (z₀ : List Row) (z₁ : ProcessTable) (r : RunAnswer) → ent 𝓤 (⋆ 𝓤 H A (‵ ftrue ∷ ‵ (owns (Seven ∷ B.the-row ∷ N.the-row ∷ []) (args-again z₀ z₁ r) (array-vals (LL.vals T.the-type T′.the-laws) z₀, (val-B z₁ ∷ [], (val-N r ∷ [], tt)))) ∷ [])) (Again 𝓤 H A at-mem run .pre (to-again z₀ z₁ r))
+  goes-again : (z₀ : List Row) (z₁ : ProcessTable) (r : RunResult) → ent 𝓤 (⋆ 𝓤 H A (‵ ftrue ∷ ‵ (owns (Seven ∷ B.the-row ∷ N.the-row ∷ []) (args-again z₀ z₁ r) (array-vals (LL.vals T.the-type T′.the-laws) z₀, (val-B z₁ ∷ [], (val-N r ∷ [], tt)))) ∷ [])) (Again 𝓤 H A at-mem run .pre (to-again z₀ z₁ r))
   goes-again z₀ z₁ r = qed W (‵ ftrue ∷ ‵ (owns (Seven ∷ B.the-row ∷ N.the-row ∷ []) (args-again z₀ z₁ r) (array-vals (LL.vals T.the-type T′.the-laws) z₀, (val-B z₁ ∷ [], (val-N r ∷ [], tt)))) ∷ []) ∵ join ! $ frame ! $ done !
 
   module _ (C : Calls 𝓤 H) (Λ : Loops 𝓤 H) (fm : FmC 𝓤 H (W .laws) C) (known-lent : Triple 𝓤 (C #hep·run) (Lent 𝓤 H A at-mem run)) (known-again : Triple 𝓤 (C #hep·after-run) (Again 𝓤 H A at-mem run)) where
@@ -298,7 +298,7 @@ module _ {M : Type 1} (𝓤 : URA M) (H : Heap 𝓤) (A : Atoms 𝓤) (W : Given
         fjoin ! $ move ! (61 ∷ 0 ∷ []) $ fjoin ! $ move ! (61 ∷ 0 ∷ []) $ fjoin ! $ move ! (61 ∷ 0 ∷ []) $ fjoin ! $ move ! (61 ∷ 0 ∷ []) $ fjoin ! $ move ! (1 ∷ 0 ∷ []) $ fjoin ! $ move ! (3 ∷ 0 ∷ []) $ fjoin ! $ move ! (2 ∷ 59 ∷ []) $
         join ! $ move ! (4 ∷ 0 ∷ []) $ join ! $ use2 W (raw (Lent 𝓤 H A at-mem run .pre (to-lent l₁₂ l₁₃ α β γ δ))) (goes-lent l₁₂ l₁₃ α β γ δ) $
         calls-at ! fm (Lent 𝓤 H A at-mem run) known-lent (to-lent l₁₂ l₁₃ α β γ δ) (and-then ! (load ! (from ! (stop !)) (look ! 25 refl)) (and-then ! (load ! (from ! (stop !)) (look ! 23 refl)) (and-then ! (load ! (from ! (stop !)) (look ! 49 refl)) (and-then ! (load ! (from ! (stop !)) (look ! 47 refl)) (and-then ! (load ! (from ! (stop !)) (look ! 19 refl)) (and-then ! (load ! (from ! (stop !)) (look ! 15 refl)) (and-then ! (load ! (from ! (stop !)) (look ! 41 refl)) (and-then ! (load ! (from ! (stop !)) (look ! 11 refl)) (and-then ! (load ! (from ! (stop !)) (look ! 7 refl)) (and-then ! (load ! (from ! (stop !)) (look ! 35 refl)) (and-then ! (load ! (from ! (stop !)) (look ! 33 refl)) (no-more !)))))))))))) (λ w₁.
-        use1 W (later (some (λ (r : RunAnswer). ((‵ (flft (α ∷ []) fullShare) ⊛ (‵ (flft (β ∷ []) fullShare) ⊛ (‵ (flft κ₂ q₂) ⊛ (‵ (flft κ₃ q₃) ⊛ (‵ (flft κ₄ q₄) ⊛ (‵ (flft κ₅ q₅) ⊛ (‵ (flft κ₆ q₆) ⊛ (‵ (flft κ₇ q₇) ⊛ (‵ (flft κ₈ q₈) ⊛ (‵ (flft κ₉ q₉) ⊛ ‵ ftrue)))))))))) ⊛ ‵ (N.the-row .own r (w₁ ∷ []))) ⊛ raw (ensured 𝓤 H A lent-fn.ended (lent-fn.clauses 𝓤 H A at-mem run) ((α ∷ []), ((β ∷ []), (κ₂, (κ₃, (κ₄, (κ₅, (κ₆, (κ₇, (κ₈, (κ₉, tt)))))))))) (args-lent l₁₂ l₁₃ α β γ δ) tt r)))) (id⊢ 𝓤 _) $ await ! tt $ pick ! (λ r.
+        use1 W (later (some (λ (r : RunResult). ((‵ (flft (α ∷ []) fullShare) ⊛ (‵ (flft (β ∷ []) fullShare) ⊛ (‵ (flft κ₂ q₂) ⊛ (‵ (flft κ₃ q₃) ⊛ (‵ (flft κ₄ q₄) ⊛ (‵ (flft κ₅ q₅) ⊛ (‵ (flft κ₆ q₆) ⊛ (‵ (flft κ₇ q₇) ⊛ (‵ (flft κ₈ q₈) ⊛ (‵ (flft κ₉ q₉) ⊛ ‵ ftrue)))))))))) ⊛ ‵ (N.the-row .own r (w₁ ∷ []))) ⊛ raw (ensured 𝓤 H A lent-fn.ended (lent-fn.clauses 𝓤 H A at-mem run) ((α ∷ []), ((β ∷ []), (κ₂, (κ₃, (κ₄, (κ₅, (κ₆, (κ₇, (κ₈, (κ₉, tt)))))))))) (args-lent l₁₂ l₁₃ α β γ δ) tt r)))) (id⊢ 𝓤 _) $ await ! tt $ pick ! (λ r.
         split ! $ move ! (1 ∷ []) $
         use1 W (some (λ (ws₁ : Lasts lent-fn.ended ((α ∷ []), ((β ∷ []), (κ₂, (κ₃, (κ₄, (κ₅, (κ₆, (κ₇, (κ₈, (κ₉, tt)))))))))) (args-lent l₁₂ l₁₃ α β γ δ)). ‵ (lasts lent-fn.ended ((α ∷ []), ((β ∷ []), (κ₂, (κ₃, (κ₄, (κ₅, (κ₆, (κ₇, (κ₈, (κ₉, tt)))))))))) (args-lent l₁₂ l₁₃ α β γ δ) ws₁) ⊛ raw (fact 𝓤 (RunPromise x₁₀ (lentBuffers x₀ x₁ x₂ x₃ x₄ x₅ x₆ x₇ x₈) x₉ r (lentBuffers (ws₁ .0) (ws₁ .1 .0) x₂ x₃ (ws₁ .1 .1 .1 .1 .0) (ws₁ .1 .1 .1 .1 .1 .0) x₆ (ws₁ .1 .1 .1 .1 .1 .1 .1 .0) (ws₁ .1 .1 .1 .1 .1 .1 .1 .1 .0)))))) (id⊢ 𝓤 _) $ pick ! (λ ws₁.
         split ! $ move ! (1 ∷ []) $
@@ -306,8 +306,8 @@ module _ {M : Type 1} (𝓤 : URA M) (H : Heap 𝓤) (A : Atoms 𝓤) (W : Given
         fsplit ! $ fsplit ! $ move ! (1 ∷ []) $ feqL ! (λ n₁·0. move ! (1 ∷ []) $ fsplit ! $ move ! (1 ∷ []) $ fsplit ! $ drop ! $ fsplit ! $ drop ! $ fsplit ! $ fsplit ! $ move ! (1 ∷ []) $ feqL ! (λ n₁·4. move ! (1 ∷ []) $ fsplit ! $
         fsplit ! $ move ! (1 ∷ []) $ feqL ! (λ n₁·5. move ! (1 ∷ []) $ fsplit ! $ drop ! $ fsplit ! $ fsplit ! $ move ! (1 ∷ []) $ feqL ! (λ n₁·7. move ! (1 ∷ []) $ fsplit ! $ fsplit ! $ move ! (1 ∷ []) $ feqL ! (λ n₁·8. move ! (1 ∷ []) $
         fsplit ! $ drop ! $ fsplit ! $ drop ! $ drop ! $ move ! (6 ∷ []) $ split ! $ move ! (1 ∷ []) $ peeks ! N.the-row (Is N.the-row) (shows 𝓤 H A N.the-row) r (w₁ ∷ []) (λ is₁.
-        land ! (from ! (stop !)) (init ! 36 refl (EL.lawful N.the-type N′.the-laws 𝓤 H A W tt .typed r _ is₁ .0)) $ drop ! $
-        rewrite ! 35 (λ (z : Val). ‵ (fat fullShare (spell mirs.table (pointee (N.the-row .written))) l₁₄ 0 z)) (ap only (EL.tells N.the-type N′.the-laws r _ is₁)) refl $ split ! $ move ! (1 ∷ []) $ split ! $
+        land ! (from ! (stop !)) (init ! 36 refl (LL.lawful N.the-type N′.the-laws 𝓤 H A W .typed r _ is₁ .0)) $ drop ! $
+        rewrite ! 35 (λ (z : Val). ‵ (fat fullShare (spell mirs.table (pointee (N.the-row .written))) l₁₄ 0 z)) (ap only (LL.tells N.the-type N′.the-laws r _ is₁)) refl $ split ! $ move ! (1 ∷ []) $ split ! $
         -- the lifetimes end, and the locals are back
         move ! (2 ∷ []) $ lft-end ! tt $ move ! (0 ∷ 10 ∷ 8 ∷ []) $ use3 W (later (‵ (Cells (mem T.the-row) (length x₀) .lies (ws₁ .0) l₁₂ 0))) (slice-back 𝓤 H A W T.the-row (α ∷ []) γ (ws₁ .0) (length x₀) l₁₂ 0) $ await ! tt $ fsplit ! $
         drop ! $ use1 W (‵ (row T.the-row fullShare (ws₁ .0) l₁₂ 0)) (whole-out 𝓤 H A W T.the-row (ws₁ .0) l₁₂ 0) $
@@ -318,14 +318,14 @@ module _ {M : Type 1} (𝓤 : URA M) (H : Heap 𝓤) (A : Atoms 𝓤) (W : Given
         -- the parts are put together
         assigns ! (of-opd ! (load ! (from ! (stop !)) (look ! 1 refl))) (from ! (stop !)) (init ! 9 refl (array-lawful 𝓤 H A W T.the-row (LL.lawful T.the-type T′.the-laws 𝓤 H A W) 7 .typed (ws₁ .0) _ h₀ .0)) $
         assigns ! (of-opd ! (load ! (from ! (stop !)) (look ! 0 refl))) (from ! (stop !)) (init ! 7 refl (LL.lawful B.the-type B′.the-laws 𝓤 H A W .typed (ws₁ .1 .0) _ h₁ .0)) $ nothing ! $ nothing ! $
-        owned ! N.the-row (Is N.the-row) (EL.makes N.the-type N′.the-plain 𝓤 H A) r _ (spelled-N r w₁ is₁) $ fjoin ! $ owned ! B.the-row (Is B.the-row) (LL.makes B.the-type B′.the-plain 𝓤 H A) (ws₁ .1 .0) _ h₁ $ fjoin ! $
+        owned ! N.the-row (Is N.the-row) (LL.makes N.the-type N′.the-plain 𝓤 H A) r _ (spelled-N r w₁ is₁) $ fjoin ! $ owned ! B.the-row (Is B.the-row) (LL.makes B.the-type B′.the-plain 𝓤 H A) (ws₁ .1 .0) _ h₁ $ fjoin ! $
         owned ! Seven (Is Seven) (array-makes 𝓤 H A W T.the-row (LL.makes T.the-type T′.the-plain 𝓤 H A) 7) (ws₁ .0) _ h₀ $ fjoin ! $ move ! (1 ∷ 0 ∷ []) $
         use2 W (raw (Again 𝓤 H A at-mem run .pre (to-again (ws₁ .0) (ws₁ .1 .0) r))) (goes-again (ws₁ .0) (ws₁ .1 .0) r) $
         calls-at ! fm (Again 𝓤 H A at-mem run) known-again (to-again (ws₁ .0) (ws₁ .1 .0) r) (and-then ! (load ! (from ! (stop !)) (look ! 10 refl)) (and-then ! (load ! (from ! (stop !)) (look ! 8 refl)) (and-then ! (load ! (from ! (stop !)) (look ! 34 refl)) (no-more !)))) (λ w₂.
         use1 W (later (some (λ (o : AfterRun). (‵ ftrue ⊛ ‵ (O.the-row .own o (w₂ ∷ []))) ⊛ raw (ensured 𝓤 H A again-fn.ended (again-fn.clauses 𝓤 H A at-mem run) tt (args-again (ws₁ .0) (ws₁ .1 .0) r) tt o)))) (id⊢ 𝓤 _) $ await ! tt $ pick ! (λ o.
         split ! $ move ! (1 ∷ []) $
-        use1 W (some (λ (ws₂ : Lasts again-fn.ended tt (args-again (ws₁ .0) (ws₁ .1 .0) r)). ‵ (lasts again-fn.ended tt (args-again (ws₁ .0) (ws₁ .1 .0) r) ws₂) ⊛ raw (fact 𝓤 (o ≡ record { rows = record { at = ws₁ .0; n = 7 }; table = ws₁ .1 .0; answer = r })))) (id⊢ 𝓤 _) $ pick ! (λ ws₂.
-        split ! $ move ! (1 ∷ []) $ heard ! (o ≡ record { rows = record { at = ws₁ .0; n = 7 }; table = ws₁ .1 .0; answer = r }) (λ e₂. fsplit ! $ drop ! $ fsplit ! $ drop ! $ fsplit ! $ drop ! $ drop ! $ split ! $ move ! (1 ∷ []) $
+        use1 W (some (λ (ws₂ : Lasts again-fn.ended tt (args-again (ws₁ .0) (ws₁ .1 .0) r)). ‵ (lasts again-fn.ended tt (args-again (ws₁ .0) (ws₁ .1 .0) r) ws₂) ⊛ raw (fact 𝓤 (o ≡ record { rows = record { at = ws₁ .0; n = 7 }; table = ws₁ .1 .0; result = r })))) (id⊢ 𝓤 _) $ pick ! (λ ws₂.
+        split ! $ move ! (1 ∷ []) $ heard ! (o ≡ record { rows = record { at = ws₁ .0; n = 7 }; table = ws₁ .1 .0; result = r }) (λ e₂. fsplit ! $ drop ! $ fsplit ! $ drop ! $ fsplit ! $ drop ! $ drop ! $ split ! $ move ! (1 ∷ []) $
         peeks ! O.the-row (Is O.the-row) (shows 𝓤 H A O.the-row) o (w₂ ∷ []) (λ is₂. land ! (from ! (stop !)) (init ! 61 refl (LL.lawful O.the-type O′.the-laws 𝓤 H A W .typed o _ is₂ .0)) $ move ! (1 ∷ []) $ drop ! $
         returns ! (look ! 60 refl) $ forget ! 8 refl $ forget ! 10 refl $ forget ! 12 refl $ forget ! 14 refl $ forget ! 16 refl $ forget ! 18 refl $ forget ! 20 refl $ forget ! 22 refl $ forget ! 24 refl $ forget ! 26 refl $
         forget ! 28 refl $ forget ! 30 refl $ forget ! 32 refl $ forget ! 34 refl $ forget ! 1 refl $ forget ! 2 refl $ forget ! 38 refl $ forget ! 40 refl $ forget ! 42 refl $ forget ! 44 refl $ forget ! 46 refl $ forget ! 48 refl $

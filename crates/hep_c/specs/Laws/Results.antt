@@ -9,8 +9,8 @@ use Rattle.window.specs.declared.Row.{Row}
 use Rattle.step.specs.declared.ProcessTable.{ProcessTable}
 use Rattle.step.specs.State.{State}
 use Rattle.run.specs.declared.Counts.{Counts}
-use Rattle.run.specs.Run.{Ran, run}
-use Rattle.library.specs.declared.RunAnswer.{RunAnswer}
+use Rattle.run.specs.Run.{Tally, Ran, run}
+use Rattle.library.specs.declared.RunResult.{RunResult}
 use Rattle.image.specs.Codec.{Bytes}
 use Rattle.image.specs.Image.{Image, good, stateOf, decode, encode}
 use Rattle.image.specs.Fields.{over}
@@ -23,7 +23,7 @@ use Rattle.library.specs.declared.ReadAnswer.{ReadAnswer}
 use Rattle.library.specs.Held.{lentBuffers, roomFrom}
 use Rattle.library.specs.Promises.{ReadPromise, RunPromise, WritePromise}
 use Rattle.report.specs.Report.{rowLines, countsLine, reportOf}
-use Rattle.report_text.specs.Texts.{TextPromise}
+use Rattle.report_text.specs.Texts.{tally, TextPromise}
 use Rattle.report_text.specs.Laws.Texts.{put-whole}
 use Rattle.hep_c.specs.Answers.{Slices, slices, imageRunRefusal, imageRunAnswer, countsListed, imageRunLeft, countsAnswered}
 use Rattle.hep_c.specs.Laws.Fitting.{Accepted, accepted}
@@ -58,7 +58,7 @@ module _ (image schedule : List ℕ) (i : Image) (n : Sizes) (bytes : Bytes imag
   -- after the reading, and after the run
   module _ (rows₁ rows₂ : List Row) (t₁ t₂ : ProcessTable) (constantTags₁ constantWords₁ tags₁ words₁ program₁ dataTags₁ dataWords₁ tags₂ words₂ dataTags₂ dataWords₂ : List ℕ)
       (x : ReadAnswer) (reads : ReadPromise buffers₀ image x (lentBuffers rows₁ t₁ constantTags₁ constantWords₁ tags₁ words₁ program₁ dataTags₁ dataWords₁))
-      (y : RunAnswer) (runs : RunPromise n (lentBuffers rows₁ t₁ constantTags₁ constantWords₁ tags₁ words₁ program₁ dataTags₁ dataWords₁) schedule y (lentBuffers rows₂ t₂ constantTags₁ constantWords₁ tags₂ words₂ program₁ dataTags₂ dataWords₂)) where
+      (y : RunResult) (runs : RunPromise n (lentBuffers rows₁ t₁ constantTags₁ constantWords₁ tags₁ words₁ program₁ dataTags₁ dataWords₁) schedule y (lentBuffers rows₂ t₂ constantTags₁ constantWords₁ tags₂ words₂ program₁ dataTags₂ dataWords₂)) where
     abbrev buffers₁ : Buffers
     buffers₁ = lentBuffers rows₁ t₁ constantTags₁ constantWords₁ tags₁ words₁ program₁ dataTags₁ dataWords₁
 
@@ -68,9 +68,9 @@ module _ (image schedule : List ℕ) (i : Image) (n : Sizes) (bytes : Bytes imag
     held : buffers₂ ≡ holding (ran .state) buffers₀
     held = held₂ image schedule i n bytes d sizes buffers₀ buffers₁ buffers₂ fit₀ (taken .schedule-taken) x reads y runs
 
-    counts-are : countsAnswered y ≡ ran .counts
+    tally-is : tally (countsAnswered (y .answer)) (y .own) ≡ ran .notes
     unfolding countsAnswered
-    counts-are = rw (counted image schedule i n bytes d sizes buffers₀ buffers₁ buffers₂ fit₀ (taken .schedule-taken) x reads y runs)
+    tally-is = rw (counted image schedule i n bytes d sizes buffers₀ buffers₁ buffers₂ fit₀ (taken .schedule-taken) x reads y runs)
 
     table-is : t₂ ≡ ran .state .table
     unfolding holding
@@ -81,14 +81,14 @@ module _ (image schedule : List ℕ) (i : Image) (n : Sizes) (bytes : Bytes imag
     rows-are = ap (λ (s : State). s .rows) (fields₂ image schedule i n bytes d sizes buffers₀ buffers₁ buffers₂ fit₀ (taken .schedule-taken) x reads y runs)
 
     -- the report of the state after the run
-    pub report-is : (c : Counts) → c ≡ countsAnswered y → rowLines t₂ (take (n .rows) rows₂) ++ countsLine c (t₂ .users .flag) ≡ reportOf ran
+    pub report-is : (c : Counts) → c ≡ countsAnswered (y .answer) → rowLines t₂ (tally c (y .own)) (take (n .rows) rows₂) ++ countsLine c (t₂ .users .flag) ≡ reportOf ran
     unfolding reportOf
-    report-is c e = rw (e, counts-are, table-is, rows-are)
+    report-is c e = rw (e, table-is, rows-are) (ap (λ (n : Tally). rowLines (ran .state .table) n (ran .state .rows) ++ countsLine (n .counts) (ran .state .table .users .flag)) tally-is)
 
     module _ (w : WriteAnswer) (output₂ : List ℕ) (writes : WritePromise n buffers₂ w output output₂)
-        (c : Counts) (c-is : c ≡ countsAnswered y) (k : ℕ) (k-is : k ≡ lengthWritten w)
-        (m : ℕ) (report₂ : List ℕ) (text : TextPromise (rowLines t₂ (take (n .rows) rows₂) ++ countsLine c (t₂ .users .flag)) report m report₂)
-        (counts₂ : List ℕ) (put : counts₂ ≡ over (countsListed c k m) counts) where
+        (c : Counts) (c-is : c ≡ countsAnswered (y .answer)) (k : ℕ) (k-is : k ≡ lengthWritten w)
+        (m : ℕ) (report₂ : List ℕ) (text : TextPromise (rowLines t₂ (tally c (y .own)) (take (n .rows) rows₂) ++ countsLine c (t₂ .users .flag)) report m report₂)
+        (counts₂ : List ℕ) (put : counts₂ ≡ over (countsListed (tally c (y .own)) k m) counts) where
       reported : (m ≡ length (reportOf ran)) × (report₂ ≡ over (reportOf ran) report)
       reported = rw (← report-is c c-is) (put-whole _ report m report₂ text (taken .report-fits))
 
@@ -100,8 +100,8 @@ module _ (image schedule : List ℕ) (i : Image) (n : Sizes) (bytes : Bytes imag
       output-is : output₂ ≡ over (encode (ran .state)) output
       output-is = image-written image schedule i n bytes d sizes buffers₀ buffers₁ buffers₂ fit₀ (taken .schedule-taken) x reads y runs output output₂ w (taken .output-fits) writes
 
-      counts-left : counts₂ ≡ over (countsListed (ran .counts) (length (encode (ran .state))) (length (reportOf ran))) counts
-      counts-left = put ∙ rw (c-is, counts-are, written-length, reported .0)
+      counts-left : counts₂ ≡ over (countsListed (ran .notes) (length (encode (ran .state))) (length (reportOf ran))) counts
+      counts-left = put ∙ rw (c-is, tally-is, written-length, reported .0)
 
       -- every lent slice
       pub all-left : slices constantTags₁ constantWords₁ tags₂ words₂ program₁ dataTags₂ dataWords₂ output₂ counts₂ report₂ ≡ imageRunLeft (imageRunAnswer image schedule lent (decode image)) lent

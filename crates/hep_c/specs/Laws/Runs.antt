@@ -14,7 +14,7 @@ use Rattle.run.specs.Run.{run}
 use Rattle.run.specs.Laws.Run.{run-lengths}
 use Rattle.run.specs.Kept.{run-keeps-sound}
 use Rattle.run.specs.Schedule.{scheduleRefusal}
-use Rattle.library.specs.declared.RunAnswer.{RunAnswer}
+use Rattle.library.specs.declared.RunResult.{RunResult}
 use Rattle.library.specs.declared.RunAnswer.the-variants.{Counted}
 use Rattle.image.specs.Codec.{Bytes}
 use Rattle.image.specs.Image.{Image, good, stateOf, decode, encode}
@@ -65,7 +65,7 @@ state-fine n b f s = rw (f, s)
 
 module _ (image schedule : List ℕ) (i : Image) (n : Sizes) (bytes : Bytes image) (d : decode image ≡ good i) (sizes : sizesOf (stateOf i) ≡ n)
     (b₀ b₁ b₂ : Buffers) (fit : fits n (roomOf b₀) ≡ true) (fine : scheduleRefusal schedule ≡ none)
-    (x : ReadAnswer) (reads : ReadPromise b₀ image x b₁) (y : RunAnswer) (runs : RunPromise n b₁ schedule y b₂) where
+    (x : ReadAnswer) (reads : ReadPromise b₀ image x b₁) (y : RunResult) (runs : RunPromise n b₁ schedule y b₂) where
   abbrev after : State
   after = run schedule (stateOf i) .state
 
@@ -98,7 +98,7 @@ module _ (image schedule : List ℕ) (i : Image) (n : Sizes) (bytes : Bytes imag
   run-fine = rw (state-fine n b₁ fits₁ (ap sound fields₁ ∙ reads-only-sound image bytes i d)) fine
 
   -- the answer of the run
-  pub counted : y ≡ Counted (run schedule (stateOf i) .counts)
+  pub counted : y ≡ record { answer = Counted (run schedule (stateOf i) .notes .counts); own = run schedule (stateOf i) .notes .own }
   unfolding runAnswered runAnswer unless
   counted = runs .answer ∙ rw (run-fine, fields₁)
 

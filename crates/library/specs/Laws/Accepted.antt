@@ -114,7 +114,7 @@ output-number room image a = go (ltb room (length image))
 pub run-refused-8 : (n : Sizes) (b : Buffers) (schedule : List ℕ) (P : Type 0) → (stateRefusal n b ≡ none) ↔ P → (numberAnswered (runAnswer n b schedule) ≡ 8) ↔ (¬ P)
 unfolding runAnswer runRefusal
 run-refused-8 n b schedule P k =
-    let c = run schedule (fieldsIn n b) .counts in
+    let c = run schedule (fieldsIn n b) .notes in
     refused-8 n b (scheduleRefusal schedule) c P k (schedule-number schedule c)
 
 pub step-refused-8 : (n : Sizes) (b : Buffers) (t : ℕ) (P : Type 0) → (stateRefusal n b ≡ none) ↔ P → (numberAnswered (stepAnswer n b t) ≡ 8) ↔ (¬ P)

@@ -82,7 +82,7 @@ pub read-answers : (room : Room) (bytes : List ℕ) (i : Image) → decode bytes
 unfolding readAnswer decodedAnswer decodedRefusal unless
 read-answers room bytes i d f = ap (decodedAnswer room) d ∙ rw f
 
-pub run-answers : (n : Sizes) (b : Buffers) (schedule : List ℕ) → runRefusal n b schedule ≡ none → runAnswer n b schedule ≡ answers (run schedule (fieldsIn n b) .counts)
+pub run-answers : (n : Sizes) (b : Buffers) (schedule : List ℕ) → runRefusal n b schedule ≡ none → runAnswer n b schedule ≡ answers (run schedule (fieldsIn n b) .notes)
 unfolding runAnswer unless
 run-answers n b schedule e = rw e
 
@@ -121,8 +121,8 @@ module _ (b : Buffers) (bytes : List ℕ) (i : Image) (hb : Bytes bytes) (d : de
     pub read-run-unrefused : runRefusal n held schedule ≡ none
     read-run-unrefused = run-unrefused n held schedule read-sound ok
 
-    pub read-run-answers : runAnswer n held schedule ≡ answers (run schedule (stateOf i) .counts)
-    read-run-answers = run-answers n held schedule read-run-unrefused ∙ ap (λ (s : State). answers (run schedule s .counts)) is-read
+    pub read-run-answers : runAnswer n held schedule ≡ answers (run schedule (stateOf i) .notes)
+    read-run-answers = run-answers n held schedule read-run-unrefused ∙ ap (λ (s : State). answers (run schedule s .notes)) is-read
 
     pub read-run-held : fieldsIn n (runLeaves n held schedule) ≡ run schedule (stateOf i) .state
     read-run-held = run-in-place n held schedule read-run-unrefused ∙ ap (λ (s : State). run schedule s .state) is-read

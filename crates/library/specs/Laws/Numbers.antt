@@ -4,10 +4,10 @@ use mathlib.Core.Path.{_≡_, refl, ap, _∙_}
 use mathlib.Core.List.{List}
 use lib.ListN.{length}
 use Rattle.step.specs.declared.Ending.{Ending}
-use Rattle.run.specs.declared.Counts.{Counts}
+use Rattle.run.specs.Run.{Tally}
 use Rattle.library.specs.declared.Sizes.{Sizes}
 use Rattle.library.specs.declared.ReadAnswer.{ReadAnswer}
-use Rattle.library.specs.declared.RunAnswer.{RunAnswer}
+use Rattle.library.specs.declared.RunResult.{RunResult}
 use Rattle.library.specs.declared.StepAnswer.{StepAnswer}
 use Rattle.library.specs.declared.WriteAnswer.{WriteAnswer}
 use Rattle.library.specs.Buffers.{Buffers, roomOf}
@@ -20,7 +20,7 @@ unfolding readNumber readAnswered numberAnswered
 read-number (refuses e) = refl
 read-number (answers n) = refl
 
-run-number : (a : Answer Counts) → runNumber (runAnswered a) ≡ numberAnswered a
+run-number : (a : Answer Tally) → runNumber (runAnswered a .answer) ≡ numberAnswered a
 unfolding runNumber runAnswered numberAnswered
 run-number (refuses e) = refl
 run-number (answers c) = refl
@@ -39,9 +39,9 @@ pub read-promise : {b : Buffers} {bytes : List ℕ} {r : ReadAnswer} {b′ : Buf
     → r ≡ readAnswered (readAnswer (roomOf b) bytes) → b′ ≡ readLeaves b bytes → ReadPromise b bytes r b′
 read-promise {b} {bytes} e k = record { answer = e; number = ap readNumber e ∙ read-number (readAnswer (roomOf b) bytes); leaves = k }
 
-pub run-promise : {n : Sizes} {b : Buffers} {l : List ℕ} {r : RunAnswer} {b′ : Buffers}
+pub run-promise : {n : Sizes} {b : Buffers} {l : List ℕ} {r : RunResult} {b′ : Buffers}
     → r ≡ runAnswered (runAnswer n b l) → b′ ≡ runLeaves n b l → RunPromise n b l r b′
-run-promise {n} {b} {l} e k = record { answer = e; number = ap runNumber e ∙ run-number (runAnswer n b l); leaves = k }
+run-promise {n} {b} {l} e k = record { answer = e; number = ap (λ (x : RunResult). runNumber (x .answer)) e ∙ run-number (runAnswer n b l); leaves = k }
 
 pub step-promise : {n : Sizes} {b : Buffers} {t : ℕ} {r : StepAnswer} {b′ : Buffers}
     → r ≡ stepAnswered (stepAnswer n b t) → b′ ≡ stepLeaves n b t → StepPromise n b t r b′

@@ -4,11 +4,13 @@ use mathlib.Core.Path.{_≡_, refl, sym, ap}
 use mathlib.Core.Bool.{Bool, true, false, cond, not, _&&_}
 use mathlib.Core.Option.{Option, none, some}
 use mathlib.Core.List.{List}
+use lib.Dec.{ltb}
+use lib.ListN.{length}
 use Rattle.refusal.specs.declared.Refusal.{Refusal}
-use Rattle.refusal.specs.declared.Refusal.the-variants.{UnsoundState}
-use Rattle.step.specs.Soundness.{sound}
+use Rattle.refusal.specs.declared.Refusal.the-variants.{UnsoundState, ListTooLong, ItemOutOfRange}
+use Rattle.step.specs.Soundness.{every, sound}
 use Rattle.step.specs.Laws.Rows.{none-some}
-use Rattle.run.specs.Schedule.{scheduleRefusal}
+use Rattle.run.specs.Schedule.{mostItems, itemSound, scheduleRefusal}
 use Rattle.image.specs.Image.{encode}
 use Rattle.library.specs.declared.Sizes.{Sizes}
 use Rattle.library.specs.Buffers.{Buffers, roomOf, fits, fieldsIn}
@@ -35,6 +37,11 @@ unfolding orElse
 orElse-none none b e = refl
 orElse-none (some x) b e = e
 
+pub orElse-second : (a b : Option Refusal) → orElse a b ≡ none → b ≡ none
+unfolding orElse
+orElse-second none b e = e
+orElse-second (some x) b e = absurd (none-some x (sym e))
+
 -- it fits and is sound
 pub state-parts : (n : Sizes) (b : Buffers) → stateRefusal n b ≡ none → (fits n (roomOf b) ≡ true) × (sound (fieldsIn n b) ≡ true)
 unfolding stateRefusal stateRefused
@@ -48,6 +55,16 @@ state-parts n b e = go (fits n (roomOf b)) (sound (fieldsIn n b)) e
 pub run-parts : (n : Sizes) (b : Buffers) (schedule : List ℕ) → runRefusal n b schedule ≡ none → (fits n (roomOf b) ≡ true) × (sound (fieldsIn n b) ≡ true)
 unfolding runRefusal
 run-parts n b schedule e = state-parts n b (orElse-none (stateRefusal n b) (scheduleRefusal schedule) e)
+
+-- and the items of the schedule are task numbers
+pub run-items-sound : (n : Sizes) (b : Buffers) (schedule : List ℕ) → runRefusal n b schedule ≡ none → every itemSound schedule ≡ true
+unfolding runRefusal scheduleRefusal
+run-items-sound n b schedule e = go (ltb mostItems (length schedule)) (every itemSound schedule) (orElse-second (stateRefusal n b) (scheduleRefusal schedule) e)
+  where
+    go : (l u : Bool) → cond l (some ListTooLong) (cond (not u) (some ItemOutOfRange) none) ≡ none → u ≡ true
+    go true u q = absurd (none-some ListTooLong (sym q))
+    go false true q = refl
+    go false false q = absurd (none-some ItemOutOfRange (sym q))
 
 pub step-parts : (n : Sizes) (b : Buffers) (t : ℕ) → stepRefusal n b t ≡ none → (fits n (roomOf b) ≡ true) × (sound (fieldsIn n b) ≡ true)
 unfolding stepRefusal

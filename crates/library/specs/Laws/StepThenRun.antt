@@ -15,16 +15,15 @@ use Rattle.step.specs.Soundness.{every}
 use Rattle.step.specs.Step.{accountOf, item}
 use Rattle.step.specs.Laws.Rows.{none-some}
 use Rattle.step.specs.Laws.Item.{item-sound}
-use Rattle.run.specs.declared.Counts.{Counts}
 use Rattle.run.specs.Schedule.{mostItems, itemSound, scheduleRefusal}
-use Rattle.run.specs.Run.{counted, run}
-use Rattle.run.specs.Laws.Run.{run-first-state, run-first-counts}
+use Rattle.run.specs.Run.{Tally, tallied, run}
+use Rattle.run.specs.Laws.Run.{run-first-state, run-first-notes}
 use Rattle.library.specs.declared.Sizes.{Sizes}
 use Rattle.library.specs.Buffers.{Buffers, roomOf, fits, fieldsIn, holding}
 use Rattle.library.specs.Calls.{answers, unless, leaving, stateRefusal, orElse, runRefusal, runAnswer, runLeaves, taskRefusal, stepRefusal, stepAnswer, stepLeaves}
 use Rattle.library.specs.Laws.InPlace.{Sized, holding-fields, holding-twice, run-sized, step-sized}
 use Rattle.library.specs.Laws.InTurn.{held-unrefused, run-answers, run-leaves}
-use Rattle.library.specs.Laws.Refused.{orElse-none, run-parts}
+use Rattle.library.specs.Laws.Refused.{orElse-none, orElse-second, run-parts}
 
 -- a list that isn't refused: neither is its first item, nor the list of the others
 schedule-parts : (t : ℕ) (ts : List ℕ) → scheduleRefusal (t ∷ ts) ≡ none → (taskRefusal t ≡ none) × (scheduleRefusal ts ≡ none)
@@ -44,11 +43,6 @@ schedule-parts t ts e = go (ltb mostItems (suc (length ts))) (itemSound t) (ever
 orElse-both : (a b : Option Refusal) → a ≡ none → b ≡ none → orElse a b ≡ none
 unfolding orElse
 orElse-both a b e f = rw (e, f)
-
-orElse-second : (a b : Option Refusal) → orElse a b ≡ none → b ≡ none
-unfolding orElse
-orElse-second none b e = e
-orElse-second (some x) b e = absurd (none-some x (sym e))
 
 module _ (n : Sizes) (b : Buffers) (t : ℕ) (ts : List ℕ) (e : runRefusal n b (t ∷ ts) ≡ none) where
   abbrev s : State
@@ -93,11 +87,11 @@ module _ (n : Sizes) (b : Buffers) (t : ℕ) (ts : List ℕ) (e : runRefusal n b
   found : fieldsIn n (stepLeaves n b t) ≡ s′
   found = ap (fieldsIn n) step-leaves ∙ holding-fields n s′ b sized
 
-  pub others-answer : runAnswer n (stepLeaves n b t) ts ≡ answers (run ts s′ .counts)
-  others-answer = run-answers n (stepLeaves n b t) ts others-unrefused ∙ ap (λ (x : State). answers (run ts x .counts)) found
+  pub others-answer : runAnswer n (stepLeaves n b t) ts ≡ answers (run ts s′ .notes)
+  others-answer = run-answers n (stepLeaves n b t) ts others-unrefused ∙ ap (λ (x : State). answers (run ts x .notes)) found
 
-  pub all-answers : runAnswer n b (t ∷ ts) ≡ answers (counted (accountOf (item t s)) (run ts s′ .counts))
-  all-answers = run-answers n b (t ∷ ts) e ∙ ap (λ (c : Counts). answers c) (run-first-counts t ts s)
+  pub all-answers : runAnswer n b (t ∷ ts) ≡ answers (tallied t (accountOf (item t s)) (run ts s′ .notes))
+  all-answers = run-answers n b (t ∷ ts) e ∙ ap (λ (m : Tally). answers m) (run-first-notes t ts s)
 
   after : run ts (fieldsIn n (stepLeaves n b t)) .state ≡ run (t ∷ ts) s .state
   after = ap (λ (x : State). run ts x .state) found ∙ sym (run-first-state t ts s)

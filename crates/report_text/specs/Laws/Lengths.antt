@@ -13,9 +13,9 @@ use Rattle.step.specs.declared.ProcessTable.{ProcessTable}
 use Rattle.step.specs.Queues.{taskPlace}
 use Rattle.step.specs.State.{liveCount}
 use Rattle.run.specs.declared.Counts.{Counts}
-use Rattle.run.specs.Run.{counts}
-use Rattle.report.specs.Report.{decimalBy, decimal, hexDigit, hex, kindText, pcText, rowLine, rowLines, countsLine, newline}
-use Rattle.report_text.specs.Texts.{longestRow, longestCounts, longestReport}
+use Rattle.run.specs.Run.{counts, Tally, ownCounts}
+use Rattle.report.specs.Report.{decimalBy, decimal, hexDigit, hex, kindText, pcText, countsText, rowLine, rowLines, countsLine, newline}
+use Rattle.report_text.specs.Texts.{longestRow, longestCounts, longestLast, longestReport, tally}
 
 -- ---- digits
 
@@ -50,6 +50,12 @@ digits-1 (suc k) n h = rw (lt-ltb n 10 h) (omega arith)
 digits-3 : Digits 1000 3
 digits-3 = digits-more 100 2 (digits-more 10 1 digits-1)
 
+digits-6 : Digits 1000000 6
+digits-6 = digits-more 100000 5 (digits-more 10000 4 (digits-more 1000 3 digits-3))
+
+digits-10 : Digits 10000000000 10
+digits-10 = digits-more 1000000000 9 (digits-more 100000000 8 (digits-more 10000000 7 (digits-more 1000000 6 digits-6)))
+
 length-hex : (k n : ℕ) → length (hex k n) ≡ k
 unfolding hex
 length-hex zero n = refl
@@ -70,9 +76,27 @@ length-pc : (kind psw : ℕ) → length (pcText kind psw) ≡ 5
 unfolding pcText
 length-pc kind psw = dashed (eqb kind 255) (45 ∷ 45 ∷ 45 ∷ 45 ∷ 45 ∷ []) (hex 5 (pcOf psw)) 5 refl (length-hex 5 (pcOf psw))
 
-pub length-row : (table : ProcessTable) (r : Row) → r .task < 256 → length (rowLine table r) ≤ longestRow
+-- a number of 32 bits
+length-narrow : (n : ℕ) → n < 2 ^ 32 → length (decimal n) ≤ 10
+unfolding decimal
+length-narrow n h = digits-10 20 n (omega arith)
+
+pub length-counts : (c : Counts) → c .executed < 2 ^ 32 → c .waved < 2 ^ 32 → c .trapped < 2 ^ 32 → c .idle < 2 ^ 32 → c .tries < 2 ^ 32 → length (countsText c) ≤ longestCounts
+unfolding countsText
+length-counts c e w t i s =
+    simp length-append
+    (omega (
+      arith,
+      length-narrow (c .executed) e,
+      length-narrow (c .waved) w,
+      length-narrow (c .trapped) t,
+      length-narrow (c .idle) i,
+      length-narrow (c .tries) s,
+    ))
+
+pub length-row : (table : ProcessTable) (r : Row) (c : Counts) → r .task < 256 → length (countsText c) ≤ longestCounts → length (rowLine table r c) ≤ longestRow
 unfolding rowLine decimal
-length-row table r h =
+length-row table r c h k =
     simp length-append
     (omega (
       arith,
@@ -80,21 +104,12 @@ length-row table r h =
       digits-at-most 20 (liveCount (table .users) (r .task)),
       length-kind (r .kind),
       length-pc (r .kind) (r .psw),
+      k,
     ))
 
-pub length-counts : (c : Counts) (flag : ℕ) → flag < 256 → length (countsLine c flag) ≤ longestCounts
+pub length-last : (c : Counts) (flag : ℕ) → length (countsText c) ≤ longestCounts → flag < 256 → length (countsLine c flag) ≤ longestLast
 unfolding countsLine decimal
-length-counts c flag h =
-    simp length-append
-    (omega (
-      arith,
-      digits-at-most 20 (c .executed),
-      digits-at-most 20 (c .waved),
-      digits-at-most 20 (c .trapped),
-      digits-at-most 20 (c .idle),
-      digits-at-most 20 (c .tries),
-      digits-3 20 flag (omega arith),
-    ))
+length-last c flag k h = simp length-append (omega (arith, k, digits-3 20 flag (omega arith)))
 
 pub length-refusal : (n : ℕ) → length ((82 ∷ decimal n) ++ newline) ≤ longestReport
 unfolding decimal
@@ -105,13 +120,27 @@ length-refusal n = omega (arith, length-append (82 ∷ decimal n) newline, digit
 unfoldable pub largest : ℕ
 largest = 2 ^ 64 - 1
 
+unfoldable pub longCounts : Counts
+longCounts = let n : ℕ = 2 ^ 32 - 1 in counts n n n n n
+
 unfoldable pub longRow : Row
 longRow = record { task = 255; cb = 0; rb = 0; rl = 0; pb = 0; pl = 0; db = 0; dl = 0; kind = 255; psw = 0 }
 
-pub longest-row : (table : ProcessTable) → getD (table .users .live) 7 0 ≡ largest → length (rowLine table longRow) ≡ longestRow
-unfolding largest longRow rowLine liveCount taskPlace decimal decimalBy kindText pcText
+pub longest-row : (table : ProcessTable) → getD (table .users .live) 7 0 ≡ largest → length (rowLine table longRow longCounts) ≡ longestRow
+unfolding largest longCounts longRow countsText rowLine liveCount taskPlace decimal decimalBy kindText pcText
 longest-row table h = rw h
 
-pub longest-report : (table : ProcessTable) → getD (table .users .live) 7 0 ≡ largest → length (rowLines table (replicate 7 longRow) ++ countsLine (counts largest largest largest largest largest) 255) ≡ longestReport
-unfolding largest rowLines countsLine decimal decimalBy
-longest-report table h = simp (length-append, longest-row table h)
+unfoldable pub longTally : Tally
+longTally = tally longCounts (replicate 256 longCounts)
+
+own-long : ownCounts (longRow .task) longTally ≡ longCounts
+unfolding longRow longTally ownCounts
+own-long = refl
+
+length-longest : length (countsLine longCounts 255) ≡ longestLast
+unfolding longCounts countsText countsLine decimal decimalBy
+length-longest = refl
+
+pub longest-report : (table : ProcessTable) → getD (table .users .live) 7 0 ≡ largest → length (rowLines table longTally (replicate 7 longRow) ++ countsLine longCounts 255) ≡ longestReport
+unfolding rowLines
+longest-report table h = simp (length-append, own-long, longest-row table h, length-longest)

@@ -1,14 +1,14 @@
 -- Isolation of a set of tasks over two whole runs, from what is compared of each task. For any instruction set.
 use mathlib.Core.Path.{_≡_, refl, sym, ap, ap₂, _∙_, subst, subst₂}
-use mathlib.Core.Bool.{Bool, true, false}
+use mathlib.Core.Bool.{Bool, true, false, true≢false}
 use mathlib.Core.Option.{Option, none, some}
 use mathlib.Core.List.{List, [], _∷_}
 use Prim.Native.Nat.{ℕ, zero, suc, _+_, _-_, _≤_, _<_}
 use native.Mathlib.Nat.{zero-add, suc-add, le-of-suc-le-suc, not-suc-le-zero}
 use native.Mathlib.Omega.{arith}
-use lib.ListN.{getElem?, take, drop, replicate}
+use lib.ListN.{length, getElem?, take, drop, replicate}
 use lib.Dec.{eqb, leb}
-use borrow.Author.Tests.{eq-eqb, eqb-true, eqb-false}
+use borrow.Author.Tests.{eq-eqb, ne-eqb, eqb-true, eqb-false}
 use Rattle.word.specs.Laws.Bools.{Le?, below, above, le?, clash}
 use Rattle.window.specs.declared.Row.{Row}
 use Rattle.window.specs.declared.Window.{Window}
@@ -21,15 +21,16 @@ use Rattle.operation.specs.Decide.{decide}
 use Rattle.step.specs.Queues.{occ, hit}
 use Rattle.step.specs.Laws.Occurrences.{occ-nil, occ-cons, hit-same, hit-differ}
 use Rattle.step.specs.State.{State, findRow}
+use Rattle.step.specs.Step.{Account}
 use Rattle.step.specs.Laws.Rows.{some-inj, none-some}
 use Rattle.step.specs.Laws.Act.{fixed, fixedOf, fixedAt, Inv}
 use Rattle.step.specs.Laws.Step.{Part, registerTags, registerWords, dataTags, dataValues, listIn, windowIn, window-fixed}
 use Rattle.step.specs.Laws.Agreement.{Agree}
 use Rattle.step.specs.Laws.Agreement as agreement
-use Rattle.run.specs.declared.Counts.{Counts}
-use Rattle.run.specs.Run.{noCounts, runBy, run}
+use Rattle.run.specs.Run.{Tally, ownCounts, noTally, tallied, runBy, run}
 use Rattle.run.specs.Laws.Run.{after, run-after}
-use Rattle.run.specs.Laws.RunAgreement.{only, only-nil, only-in, only-out, runs-agree}
+use Rattle.run.specs.Laws.Tallies.{countedFor, counted-other, own-run, past-run}
+use Rattle.run.specs.Laws.RunAgreement.{only, only-nil, only-in, only-out, Alike, runs-alike}
 use Rattle.run.specs.Compared.{cut, memoryIn, Compared, SameProgram, SameConstants, Clear, Alone}
 
 -- ---- a part cut out of a list, and its places
@@ -177,21 +178,41 @@ apart-of A s k = record {
 -- ---- two runs
 
 -- a set A of tasks that may share windows among themselves
-pub isolation-of-set : (instructions : Environment → Decision) (A : ℕ → Bool) (ts us : List ℕ) (s s′ : State) (c c′ : Counts)
-    → Inv s → Inv s′ → Apart A s → Apart A s′
-    → ((t : ℕ) → A t ≡ true → Compared t s s′) → ((t : ℕ) → A t ≡ true → SameProgram t s s′) → SameConstants s s′
-    → only A ts ≡ only A us
-    → runBy instructions ts s c .state .table .users .flag ≡ 0 → runBy instructions us s′ c′ .state .table .users .flag ≡ 0
-    → (t : ℕ) → A t ≡ true → Compared t (runBy instructions ts s c .state) (runBy instructions us s′ c′ .state)
-isolation-of-set instructions A ts us s s′ c c′ inv inv′ apart apart′ h p k e z z′ t m =
-    subst₂ (Compared t) (sym (run-after instructions ts s c)) (sym (run-after instructions us s′ c′))
-    (compared-of A (after instructions ts s) (after instructions us s′)
-    (runs-agree instructions A ts us s s′ e
-    (record { inv = inv; apart = apart-of A s apart; down = ap (λ (x : State). x .table .users .flag) (sym (run-after instructions ts s c)) ∙ z })
-    (record { inv = inv′; apart = apart-of A s′ apart′; down = ap (λ (x : State). x .table .users .flag) (sym (run-after instructions us s′ c′)) ∙ z′ })
-    (agree-of A s s′ h p k)) t m)
+module _ (instructions : Environment → Decision) (A : ℕ → Bool) (ts us : List ℕ) (s s′ : State)
+    (inv : Inv s) (inv′ : Inv s′) (apart : Apart A s) (apart′ : Apart A s′)
+    (h : (t : ℕ) → A t ≡ true → Compared t s s′) (p : (t : ℕ) → A t ≡ true → SameProgram t s s′) (k : SameConstants s s′)
+    (e : only A ts ≡ only A us) (z : after instructions ts s .table .users .flag ≡ 0) (z′ : after instructions us s′ .table .users .flag ≡ 0) where
+  alike : {N : Type 0} (note : ℕ → Account → N → N) (blind : (u : ℕ) (x : Account) (n : N) → A u ≡ false → note u x n ≡ n) (n : N) → Alike instructions A note blind ts us s s′ n
+  alike note blind n =
+      runs-alike instructions A note blind ts us s s′ n e (record { inv = inv; apart = apart-of A s apart; down = z })
+      (record { inv = inv′; apart = apart-of A s′ apart′; down = z′ }) (agree-of A s s′ h p k)
+
+  pub isolation-of-set : (t : ℕ) → A t ≡ true → Compared t (after instructions ts s) (after instructions us s′)
+  isolation-of-set = compared-of A (after instructions ts s) (after instructions us s′) (alike (λ u x (n : ℕ). n) (λ u x n m. refl) 0 .agree)
+
+  -- whatever is taken down of the items of A alone is the same
+  pub same-notes : {N : Type 0} (note : ℕ → Account → N → N) → ((u : ℕ) (x : Account) (n : N) → A u ≡ false → note u x n ≡ n) → (n : N)
+      → runBy instructions note ts s n .notes ≡ runBy instructions note us s′ n .notes
+  same-notes note blind n = alike note blind n .noted
+
+  -- so are the counts of each task of A
+  pub same-own : (t : ℕ) → A t ≡ true → (n : Tally)
+      → ownCounts t (runBy instructions tallied ts s n .notes) ≡ ownCounts t (runBy instructions tallied us s′ n .notes)
+  same-own t m n = go (leb (length (n .own)) t) (le? (length (n .own)) t)
+    where
+      go : (b : Bool) → Le? (length (n .own)) t b → ownCounts t (runBy instructions tallied ts s n .notes) ≡ ownCounts t (runBy instructions tallied us s′ n .notes)
+      go true (below q) = past-run instructions t ts s n q ∙ sym (past-run instructions t us s′ n q)
+      go false (above q) =
+          own-run instructions t ts s n q
+          ∙ same-notes (countedFor t) (λ u x c o. counted-other t u x c (ne-eqb u t (λ f. true≢false (sym m ∙ ap A (sym f) ∙ o)))) (ownCounts t n)
+          ∙ sym (own-run instructions t us s′ n q)
 
 -- ---- one task
+
+-- the flag after a run
+pub down-after : (ts : List ℕ) (s : State) → run ts s .state .table .users .flag ≡ 0 → after decide ts s .table .users .flag ≡ 0
+unfolding run
+down-after ts s z = ap (λ (x : State). x .table .users .flag) (sym (run-after decide tallied ts s noTally)) ∙ z
 
 -- the schedule without the other tasks' items says how many items it has of this one
 only-one : (t : ℕ) (ts : List ℕ) → only (λ u. eqb u t) ts ≡ replicate (occ t ts) t
@@ -209,17 +230,30 @@ only-one t (u ∷ ts) = go (eqb u t) refl (only-one t ts)
         let k : occ t ts ≡ occ t (u ∷ ts) = omega (arith, occ-cons t u ts) in
         only-out (λ u. eqb u t) u ts m ∙ ih ∙ ap (λ (n : ℕ). replicate n t) k
 
-apart-of-alone : (t : ℕ) (s : State) → Alone t s → Apart (λ u. eqb u t) s
+pub apart-of-alone : (t : ℕ) (s : State) → Alone t s → Apart (λ u. eqb u t) s
 apart-of-alone t s k v u m n = subst (λ (y : ℕ). Clear y u s) (sym (eqb-true v t m)) (k u (eqb-false u t n))
 
+-- as many items of a task: without the others the schedules are the same list
+pub same-items : (t : ℕ) (ts us : List ℕ) → occ t ts ≡ occ t us → only (λ u. eqb u t) ts ≡ only (λ u. eqb u t) us
+same-items t ts us n = only-one t ts ∙ ap (λ (m : ℕ). replicate m t) n ∙ sym (only-one t us)
+
 -- the set with one member
-pub isolation : (t : ℕ) (ts us : List ℕ) (s s′ : State) → Inv s → Inv s′ → Alone t s → Alone t s′
-    → Compared t s s′ → SameProgram t s s′ → SameConstants s s′ → occ t ts ≡ occ t us
-    → run ts s .state .table .users .flag ≡ 0 → run us s′ .state .table .users .flag ≡ 0
-    → Compared t (run ts s .state) (run us s′ .state)
-unfolding run
-isolation t ts us s s′ inv inv′ alone alone′ h p k n z z′ =
-    isolation-of-set decide (λ u. eqb u t) ts us s s′ noCounts noCounts inv inv′ (apart-of-alone t s alone) (apart-of-alone t s′ alone′)
-    (λ u m. subst (λ (x : ℕ). Compared x s s′) (sym (eqb-true u t m)) h)
-    (λ u m. subst (λ (x : ℕ). SameProgram x s s′) (sym (eqb-true u t m)) p) k
-    (only-one t ts ∙ ap (λ (m : ℕ). replicate m t) n ∙ sym (only-one t us)) z z′ t (eq-eqb t t refl)
+module _ (t : ℕ) (ts us : List ℕ) (s s′ : State) (inv : Inv s) (inv′ : Inv s′) (alone : Alone t s) (alone′ : Alone t s′)
+    (h : Compared t s s′) (p : SameProgram t s s′) (k : SameConstants s s′) (n : occ t ts ≡ occ t us)
+    (z : run ts s .state .table .users .flag ≡ 0) (z′ : run us s′ .state .table .users .flag ≡ 0) where
+  pub isolation : Compared t (run ts s .state) (run us s′ .state)
+  unfolding run
+  isolation =
+      subst₂ (Compared t) (sym (run-after decide tallied ts s noTally)) (sym (run-after decide tallied us s′ noTally))
+      (isolation-of-set decide (λ u. eqb u t) ts us s s′ inv inv′ (apart-of-alone t s alone) (apart-of-alone t s′ alone′)
+      (λ u m. subst (λ (x : ℕ). Compared x s s′) (sym (eqb-true u t m)) h)
+      (λ u m. subst (λ (x : ℕ). SameProgram x s s′) (sym (eqb-true u t m)) p) k
+      (same-items t ts us n) (down-after ts s z) (down-after us s′ z′) t (eq-eqb t t refl))
+
+  pub own-isolation : ownCounts t (run ts s .notes) ≡ ownCounts t (run us s′ .notes)
+  unfolding run
+  own-isolation =
+      same-own decide (λ u. eqb u t) ts us s s′ inv inv′ (apart-of-alone t s alone) (apart-of-alone t s′ alone′)
+      (λ u m. subst (λ (x : ℕ). Compared x s s′) (sym (eqb-true u t m)) h)
+      (λ u m. subst (λ (x : ℕ). SameProgram x s s′) (sym (eqb-true u t m)) p) k
+      (same-items t ts us n) (down-after ts s z) (down-after us s′ z′) t (eq-eqb t t refl) noTally

@@ -1,11 +1,11 @@
--- A run: its counts add up to the schedule's length, whatever was counted before, and the flag never falls. For any instruction set.
+-- A run: its counts add up to the schedule's length, whatever was counted before, and the flag never falls. For any instruction set, the state for any note.
 use mathlib.Core.Path.{_≡_, refl, sym, ap, _∙_, subst}
 use mathlib.Core.Bool.{true, false≢true}
 use mathlib.Core.Option.{Option, none, some}
 use mathlib.Core.List.{List, [], _∷_}
-use Prim.Native.Nat.{ℕ, suc, _+_, _≤_}
+use Prim.Native.Nat.{ℕ, zero, suc, _+_, _≤_}
 use native.Mathlib.Omega.{arith}
-use lib.ListN.{length}
+use lib.ListN.{length, getD, set}
 use Rattle.refusal.specs.declared.Refusal.{Refusal}
 use Rattle.operation.specs.Environment.{Environment}
 use Rattle.operation.specs.declared.Decision.{Decision}
@@ -19,7 +19,7 @@ use Rattle.step.specs.Laws.Item.{item-tries, item-flag-kept, item-lengths}
 use Rattle.step.specs.Laws.Lengths.{SameLengths, same-lengths, lengths-join}
 use Rattle.run.specs.declared.Counts.{Counts}
 use Rattle.run.specs.Schedule.{scheduleRefusal, accepts, scheduleSound}
-use Rattle.run.specs.Run.{plus, countsOf, counted, noCounts, runBy, run}
+use Rattle.run.specs.Run.{noCounts, plus, countsOf, counted, Tally, noTally, ownCounts, tallied, runBy, run}
 
 -- executed + waved + trapped + idle
 abbrev pub sum : Counts → ℕ
@@ -57,7 +57,7 @@ sound-unrefused schedule e = go (scheduleRefusal schedule) e
     go (some x) k = absurd (false≢true k)
 
 -- the order in which two items are counted doesn't matter
-plus-turned : (c d e : Counts) → plus (plus c d) e ≡ plus (plus c e) d
+pub plus-turned : (c d e : Counts) → plus (plus c d) e ≡ plus (plus c e) d
 unfolding plus
 plus-turned c d e = λ i. record {
   executed = turned-sum (c .executed) (d .executed) (e .executed) i;
@@ -74,37 +74,61 @@ counted-turned : (a b : Account) (c : Counts) → counted a (counted b c) ≡ co
 unfolding counted
 counted-turned a b c = plus-turned c (countsOf (b .ending) (b .tries)) (countsOf (a .ending) (a .tries))
 
+-- the order of two notes doesn't matter
+abbrev Turned : {N : Type 0} → (ℕ → Account → N → N) → Type 0
+Turned {N} note = (t u : ℕ) (a b : Account) (n : N) → note t a (note u b n) ≡ note u b (note t a n)
+
+-- two places of a list, each changed by what stands there
+places-turned : (l : List Counts) (i j : ℕ) (f g : Counts → Counts) → ((c : Counts) → f (g c) ≡ g (f c))
+    → (let k = set l j (g (getD l j noCounts)) in set k i (f (getD k i noCounts))) ≡ (let k = set l i (f (getD l i noCounts)) in set k j (g (getD k j noCounts)))
+places-turned [] i j f g e = refl
+places-turned (c ∷ l) zero zero f g e = ap (λ x. x ∷ l) (e c)
+places-turned (c ∷ l) zero (suc j) f g e = refl
+places-turned (c ∷ l) (suc i) zero f g e = refl
+places-turned (c ∷ l) (suc i) (suc j) f g e = ap (λ k. c ∷ k) (places-turned l i j f g e)
+
+tallied-turned : Turned tallied
+unfolding tallied ownCounts
+tallied-turned t u a b n = λ i. record {
+  counts = counted-turned a b (n .counts) i;
+  own = places-turned (n .own) t u (counted a) (counted b) (counted-turned a b) i;
+}
+
 module _ (instructions : Environment → Decision) where
   -- the state after a schedule
   unfoldable pub after : List ℕ → State → State
   after [] s = s
   after (t ∷ ts) s = after ts (itemBy instructions t s .state)
 
-  pub run-after : (ts : List ℕ) (s : State) (c : Counts) → runBy instructions ts s c .state ≡ after ts s
+  -- whatever is noted
+  pub run-after : {N : Type 0} (note : ℕ → Account → N → N) (ts : List ℕ) (s : State) (n : N) → runBy instructions note ts s n .state ≡ after ts s
   unfolding runBy after
-  run-after [] s c = refl
-  run-after (t ∷ ts) s c = run-after ts (itemBy instructions t s .state) (counted (accountOf (itemBy instructions t s)) c)
+  run-after note [] s n = refl
+  run-after note (t ∷ ts) s n = run-after note ts (itemBy instructions t s .state) (note t (accountOf (itemBy instructions t s)) n)
 
-  -- an ending counted before a run is counted behind it
-  run-counted : (e : Account) (ts : List ℕ) (s : State) (c : Counts) → runBy instructions ts s (counted e c) .counts ≡ counted e (runBy instructions ts s c .counts)
+  -- what is noted before a run may be noted behind it, where the order of two notes doesn't matter
+  run-noted : {N : Type 0} (note : ℕ → Account → N → N) → Turned note → (t : ℕ) (a : Account) (us : List ℕ) (s : State) (n : N)
+      → runBy instructions note us s (note t a n) .notes ≡ note t a (runBy instructions note us s n .notes)
   unfolding runBy
-  run-counted e [] s c = refl
-  run-counted e (t ∷ ts) s c =
-      let x = itemBy instructions t s in
-      ap (λ (d : Counts). runBy instructions ts (x .state) d .counts) (counted-turned (accountOf x) e c) ∙ run-counted e ts (x .state) (counted (accountOf x) c)
+  run-noted note turned t a [] s n = refl
+  run-noted note turned t a (u ∷ us) s n =
+      let x = itemBy instructions u s in
+      ap (λ m. runBy instructions note us (x .state) m .notes) (turned u t (accountOf x) a n)
+      ∙ run-noted note turned t a us (x .state) (note u (accountOf x) n)
 
-  sum-run : (ts : List ℕ) (s : State) (c : Counts) → sum (runBy instructions ts s c .counts) ≡ length ts + sum c
-  unfolding runBy
-  sum-run [] s c = omega arith
-  sum-run (t ∷ ts) s c =
-      sum-run ts (itemBy instructions t s .state) (counted (accountOf (itemBy instructions t s)) c) ∙ omega (arith, sum-counted (accountOf (itemBy instructions t s)) c)
+  sum-run : (ts : List ℕ) (s : State) (n : Tally) → sum (runBy instructions tallied ts s n .notes .counts) ≡ length ts + sum (n .counts)
+  unfolding runBy tallied
+  sum-run [] s n = omega arith
+  sum-run (t ∷ ts) s n =
+      let a = accountOf (itemBy instructions t s) in
+      sum-run ts (itemBy instructions t s .state) (tallied t a n) ∙ omega (arith, sum-counted a (n .counts))
 
-  tries-run : (ts : List ℕ) (s : State) (c : Counts) → runBy instructions ts s c .counts .tries ≤ length ts + c .tries
-  unfolding runBy
-  tries-run [] s c = omega arith
-  tries-run (t ∷ ts) s c =
-      let x = itemBy instructions t s in
-      omega (arith, tries-run ts (x .state) (counted (accountOf x) c), tries-counted (accountOf x) c, item-tries instructions t s)
+  tries-run : (ts : List ℕ) (s : State) (n : Tally) → runBy instructions tallied ts s n .notes .counts .tries ≤ length ts + n .counts .tries
+  unfolding runBy tallied
+  tries-run [] s n = omega arith
+  tries-run (t ∷ ts) s n =
+      let a = accountOf (itemBy instructions t s) in
+      omega (arith, tries-run ts (itemBy instructions t s .state) (tallied t a n), tries-counted a (n .counts), item-tries instructions t s)
 
   -- the flag stays or goes up
   pub after-kept : (P : ℕ → Type 0) → P 1 → (ts : List ℕ) (s : State) → P (s .table .users .flag) → P (after ts s .table .users .flag)
@@ -132,32 +156,32 @@ pub run-first-state : (t : ℕ) (ts : List ℕ) (s : State) → run (t ∷ ts) s
 unfolding run item runBy
 run-first-state t ts s =
     let x = itemBy decide t s in
-    run-after decide ts (x .state) (counted (accountOf x) noCounts) ∙ sym (run-after decide ts (x .state) noCounts)
+    run-after decide tallied ts (x .state) (tallied t (accountOf x) noTally) ∙ sym (run-after decide tallied ts (x .state) noTally)
 
-pub run-first-counts : (t : ℕ) (ts : List ℕ) (s : State) → run (t ∷ ts) s .counts ≡ counted (accountOf (item t s)) (run ts (item t s .state) .counts)
+pub run-first-notes : (t : ℕ) (ts : List ℕ) (s : State) → run (t ∷ ts) s .notes ≡ tallied t (accountOf (item t s)) (run ts (item t s .state) .notes)
 unfolding run item runBy
-run-first-counts t ts s = let x = itemBy decide t s in run-counted decide (accountOf x) ts (x .state) noCounts
+run-first-notes t ts s = let x = itemBy decide t s in run-noted decide tallied tallied-turned t (accountOf x) ts (x .state) noTally
 
 -- a run changes the length of no memory, and not how many rows there are
 pub run-lengths : (schedule : List ℕ) (s : State) → SameLengths (run schedule s .state) s
 unfolding run
-run-lengths schedule s = subst (λ (x : State). SameLengths x s) (sym (run-after decide schedule s noCounts)) (after-lengths decide schedule s)
+run-lengths schedule s = subst (λ (x : State). SameLengths x s) (sym (run-after decide tallied schedule s noTally)) (after-lengths decide schedule s)
 
 -- executed + waved + trapped + idle = items
-pub run-counts : (schedule : List ℕ) (s : State) → sum (run schedule s .counts) ≡ length schedule
+pub run-counts : (schedule : List ℕ) (s : State) → sum (run schedule s .notes .counts) ≡ length schedule
 unfolding run
-run-counts schedule s = sum-run decide schedule s noCounts ∙ omega arith
+run-counts schedule s = sum-run decide schedule s noTally ∙ omega arith
 
 -- at most as many tries as items
-pub run-tries : (schedule : List ℕ) (s : State) → run schedule s .counts .tries ≤ length schedule
+pub run-tries : (schedule : List ℕ) (s : State) → run schedule s .notes .counts .tries ≤ length schedule
 unfolding run
-run-tries schedule s = omega (arith, tries-run decide schedule s noCounts)
+run-tries schedule s = omega (arith, tries-run decide schedule s noTally)
 
 -- a run never lowers the flag: down at the end, it was down at the start; up at the start, it is up at the end
 pub run-flag : (schedule : List ℕ) (s : State) → run schedule s .state .table .users .flag ≡ 0 → s .table .users .flag ≡ 0
 unfolding run
-run-flag schedule s z = after-flag decide schedule s (ap (λ (x : State). x .table .users .flag) (sym (run-after decide schedule s noCounts)) ∙ z)
+run-flag schedule s z = after-flag decide schedule s (ap (λ (x : State). x .table .users .flag) (sym (run-after decide tallied schedule s noTally)) ∙ z)
 
 pub run-flag-up : (schedule : List ℕ) (s : State) → s .table .users .flag ≡ 1 → run schedule s .state .table .users .flag ≡ 1
 unfolding run
-run-flag-up schedule s u = ap (λ (x : State). x .table .users .flag) (run-after decide schedule s noCounts) ∙ after-kept decide (λ (x : ℕ). x ≡ 1) refl schedule s u
+run-flag-up schedule s u = ap (λ (x : State). x .table .users .flag) (run-after decide tallied schedule s noTally) ∙ after-kept decide (λ (x : ℕ). x ≡ 1) refl schedule s u

@@ -8,7 +8,7 @@ use Rattle.step.specs.State.{State}
 use Rattle.step.specs.Step.{itemBy, item}
 use Rattle.step.specs.Soundness.{sound}
 use Rattle.step.specs.Laws.Item.{item-sound}
-use Rattle.run.specs.Run.{noCounts, run}
+use Rattle.run.specs.Run.{tallied, noTally, run}
 use Rattle.run.specs.Laws.Run.{after, run-after}
 
 after-sound : (ts : List ℕ) (s : State) → sound s ≡ true → sound (after decide ts s) ≡ true
@@ -18,4 +18,4 @@ after-sound (t ∷ ts) s e = after-sound ts (itemBy decide t s .state) (item-sou
 
 pub run-sound : (schedule : List ℕ) (s : State) → sound s ≡ true → sound (run schedule s .state) ≡ true
 unfolding run
-run-sound schedule s e = ap sound (run-after decide schedule s noCounts) ∙ after-sound schedule s e
+run-sound schedule s e = ap sound (run-after decide tallied schedule s noTally) ∙ after-sound schedule s e

@@ -10,18 +10,17 @@ use Rattle.operation.specs.Decide.{decide}
 use Rattle.step.specs.declared.Queue.{Queue}
 use Rattle.step.specs.Queues.{numbers}
 use Rattle.step.specs.State.{State}
-use Rattle.run.specs.declared.Counts.{Counts}
-use Rattle.run.specs.Run.{run}
+use Rattle.run.specs.Run.{Tally, run}
 use Rattle.run.specs.Code.Attempts.{runFrom}
 use Rattle.run_next.specs.Code.Settled.{Lines, queuesOf}
 use Rattle.run_next.specs.Code.Stands.{Stands, Between}
 use Rattle.run_next.specs.Code.Numbers.{Cells, stateFrom, Numbers}
 
 -- i items are done, and from here the others do what all do from the start; `tried` says that the next item has made its try, and its step is to come
-pub record Runs (l : List ℕ) (i : ℕ) (tried : Bool) (s₀ s : State) (c : Counts) : Type 0 where
+pub record Runs (l : List ℕ) (i : ℕ) (tried : Bool) (s₀ s : State) (c : Tally) : Type 0 where
   pub within : i ≤ length l
-  pub counts : c .executed + c .waved + c .trapped + c .idle ≡ i
-  pub tries : c .tries ≤ i + cond tried 1 0
+  pub counts : c .counts .executed + c .counts .waved + c .counts .trapped + c .counts .idle ≡ i
+  pub tries : c .counts .tries ≤ i + cond tried 1 0
   pub runs : runFrom decide tried (drop i l) s c ≡ run l s₀
 
 -- what stands of the next attempts
@@ -29,7 +28,7 @@ pub data Standing (l : List ℕ) (i : ℕ) (kinds marks : List ℕ) (qs : List Q
   before : Stands kinds marks qs → Standing l i kinds marks qs false
   between : i < length l → Between (getD l i 0) kinds marks qs → Standing l i kinds marks qs true
 
-pub record Running (l : List ℕ) (i : ℕ) (s₀ : State) (rows : List Row) (spans : List ℕ) (x : Lines) (m : Cells) (c : Counts) : Type 0 where
+pub record Running (l : List ℕ) (i : ℕ) (s₀ : State) (rows : List Row) (spans : List ℕ) (x : Lines) (m : Cells) (c : Tally) : Type 0 where
   pub tried : Bool
   pub runs : Runs l i tried s₀ (stateFrom rows x m) c
   pub numbers : Numbers rows spans x m

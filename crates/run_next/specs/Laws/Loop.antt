@@ -18,23 +18,23 @@ use Rattle.step.specs.declared.Ending.{Ending}
 use Rattle.step.specs.declared.Ending.the-variants.{Idle}
 use Rattle.step.specs.State.{State}
 use Rattle.step.specs.Code.Performs.{Performs}
-use Rattle.run.specs.declared.Counts.{Counts}
-use Rattle.run.specs.Run.{noCounts, plus, countsOf}
+use Rattle.run.specs.Run.{Tally, noTally}
+use Rattle.run.specs.Code.Attempts.{added}
 use Rattle.run_rings.specs.Code.Records.{rowIn}
 use Rattle.run_rings.specs.Code.Spans.{Windows}
 use Rattle.run_next.specs.Code.Next.{nextIs, nextAt, Acting, alone, several, follows, tries, standing, hadIn, goesOn}
 use Rattle.run_next.specs.Code.Settled.{Lines, lines, queuesOf, attemptOf, resultBy, placeOf, Ready, Settles}
 use Rattle.run_next.specs.Code.Stands.{Stands}
 use Rattle.run_next.specs.Code.Numbers.{Cells, stateFrom, Numbers, Attempted}
-use Rattle.run_next.specs.Code.Tally.{countsIn, attemptCounts}
+use Rattle.run_next.specs.Code.Tally.{tallyIn, attemptCounts}
 use Rattle.run_next.specs.Code.Running.{before, between, Standing, Running, leftOver}
 use Rattle.run_next.specs.Laws.Next.{as-step}
 use Rattle.run_next.specs.Laws.Stands.{not-idle, place-goes}
 use Rattle.run_next.specs.Laws.Numbers.{head-lt, acting-row, acting-windows, acting-ready, attempted}
 use Rattle.run_next.specs.Laws.Tally.{idle-more, attempt-more}
-use Rattle.run_next.specs.Laws.Running.{starts, idles-on, acting-now, untrapped-now, attempts-on, follows-stands, follows-on}
+use Rattle.run_next.specs.Laws.Running.{ring-of, starts, idles-on, acting-now, untrapped-now, attempts-on, follows-stands, follows-on}
 
-pub begins : (l : List ℕ) (rows : List Row) (spans : List ℕ) (x : Lines) (m : Cells) (c : Counts) → Numbers rows spans x m → Stands (x .kinds) (x .marks) (queuesOf x) → c ≡ noCounts
+pub begins : (l : List ℕ) (rows : List Row) (spans : List ℕ) (x : Lines) (m : Cells) (c : Tally) → Numbers rows spans x m → Stands (x .kinds) (x .marks) (queuesOf x) → c ≡ noTally
     → Running l 0 (stateFrom rows x m) rows spans x m c
 begins l rows spans x m c h s e = record { tried = false; runs = rw e (starts l (stateFrom rows x m) (stateFrom rows x m) refl); numbers = h; stands = before s }
 
@@ -53,25 +53,21 @@ alone-of : (l : List ℕ) (t : ℕ) {u r o : ℕ} → nextAt l t ≡ nextIs u r 
 unfolding nextAt
 alone-of l t e = ap (λ n. n .alone) e
 
-ring-of : (l : List ℕ) (t : ℕ) {u r o : ℕ} → nextAt l t ≡ nextIs u r o → getD l (8 + t) 0 ≡ r
-unfolding nextAt
-ring-of l t e = ap (λ n. n .ring) e
-
 module _ (l : List ℕ) (i : ℕ) (s₀ : State) (rows : List Row) (spans : List ℕ) (x : Lines) (m : Cells) (tally : List ℕ)
-    (going : Running l i s₀ rows spans x m (countsIn tally)) (here : i < length l) (small : getD l i 0 < 8) (wide : length tally ≡ 80) where
+    (going : Running l i s₀ rows spans x m (tallyIn tally)) (here : i < length l) (small : getD l i 0 < 8) (wide : length tally ≡ 80) where
   abbrev t : ℕ
   t = getD l i 0
 
   -- an idle item
-  pub turn-idle : (tally′ : List ℕ) → getD (x .marks) t 0 ≡ 255 → tally′ ≡ set tally (24 + t) (getD tally (24 + t) 0 + 1) → Running l (i + 1) s₀ rows spans x m (countsIn tally′)
+  pub turn-idle : (tally′ : List ℕ) → getD (x .marks) t 0 ≡ 255 → tally′ ≡ set tally (24 + t) (getD tally (24 + t) 0 + 1) → Running l (i + 1) s₀ rows spans x m (tallyIn tally′)
   turn-idle tally′ up e =
-      subst (Running l (i + 1) s₀ rows spans x m) (sym (ap countsIn e ∙ idle-more tally t small wide))
-      (idles-on l i s₀ rows spans x m (countsIn tally) going here small up)
+      subst (Running l (i + 1) s₀ rows spans x m) (sym (ap tallyIn e ∙ idle-more tally t small wide))
+      (idles-on l i s₀ rows spans x m (tallyIn tally) going here small up)
 
   -- an attempt
   module _ (up : getD (x .marks) t 0 ≢ 255) where
     acts : Acting t (x .marks) (queuesOf x)
-    acts = acting-now l i s₀ rows spans x m (countsIn tally) going here small up
+    acts = acting-now l i s₀ rows spans x m (tallyIn tally) going here small up
 
     pub turn-head : getD (x .marks) t 0 < 64
     turn-head = head-lt rows spans x m (going .numbers) t small acts
@@ -89,7 +85,7 @@ module _ (l : List ℕ) (i : ℕ) (s₀ : State) (rows : List Row) (spans : List
       performed = performs (rowIn (x .kinds) (x .stored) (acting-row rows spans x m (going .numbers) t small acts .row)) (acting-windows rows spans x m (going .numbers) t small acts)
 
       untrapped : getD (x .kinds) t 0 ≡ 255
-      untrapped = untrapped-now l i s₀ rows spans x m (countsIn tally) going here small up
+      untrapped = untrapped-now l i s₀ rows spans x m (tallyIn tally) going here small up
 
       pub turn-ready : Ready t (getD (x .marks) t 0) k mid
       turn-ready = acting-ready rows spans x m (going .numbers) t small acts untrapped k ps n performed
@@ -109,23 +105,23 @@ module _ (l : List ℕ) (i : ℕ) (s₀ : State) (rows : List Row) (spans : List
         goes = sym (ap (leb 56) (settles .place) ∙ place-goes (attemptOf t x) (hadIn t (x .lens)) ending acts-so)
 
         counts-so : (tally′ : List ℕ) → tally′ ≡ set tally (r + t) (getD tally (r + t) 0 + 1)
-            → countsIn tally′ ≡ plus (countsIn tally) (attemptCounts (attemptOf t x) (hadIn t (x .lens)) ending)
+            → tallyIn tally′ ≡ added t (attemptCounts (attemptOf t x) (hadIn t (x .lens)) ending) (tallyIn tally)
         counts-so tally′ e =
-            ap countsIn e ∙ ap (λ (j : ℕ). countsIn (set tally (j + t) (getD tally (j + t) 0 + 1))) (settles .place)
+            ap tallyIn e ∙ ap (λ (j : ℕ). tallyIn (set tally (j + t) (getD tally (j + t) 0 + 1))) (settles .place)
             ∙ attempt-more tally t small wide (attemptOf t x) (hadIn t (x .lens)) ending acts-so
 
         -- the item is over
-        pub turn-over : (tally′ : List ℕ) → tally′ ≡ set tally (r + t) (getD tally (r + t) 0 + 1) → r < 56 → Running l (i + 1) s₀ rows spans y n (countsIn tally′)
+        pub turn-over : (tally′ : List ℕ) → tally′ ≡ set tally (r + t) (getD tally (r + t) 0 + 1) → r < 56 → Running l (i + 1) s₀ rows spans y n (tallyIn tally′)
         turn-over tally′ e h =
             subst (Running l (i + 1) s₀ rows spans y n) (sym (counts-so tally′ e))
-            (attempts-on l i s₀ rows spans x m (countsIn tally) going here small up (getD (x .marks) t 0) (getD ps (getD (x .marks) t 0) 0) r k ps y n kinds settles done
+            (attempts-on l i s₀ rows spans x m (tallyIn tally) going here small up (getD (x .marks) t 0) (getD ps (getD (x .marks) t 0) 0) r k ps y n kinds settles done
             (goes ∙ lt-leb 56 r h))
 
         -- its step follows
-        pub turn-follows : (tally′ : List ℕ) → tally′ ≡ set tally (r + t) (getD tally (r + t) 0 + 1) → 56 ≤ r → Running l i s₀ rows spans y n (countsIn tally′)
+        pub turn-follows : (tally′ : List ℕ) → tally′ ≡ set tally (r + t) (getD tally (r + t) 0 + 1) → 56 ≤ r → Running l i s₀ rows spans y n (tallyIn tally′)
         turn-follows tally′ e h =
             subst (Running l i s₀ rows spans y n) (sym (counts-so tally′ e))
-            (follows-on l i s₀ rows spans x m (countsIn tally) going here small up (getD (x .marks) t 0) (getD ps (getD (x .marks) t 0) 0) r k ps y n kinds settles done
+            (follows-on l i s₀ rows spans x m (tallyIn tally) going here small up (getD (x .marks) t 0) (getD ps (getD (x .marks) t 0) 0) r k ps y n kinds settles done
             (goes ∙ le-leb 56 r h))
 
         follows-less : goesOn (attemptOf t x) (hadIn t (x .lens)) ending ≡ true → Standing l i (y .kinds) (y .marks) (queuesOf y) true → leftOver l i (y .marks) < leftOver l i (x .marks)
@@ -145,4 +141,4 @@ module _ (l : List ℕ) (i : ℕ) (s₀ : State) (rows : List Row) (spans : List
 
         -- less is left where a step follows
         pub turn-less : 56 ≤ r → leftOver l i (y .marks) < leftOver l i (x .marks)
-        turn-less h = follows-less (goes ∙ le-leb 56 r h) (follows-stands l i s₀ rows spans x m (countsIn tally) going here small up (getD (x .marks) t 0) (getD ps (getD (x .marks) t 0) 0) r k ps y n kinds settles done (goes ∙ le-leb 56 r h))
+        turn-less h = follows-less (goes ∙ le-leb 56 r h) (follows-stands l i s₀ rows spans x m (tallyIn tally) going here small up (getD (x .marks) t 0) (getD ps (getD (x .marks) t 0) 0) r k ps y n kinds settles done (goes ∙ le-leb 56 r h))

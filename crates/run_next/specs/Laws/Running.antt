@@ -25,9 +25,9 @@ use Rattle.step.specs.Act.{Stepped}
 use Rattle.step.specs.Step.{noTrap, attemptBy, hasProcess, stepFollows, triesOf}
 use Rattle.step.specs.Laws.Step.{idle-empty, idle-trapped, idle-unlisted}
 use Rattle.run.specs.declared.Counts.{Counts}
-use Rattle.run.specs.Run.{counts, plus, countsOf, counted, noCounts, runBy, run, Ran}
-use Rattle.run.specs.Code.Attempts.{moreTries, stepped, runFrom}
-use Rattle.run.specs.Laws.Attempts.{counted-tried, from-step, from-try, from-no-try}
+use Rattle.run.specs.Run.{counts, plus, countsOf, counted, Tally, noTally, tallied, runBy, run, Ran}
+use Rattle.run.specs.Code.Attempts.{added, tried, stepped, runFrom}
+use Rattle.run.specs.Laws.Attempts.{tallied-tried, from-step, from-try, from-no-try}
 use Rattle.run.specs.Laws.Run.{sum-counted, tries-counted}
 use Rattle.run_rings.specs.Code.Records.{rowsIn}
 use Rattle.run_rings.specs.Laws.Rings.{len-in}
@@ -48,11 +48,11 @@ add-one : (i : ℕ) → i + 1 ≡ suc i
 add-one i = omega arith
 
 -- the items from the ith on
-first-item : (tried : Bool) (l : List ℕ) (i : ℕ) (s : State) (c : Counts) → i < length l
+first-item : (tried : Bool) (l : List ℕ) (i : ℕ) (s : State) (c : Tally) → i < length l
     → runFrom decide tried (drop i l) s c ≡ runFrom decide tried (getD l i 0 ∷ drop (suc i) l) s c
 first-item tried l i s c h = ap (λ (ts : List ℕ). runFrom decide tried ts s c) (drop-cons l i 0 h)
 
-module _ (l : List ℕ) (i : ℕ) (s₀ s s′ : State) (c : Counts) (e : Ending) (here : i < length l) where
+module _ (l : List ℕ) (i : ℕ) (s₀ s s′ : State) (c : Tally) (e : Ending) (here : i < length l) where
   abbrev t : ℕ
   t = getD l i 0
 
@@ -60,29 +60,29 @@ module _ (l : List ℕ) (i : ℕ) (s₀ s s′ : State) (c : Counts) (e : Ending
   ts = drop (suc i) l
 
   -- the items behind
-  behind : (c′ : Counts) → runFrom decide false (drop (suc i) l) s′ c′ ≡ run l s₀ → runFrom decide false (drop (i + 1) l) s′ c′ ≡ run l s₀
+  behind : (c′ : Tally) → runFrom decide false (drop (suc i) l) s′ c′ ≡ run l s₀ → runFrom decide false (drop (i + 1) l) s′ c′ ≡ run l s₀
   behind c′ k = ap (λ (j : ℕ). runFrom decide false (drop j l) s′ c′) (add-one i) ∙ k
 
-  step-then : attemptBy decide Step t s ≡ record { state = s′; ending = e } → runFrom decide true (t ∷ ts) s c ≡ runFrom decide false ts s′ (counted (stepped e) c)
-  step-then q = from-step decide t ts s c ∙ ap (λ (y : Stepped). runFrom decide false ts (y .state) (counted (stepped (y .ending)) c)) q
+  step-then : attemptBy decide Step t s ≡ record { state = s′; ending = e } → runFrom decide true (t ∷ ts) s c ≡ runFrom decide false ts s′ (tallied t (stepped e) c)
+  step-then q = from-step decide t ts s c ∙ ap (λ (y : Stepped). runFrom decide false ts (y .state) (tallied t (stepped (y .ending)) c)) q
 
   -- the step of an item, which has made its try or makes none
   pub steps-on : (tried : Bool) → (tried ≡ false → attemptBy decide Try t s ≡ record { state = s; ending = Idle })
-      → attemptBy decide Step t s ≡ record { state = s′; ending = e } → Runs l i tried s₀ s c → Runs l (i + 1) false s₀ s′ (plus c (countsOf e 0))
-  unfolding counted
+      → attemptBy decide Step t s ≡ record { state = s′; ending = e } → Runs l i tried s₀ s c → Runs l (i + 1) false s₀ s′ (added t (countsOf e 0) c)
+  unfolding tallied counted added
   steps-on tried idle q r = record {
     within = omega (arith, here);
-    counts = omega (arith, r .counts, sum-counted (stepped e) c);
+    counts = omega (arith, r .counts, sum-counted (stepped e) (c .counts));
     tries = few tried (r .tries);
-    runs = behind (counted (stepped e) c) (sym (first tried idle) ∙ r .runs);
+    runs = behind (tallied t (stepped e) c) (sym (first tried idle) ∙ r .runs);
   }
     where
-      few : (b : Bool) → c .tries ≤ i + cond b 1 0 → plus c (countsOf e 0) .tries ≤ i + 1 + 0
-      few true h = omega (arith, h, tries-counted (stepped e) c)
-      few false h = omega (arith, h, tries-counted (stepped e) c)
+      few : (b : Bool) → c .counts .tries ≤ i + cond b 1 0 → plus (c .counts) (countsOf e 0) .tries ≤ i + 1 + 0
+      few true h = omega (arith, h, tries-counted (stepped e) (c .counts))
+      few false h = omega (arith, h, tries-counted (stepped e) (c .counts))
 
       first : (b : Bool) → (b ≡ false → attemptBy decide Try t s ≡ record { state = s; ending = Idle })
-          → runFrom decide b (drop i l) s c ≡ runFrom decide false ts s′ (counted (stepped e) c)
+          → runFrom decide b (drop i l) s c ≡ runFrom decide false ts s′ (tallied t (stepped e) c)
       first true h = first-item true l i s c here ∙ step-then q
       first false h = first-item false l i s c here ∙ from-no-try decide t ts s c (h refl) ∙ step-then q
 
@@ -96,45 +96,45 @@ module _ (l : List ℕ) (i : ℕ) (s₀ s s′ : State) (c : Counts) (e : Ending
     one Idle n = absurd (n refl)
 
     follows : (b : Bool) → stepFollows had e ≡ b
-        → runFrom decide false (drop i l) s c ≡ cond b (runFrom decide true (t ∷ ts) s′ (moreTries 1 c)) (runFrom decide false ts s′ (counted (stepped e) (moreTries 1 c)))
+        → runFrom decide false (drop i l) s c ≡ cond b (runFrom decide true (t ∷ ts) s′ (tried t 1 c)) (runFrom decide false ts s′ (tallied t (stepped e) (tried t 1 c)))
     follows b f =
         first-item false l i s c here ∙ from-try decide t ts s c
-        ∙ ap (λ (y : Stepped). cond (stepFollows (hasProcess (s .table .users) t) (y .ending)) (runFrom decide true (t ∷ ts) (y .state) (moreTries (triesOf (y .ending)) c))
-        (runFrom decide false ts (y .state) (counted (stepped (y .ending)) (moreTries (triesOf (y .ending)) c)))) q
-        ∙ ap (λ (n : ℕ). cond (stepFollows (hasProcess (s .table .users) t) e) (runFrom decide true (t ∷ ts) s′ (moreTries n c))
-        (runFrom decide false ts s′ (counted (stepped e) (moreTries n c)))) (one e acts)
-        ∙ ap (λ (h : Bool). cond (stepFollows h e) (runFrom decide true (t ∷ ts) s′ (moreTries 1 c)) (runFrom decide false ts s′ (counted (stepped e) (moreTries 1 c)))) has
-        ∙ ap (λ (b : Bool). cond b (runFrom decide true (t ∷ ts) s′ (moreTries 1 c)) (runFrom decide false ts s′ (counted (stepped e) (moreTries 1 c)))) f
+        ∙ ap (λ (y : Stepped). cond (stepFollows (hasProcess (s .table .users) t) (y .ending)) (runFrom decide true (t ∷ ts) (y .state) (tried t (triesOf (y .ending)) c))
+        (runFrom decide false ts (y .state) (tallied t (stepped (y .ending)) (tried t (triesOf (y .ending)) c)))) q
+        ∙ ap (λ (n : ℕ). cond (stepFollows (hasProcess (s .table .users) t) e) (runFrom decide true (t ∷ ts) s′ (tried t n c))
+        (runFrom decide false ts s′ (tallied t (stepped e) (tried t n c)))) (one e acts)
+        ∙ ap (λ (h : Bool). cond (stepFollows h e) (runFrom decide true (t ∷ ts) s′ (tried t 1 c)) (runFrom decide false ts s′ (tallied t (stepped e) (tried t 1 c)))) has
+        ∙ ap (λ (b : Bool). cond b (runFrom decide true (t ∷ ts) s′ (tried t 1 c)) (runFrom decide false ts s′ (tallied t (stepped e) (tried t 1 c)))) f
 
     -- that a step follows
-    pub tries-on : stepFollows had e ≡ true → Runs l i true s₀ s′ (plus c (counts 0 0 0 0 1))
-    unfolding moreTries plus
+    pub tries-on : stepFollows had e ≡ true → Runs l i true s₀ s′ (added t (counts 0 0 0 0 1) c)
+    unfolding tried added plus
     tries-on f = record {
       within = r .within;
       counts = omega (arith, r .counts);
       tries = omega (arith, r .tries);
-      runs = first-item true l i s′ (moreTries 1 c) here ∙ sym (follows true f) ∙ r .runs;
+      runs = first-item true l i s′ (tried t 1 c) here ∙ sym (follows true f) ∙ r .runs;
     }
 
     -- that ends its item
-    pub try-ends : stepFollows had e ≡ false → Runs l (i + 1) false s₀ s′ (plus c (countsOf e 1))
-    unfolding counted
+    pub try-ends : stepFollows had e ≡ false → Runs l (i + 1) false s₀ s′ (added t (countsOf e 1) c)
+    unfolding tallied counted added
     try-ends f =
-        let k : counted (record { ending = e; tries = 1 }) c ≡ counted (stepped e) (moreTries 1 c) = counted-tried e 1 c in
+        let k : tallied t (record { ending = e; tries = 1 }) c ≡ tallied t (stepped e) (tried t 1 c) = tallied-tried t e 1 c in
         record {
           within = omega (arith, here);
-          counts = omega (arith, r .counts, sum-counted (record { ending = e; tries = 1 }) c);
-          tries = omega (arith, r .tries, tries-counted (record { ending = e; tries = 1 }) c);
-          runs = behind (plus c (countsOf e 1)) (ap (runFrom decide false ts s′) k ∙ sym (follows false f) ∙ r .runs);
+          counts = omega (arith, r .counts, sum-counted (record { ending = e; tries = 1 }) (c .counts));
+          tries = omega (arith, r .tries, tries-counted (record { ending = e; tries = 1 }) (c .counts));
+          runs = behind (added t (countsOf e 1) c) (ap (runFrom decide false ts s′) k ∙ sym (follows false f) ∙ r .runs);
         }
 
 -- ---- the start, and the end
 
-pub starts : (l : List ℕ) (s₀ s : State) → s ≡ s₀ → Runs l 0 false s₀ s noCounts
+pub starts : (l : List ℕ) (s₀ s : State) → s ≡ s₀ → Runs l 0 false s₀ s noTally
 unfolding run runFrom
-starts l s₀ s e = record { within = omega arith; counts = refl; tries = omega arith; runs = ap (λ (s : State). runBy decide l s noCounts) e }
+starts l s₀ s e = record { within = omega arith; counts = refl; tries = omega arith; runs = ap (λ (s : State). runBy decide tallied l s noTally) e }
 
-pub ends : (l : List ℕ) (i : ℕ) (s₀ s : State) (c : Counts) (tried : Bool) → length l ≤ i → Runs l i tried s₀ s c → record { state = s; counts = c } ≡ run l s₀
+pub ends : (l : List ℕ) (i : ℕ) (s₀ s : State) (c : Tally) (tried : Bool) → length l ≤ i → Runs l i tried s₀ s c → record { state = s; notes = c } ≡ run l s₀
 unfolding runBy runFrom
 ends l i s₀ s c true h r = sym (ap (λ (ts : List ℕ). runFrom decide true ts s c) (drop-of-length-le l h)) ∙ r .runs
 ends l i s₀ s c false h r = sym (ap (λ (ts : List ℕ). runFrom decide false ts s c) (drop-of-length-le l h)) ∙ r .runs
@@ -149,11 +149,11 @@ step-try : Step ≡ Try → ⊥
 unfolding step?
 step-try e = true≢false (ap step? e)
 
-ring-of : (l : List ℕ) (t : ℕ) {u r o : ℕ} → nextAt l t ≡ nextIs u r o → getD l (8 + t) 0 ≡ r
+pub ring-of : (l : List ℕ) (t : ℕ) {u r o : ℕ} → nextAt l t ≡ nextIs u r o → getD l (8 + t) 0 ≡ r
 unfolding nextAt
 ring-of l t e = ap (λ n. n .ring) e
 
-module _ (l : List ℕ) (i : ℕ) (s₀ : State) (rows : List Row) (spans : List ℕ) (x : Lines) (m : Cells) (c : Counts) (going : Running l i s₀ rows spans x m c) (here : i < length l)
+module _ (l : List ℕ) (i : ℕ) (s₀ : State) (rows : List Row) (spans : List ℕ) (x : Lines) (m : Cells) (c : Tally) (going : Running l i s₀ rows spans x m c) (here : i < length l)
     (small : getD l i 0 < 8) where
   abbrev task : ℕ
   task = getD l i 0
@@ -224,10 +224,10 @@ module _ (l : List ℕ) (i : ℕ) (s₀ : State) (rows : List Row) (spans : List
       on false (differ n) = trapped-idle n a
 
   -- an idle item
-  pub idles-on : getD (x .marks) task 0 ≡ 255 → Running l (i + 1) s₀ rows spans x m (plus c (countsOf Idle 0))
+  pub idles-on : getD (x .marks) task 0 ≡ 255 → Running l (i + 1) s₀ rows spans x m (added task (countsOf Idle 0) c)
   idles-on up = on (going .tried) (going .runs) (going .stands)
     where
-      on : (b : Bool) → Runs l i b s₀ now c → Standing l i (x .kinds) (x .marks) queues b → Running l (i + 1) s₀ rows spans x m (plus c (countsOf Idle 0))
+      on : (b : Bool) → Runs l i b s₀ now c → Standing l i (x .kinds) (x .marks) queues b → Running l (i + 1) s₀ rows spans x m (added task (countsOf Idle 0) c)
       on true r (between k b) = absurd (omega (arith, up, head-lt rows spans x m (going .numbers) task small (between-acting (x .kinds) (x .marks) queues task b)))
       on false r (before s) = record {
         tried = false;
@@ -303,7 +303,7 @@ module _ (l : List ℕ) (i : ℕ) (s₀ : State) (rows : List Row) (spans : List
 
       -- the item is over
       pub attempts-on : goesOn (attemptOf task x) (hadIn task (x .lens)) (resultBy task k p mid .ending) ≡ false
-          → Running l (i + 1) s₀ rows spans y n (plus c (attemptCounts (attemptOf task x) (hadIn task (x .lens)) (resultBy task k p mid .ending)))
+          → Running l (i + 1) s₀ rows spans y n (added task (attemptCounts (attemptOf task x) (hadIn task (x .lens)) (resultBy task k p mid .ending)) c)
       unfolding goesOn attemptCounts
       attempts-on f = record {
         tried = false;
@@ -313,12 +313,12 @@ module _ (l : List ℕ) (i : ℕ) (s₀ : State) (rows : List Row) (spans : List
       }
         where
           on : (a : Attempt) → attemptOf task x ≡ a → (b : Bool) → Runs l i b s₀ now c → Standing l i (x .kinds) (x .marks) queues b → goesOn a had ending ≡ false
-              → Runs l (i + 1) false s₀ (stateFrom rows y n) (plus c (attemptCounts a had ending))
+              → Runs l (i + 1) false s₀ (stateFrom rows y n) (added task (attemptCounts a had ending) c)
           on Step e b u s g = steps-on l i s₀ now (stateFrom rows y n) c ending here b (step-alone b s e) (attempt-by Step e) u
           on Try e true u (between j b) g = absurd (step-try (sym (between-step b) ∙ e))
           on Try e false u s g =
               let q : cond (stepFollows had ending) (counts 0 0 0 0 1) (countsOf ending 1) ≡ countsOf ending 1 = ap (λ (b : Bool). cond b (counts 0 0 0 0 1) (countsOf ending 1)) g in
-              subst (λ (z : Counts). Runs l (i + 1) false s₀ (stateFrom rows y n) (plus c z)) (sym q)
+              subst (λ (z : Counts). Runs l (i + 1) false s₀ (stateFrom rows y n) (added task z c)) (sym q)
               (try-ends l i s₀ now (stateFrom rows y n) c ending here acts (attempt-by Try e) had has-now u g)
 
       -- its step follows
@@ -344,18 +344,18 @@ module _ (l : List ℕ) (i : ℕ) (s₀ : State) (rows : List Row) (spans : List
           between here (between-kept task pt p r k mid y small wide settles untrapped-now (e .0) h (ap (λ (b : Bool). stepFollows b ending) (sym h) ∙ e .1) others-now)
 
       pub follows-on : goesOn (attemptOf task x) (hadIn task (x .lens)) (resultBy task k p mid .ending) ≡ true
-          → Running l i s₀ rows spans y n (plus c (attemptCounts (attemptOf task x) (hadIn task (x .lens)) (resultBy task k p mid .ending)))
+          → Running l i s₀ rows spans y n (added task (attemptCounts (attemptOf task x) (hadIn task (x .lens)) (resultBy task k p mid .ending)) c)
       unfolding attemptCounts
       follows-on f =
           let e = try-follows f in
           record { tried = true; runs = on (attemptOf task x) refl (e .0) (going .tried) (going .runs) (going .stands); numbers = attempted .numbers; stands = follows-stands f }
         where
           on : (a : Attempt) → attemptOf task x ≡ a → a ≡ Try → (b : Bool) → Runs l i b s₀ now c → Standing l i (x .kinds) (x .marks) queues b
-              → Runs l i true s₀ (stateFrom rows y n) (plus c (attemptCounts a had ending))
+              → Runs l i true s₀ (stateFrom rows y n) (added task (attemptCounts a had ending) c)
           on Step e z b u s = absurd (step-try z)
           on Try e z true u (between j b) = absurd (step-try (sym (between-step b) ∙ e))
           on Try e z false u s =
               let g = try-follows f .1 in
               let q : cond (stepFollows had ending) (counts 0 0 0 0 1) (countsOf ending 1) ≡ counts 0 0 0 0 1 = ap (λ (b : Bool). cond b (counts 0 0 0 0 1) (countsOf ending 1)) g in
-              subst (λ (z : Counts). Runs l i true s₀ (stateFrom rows y n) (plus c z)) (sym q)
+              subst (λ (z : Counts). Runs l i true s₀ (stateFrom rows y n) (added task z c)) (sym q)
               (tries-on l i s₀ now (stateFrom rows y n) c ending here acts (attempt-by Try e) had has-now u g)

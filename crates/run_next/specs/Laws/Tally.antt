@@ -1,110 +1,148 @@
 -- One attempt more in the counts side by side.
 use mathlib.Core.Path.{_≡_, refl, sym, ap, ap₂, _∙_}
 use mathlib.Core.Logic.{_≢_}
-use mathlib.Core.Bool.{Bool, true, false, cond, _&&_, _||_, false≢true}
-use mathlib.Core.List.{List}
-use Prim.Native.Nat.{ℕ, zero, suc, _+_, _≤_, _<_}
+use mathlib.Core.Bool.{Bool, true, false, cond, _&&_}
+use mathlib.Core.List.{List, [], _∷_}
+use Prim.Native.Nat.{ℕ, zero, suc, _+_, _*_, _≤_, _<_}
 use native.Mathlib.Omega.{arith}
-use lib.Dec.{eqb, leb}
+use lib.Dec.{eqb}
 use lib.ListN.{length, getD, set}
 use lib.Seq.{getD-set-same, getD-set-other}
-use borrow.Author.Tests.{leb-true}
-use Rattle.word.specs.Laws.Bools.{Eq?, same, differ, eq?, and-left, and-right}
+use borrow.Author.Tests.{eq-eqb, ne-eqb}
+use Rattle.word.specs.Laws.Bools.{Eq?, same, differ, eq?}
 use Rattle.step.specs.declared.Attempt.{Attempt}
 use Rattle.step.specs.declared.Attempt.the-variants.{Step, Try}
 use Rattle.step.specs.declared.Ending.{Ending}
 use Rattle.step.specs.declared.Ending.the-variants.{Executed, Waved, Trapped, Idle}
+use Rattle.step.specs.Queues.{numbers}
 use Rattle.step.specs.Step.{stepFollows}
 use Rattle.run.specs.declared.Counts.{Counts}
-use Rattle.run.specs.Run.{counts, plus, countsOf}
+use Rattle.run.specs.Run.{counts, noCounts, plus, countsOf, summed, ownCounts}
+use Rattle.run.specs.Code.Attempts.{added}
+use Rattle.run.specs.Laws.Tallies.{plus-none, summed-set}
 use Rattle.run_next.specs.Code.Next.{placeAfter}
 use Rattle.run_next.specs.Code.Settled.{placeOf}
-use Rattle.run_next.specs.Code.Tally.{cellsSum, endedIn, countsIn, attemptCounts}
+use Rattle.run_next.specs.Code.Tally.{tallyCells, cellOf, ownIn, ownFrom, allOwn, tallyIn, attemptCounts}
 
 abbrev one-more : List ℕ → (j : ℕ) → List ℕ
 one-more l j = set l j (getD l j 0 + 1)
 
-sum-out : (l : List ℕ) (j i n : ℕ) → ((k : ℕ) → i ≤ k → k < i + n → k ≢ j) → cellsSum (one-more l j) i n ≡ cellsSum l i n
-unfolding cellsSum
-sum-out l j i zero h = refl
-sum-out l j i (suc n) h =
-    ap₂ _+_ (getD-set-other l j i (getD l j 0 + 1) 0 (h i (omega arith) (omega arith))) (sum-out l j (suc i) n (λ k a b. h k (omega (arith, a)) (omega (arith, b))))
+-- ---- the counts of task numbers in a row
 
-sum-in : (l : List ℕ) (j i n : ℕ) → j < length l → i ≤ j → j < i + n → cellsSum (one-more l j) i n ≡ cellsSum l i n + 1
-unfolding cellsSum
-sum-in l j i zero h a b = absurd (omega (arith, a, b))
-sum-in l j i (suc n) h a b = on (eqb i j) (eq? i j) (λ c. sum-in l j (suc i) n h c (omega (arith, b)))
-  where
-    on : (t : Bool) → Eq? i j t → (suc i ≤ j → cellsSum (one-more l j) (suc i) n ≡ cellsSum l (suc i) n + 1) → getD (one-more l j) i 0 + cellsSum (one-more l j) (suc i) n ≡ getD l i 0 + cellsSum l (suc i) n + 1
-    on true (same e) g =
-        let f : getD (one-more l j) i 0 ≡ getD l i 0 + 1 = ap (λ (k : ℕ). getD (one-more l j) k 0) e ∙ getD-set-same l j (getD l j 0 + 1) 0 h ∙ ap (λ (k : ℕ). getD l k 0 + 1) (sym e) in
-        omega (arith, f, sum-out l j (suc i) n (λ k c d q. absurd (omega (arith, c, q, e))))
-    on false (differ m) g =
-        let f : getD (one-more l j) i 0 ≡ getD l i 0 = getD-set-other l j i (getD l j 0 + 1) 0 m in
-        omega (arith, f, g (omega (arith, a, m)))
+pub length-from : (l : List ℕ) (t n : ℕ) → length (ownFrom l t n) ≡ n
+unfolding ownFrom
+length-from l t zero = refl
+length-from l t (suc n) = ap suc (length-from l (suc t) n)
 
--- the eight cells of a place lie among n from i on, and then one cell more is one more there; or none of them does
-inside : (p i n : ℕ) → Bool
-inside p i n = leb i p && leb (p + 8) (i + n)
+pub at-from : (l : List ℕ) (t n i : ℕ) → i < n → getD (ownFrom l t n) i noCounts ≡ ownIn l (t + i)
+unfolding ownFrom
+at-from l t zero i h = absurd (omega (arith, h))
+at-from l t (suc n) zero h = ap (ownIn l) (omega arith)
+at-from l t (suc n) (suc i) h = at-from l (suc t) n i (omega (arith, h)) ∙ ap (ownIn l) (omega arith)
 
-apart : (p i n : ℕ) → Bool
-apart p i n = leb (p + 8) i || leb (i + n) p
+same-from : (l k : List ℕ) (t n : ℕ) → ((u : ℕ) → t ≤ u → u < t + n → ownIn k u ≡ ownIn l u) → ownFrom k t n ≡ ownFrom l t n
+unfolding ownFrom
+same-from l k t zero h = refl
+same-from l k t (suc n) h =
+    ap₂ {C = List Counts} (λ a b. a ∷ b) (h t (omega arith) (omega arith)) (same-from l k (suc t) n (λ u a b. h u (omega (arith, a)) (omega (arith, b))))
 
-more : (p i n : ℕ) → ℕ
-more p i n = cond (inside p i n) 1 0
+-- all but those of one are the same
+set-from : (l k : List ℕ) (t n i : ℕ) → i < n → ((u : ℕ) → t ≤ u → u < t + n → u ≢ t + i → ownIn k u ≡ ownIn l u) → ownFrom k t n ≡ set (ownFrom l t n) i (ownIn k (t + i))
+unfolding ownFrom
+set-from l k t zero i e h = absurd (omega (arith, e))
+set-from l k t (suc n) zero e h =
+    ap₂ {C = List Counts} (λ a b. a ∷ b) (ap (ownIn k) (omega arith))
+    (same-from l k (suc t) n (λ u a b. h u (omega (arith, a)) (omega (arith, b)) (λ q. absurd (omega (arith, a, q)))))
+set-from l k t (suc n) (suc i) e h =
+    ap₂ {C = List Counts} (λ a b. a ∷ b) (h t (omega arith) (omega arith) (λ q. absurd (omega (arith, q))))
+    (set-from l k (suc t) n i (omega (arith, e)) (λ u a b q. h u (omega (arith, a)) (omega (arith, b)) (λ z. q (omega (arith, z))))
+    ∙ ap (λ (j : ℕ). set (ownFrom l (suc t) n) i (ownIn k j)) (omega arith))
 
-module _ (l : List ℕ) (t : ℕ) (small : t < 8) (p : ℕ) (fits : p + 8 ≤ length l) where
-  sum-more : (i n : ℕ) → inside p i n || apart p i n ≡ true → cellsSum (one-more l (p + t)) i n ≡ cellsSum l i n + more p i n
-  unfolding inside apart more
-  sum-more i n e = on (leb i p && leb (p + 8) (i + n)) refl
+-- ---- one cell more
+
+-- the cell is place k of the task
+unfoldable pub one : (b : Bool) (j k : ℕ) → ℕ
+one b j k = cond (b && eqb j k) 1 0
+
+unfoldable pub share : Bool → (k : ℕ) → Counts
+share b k =
+    counts (one b 0 k + one b 4 k) (one b 1 k + one b 5 k) (one b 2 k + one b 6 k) (one b 3 k)
+    (one b 4 k + one b 5 k + one b 6 k + one b 7 k + one b 8 k)
+
+module _ (l : List ℕ) (wide : length l ≡ tallyCells) (t : ℕ) (small : t < numbers) (k : ℕ) (fits : k ≤ 9) where
+  abbrev more : List ℕ
+  more = one-more l (numbers * k + t)
+
+  cell-more : (u : ℕ) → u < numbers → (b : Bool) → Eq? u t b → (j : ℕ) → cellOf more j u ≡ cellOf l j u + one b j k
+  unfolding one
+  cell-more u h true (same q) j = go (eqb j k) (eq? j k)
     where
-      away : (b : Bool) → leb (p + 8) i ≡ b → b || leb (i + n) p ≡ true → cellsSum (one-more l (p + t)) i n ≡ cellsSum l i n + 0
-      away true q f = sum-out l (p + t) i n (λ k c d z. absurd (omega (arith, leb-true (p + 8) i q, c, z, small))) ∙ omega arith
-      away false q f = sum-out l (p + t) i n (λ k c d z. absurd (omega (arith, leb-true (i + n) p f, d, z))) ∙ omega arith
+      go : (c : Bool) → Eq? j k c → cellOf more j u ≡ cellOf l j u + cond c 1 0
+      go true (same e) =
+          let at : numbers * j + u ≡ numbers * k + t = omega (arith, e, q) in
+          ap (λ (i : ℕ). getD more i 0) at ∙ getD-set-same l (numbers * k + t) (getD l (numbers * k + t) 0 + 1) 0 (omega (arith, wide, small, fits))
+          ∙ ap (λ (i : ℕ). getD l i 0 + 1) (sym at)
+      go false (differ e) =
+          getD-set-other l (numbers * k + t) (numbers * j + u) (getD l (numbers * k + t) 0 + 1) 0 (λ z. e (omega (arith, z, q)))
+          ∙ omega arith
+  cell-more u h false (differ q) j =
+      getD-set-other l (numbers * k + t) (numbers * j + u) (getD l (numbers * k + t) 0 + 1) 0 (λ z. q (omega (arith, z, h, small)))
+      ∙ omega arith
 
-      on : (b : Bool) → leb i p && leb (p + 8) (i + n) ≡ b → cellsSum (one-more l (p + t)) i n ≡ cellsSum l i n + cond b 1 0
-      on true q =
-          let c = leb-true i p (and-left (leb i p) (leb (p + 8) (i + n)) q) in
-          let d = leb-true (p + 8) (i + n) (and-right (leb i p) (leb (p + 8) (i + n)) q) in
-          sum-in l (p + t) i n (omega (arith, small, fits)) (omega (arith, c)) (omega (arith, d, small))
-      on false q = away (leb (p + 8) i) refl (ap (λ (b : Bool). b || (leb (p + 8) i || leb (i + n) p)) (sym q) ∙ e)
+  own-more : (u : ℕ) → u < numbers → (b : Bool) → Eq? u t b → ownIn more u ≡ plus (ownIn l u) (share b k)
+  unfolding ownIn plus share
+  own-more u h b e =
+      let c = cell-more u h b e in
+      λ i. record {
+        executed = two 0 4 i;
+        waved = two 1 5 i;
+        trapped = two 2 6 i;
+        idle = c 3 i;
+        tries = tries-more i;
+      }
+    where
+      two : (j m : ℕ) → cellOf more j u + cellOf more m u ≡ cellOf l j u + cellOf l m u + (one b j k + one b m k)
+      two j m = omega (arith, cell-more u h b e j, cell-more u h b e m)
 
-  ended-more : (i : ℕ) → inside p i 8 || apart p i 8 ≡ true → inside p (32 + i) 8 || apart p (32 + i) 8 ≡ true
-      → endedIn (one-more l (p + t)) i ≡ endedIn l i + (more p i 8 + more p (32 + i) 8)
-  unfolding endedIn
-  ended-more i e f = omega (arith, sum-more i 8 e, sum-more (32 + i) 8 f)
+      tries-more : cellOf more 4 u + cellOf more 5 u + cellOf more 6 u + cellOf more 7 u + cellOf more 8 u
+          ≡ cellOf l 4 u + cellOf l 5 u + cellOf l 6 u + cellOf l 7 u + cellOf l 8 u + (one b 4 k + one b 5 k + one b 6 k + one b 7 k + one b 8 k)
+      tries-more = omega (arith, cell-more u h b e 4, cell-more u h b e 5, cell-more u h b e 6, cell-more u h b e 7, cell-more u h b e 8)
 
-  abbrev Tells : (i n : ℕ) → Type 0
-  Tells i n = inside p i n || apart p i n ≡ true
+  nothing-more : (u : ℕ) → plus (ownIn l u) (share false k) ≡ ownIn l u
+  unfolding share one
+  nothing-more u = plus-none (ownIn l u)
 
-  -- one cell more of the place
-  counts-more : Tells 0 8 → Tells 32 8 → Tells 8 8 → Tells 40 8 → Tells 16 8 → Tells 48 8 → Tells 24 8 → Tells 32 40 → countsIn (one-more l (p + t))
-      ≡ plus (countsIn l) (counts (more p 0 8 + more p 32 8) (more p 8 8 + more p 40 8) (more p 16 8 + more p 48 8) (more p 24 8) (more p 32 40))
-  unfolding countsIn plus
-  counts-more a b c d e f g h = λ i. record {
-    executed = ended-more 0 a b i;
-    waved = ended-more 8 c d i;
-    trapped = ended-more 16 e f i;
-    idle = sum-more 24 8 g i;
-    tries = sum-more 32 40 h i;
-  }
+  own-others : (u : ℕ) → u < numbers → u ≢ t → ownIn more u ≡ ownIn l u
+  own-others u h n = own-more u h false (differ n) ∙ nothing-more u
 
--- an item without an attempt
-pub idle-more : (l : List ℕ) (t : ℕ) → t < 8 → length l ≡ 80 → countsIn (set l (24 + t) (getD l (24 + t) 0 + 1)) ≡ plus (countsIn l) (countsOf Idle 0)
-unfolding countsOf inside apart more
-idle-more l t h e = counts-more l t h 24 (omega (arith, e)) refl refl refl refl refl refl refl refl
+  pub tally-more : tallyIn more ≡ added t (share true k) (tallyIn l)
+  unfolding tallyIn added ownCounts
+  tally-more = λ i. record { counts = (ap summed own ∙ summed-set (share true k) (allOwn l) t (omega (arith, small, length-from l 0 numbers))) i; own = own i }
+    where
+      here : getD (allOwn l) t noCounts ≡ ownIn l t
+      here = at-from l 0 numbers t small ∙ ap (ownIn l) (omega arith)
 
--- an attempt
+      own : allOwn more ≡ set (allOwn l) t (plus (getD (allOwn l) t noCounts) (share true k))
+      own =
+          set-from l more 0 numbers t small (λ u a b n. own-others u (omega (arith, b)) (λ z. n (omega (arith, z))))
+          ∙ ap (set (allOwn l) t) (ap (ownIn more) (omega arith) ∙ own-more t small true (same refl) ∙ ap (λ (c : Counts). plus c (share true k)) (sym here))
+
+-- ---- an item without an attempt, and an attempt
+
 module _ (l : List ℕ) (t : ℕ) (small : t < 8) (wide : length l ≡ 80) where
+  pub idle-more : tallyIn (set l (24 + t) (getD l (24 + t) 0 + 1)) ≡ added t (countsOf Idle 0) (tallyIn l)
+  unfolding countsOf share one
+  idle-more = tally-more l wide t small 3 (omega arith)
+
   pub attempt-more : (a : Attempt) (had : Bool) (e : Ending) → e ≢ Idle
-      → countsIn (set l (placeOf a had e + t) (getD l (placeOf a had e + t) 0 + 1)) ≡ plus (countsIn l) (attemptCounts a had e)
-  unfolding placeOf placeAfter attemptCounts stepFollows countsOf inside apart more
-  attempt-more Step had Executed n = counts-more l t small 0 (omega (arith, wide)) refl refl refl refl refl refl refl refl
-  attempt-more Step had Waved n = counts-more l t small 8 (omega (arith, wide)) refl refl refl refl refl refl refl refl
-  attempt-more Step had (Trapped k p) n = counts-more l t small 16 (omega (arith, wide)) refl refl refl refl refl refl refl refl
-  attempt-more Try true Executed n = counts-more l t small 56 (omega (arith, wide)) refl refl refl refl refl refl refl refl
-  attempt-more Try false Executed n = counts-more l t small 32 (omega (arith, wide)) refl refl refl refl refl refl refl refl
-  attempt-more Try true Waved n = counts-more l t small 64 (omega (arith, wide)) refl refl refl refl refl refl refl refl
-  attempt-more Try false Waved n = counts-more l t small 40 (omega (arith, wide)) refl refl refl refl refl refl refl refl
-  attempt-more Try had (Trapped k p) n = counts-more l t small 48 (omega (arith, wide)) refl refl refl refl refl refl refl refl
+      → tallyIn (set l (placeOf a had e + t) (getD l (placeOf a had e + t) 0 + 1)) ≡ added t (attemptCounts a had e) (tallyIn l)
+  unfolding placeOf placeAfter attemptCounts stepFollows countsOf share one
+  attempt-more Step had Executed n = tally-more l wide t small 0 (omega arith)
+  attempt-more Step had Waved n = tally-more l wide t small 1 (omega arith)
+  attempt-more Step had (Trapped k p) n = tally-more l wide t small 2 (omega arith)
+  attempt-more Try true Executed n = tally-more l wide t small 7 (omega arith)
+  attempt-more Try false Executed n = tally-more l wide t small 4 (omega arith)
+  attempt-more Try true Waved n = tally-more l wide t small 8 (omega arith)
+  attempt-more Try false Waved n = tally-more l wide t small 5 (omega arith)
+  attempt-more Try had (Trapped k p) n = tally-more l wide t small 6 (omega arith)
   attempt-more a had Idle n = absurd (n refl)

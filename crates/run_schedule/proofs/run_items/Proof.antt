@@ -3,6 +3,10 @@ use native.Mathlib.Omega.{arith}
 use borrow.Author.Needs.{needs}
 use Rattle.run_next.specs.Laws.Loop.{begins, less-next, turn-idle, turn-head, turn-ready, turn-over, turn-follows, turn-less}
 use Rattle.run_schedule.specs.Laws.Items.{item-in}
+use Rattle.run_next.specs.Code.Settled.{placeOf}
+use Rattle.step.specs.declared.Attempt.the-variants.{Step}
+use Rattle.step.specs.declared.Ending.the-variants.{Idle}
+use mathlib.Core.Bool.{false}
 use Rattle.run_schedule.specs.Laws.Carried.{numbers-begin, even, cell-room, state-same, run-ends, place-le}
 use Rattle.run_schedule.specs.Code.Carried.{Looping}
 use Rattle.run_next.specs.Code.Running.{leftOver}
@@ -50,7 +54,8 @@ slice-aggregate-count-attempt : tie.Need-slice-aggregate-count-attempt Inv-loop 
 slice-aggregate-count-attempt c = sym (c .before .before .before .before .loop .inv .0 .cells)
 
 count-attempt-requires : tie.Need-count-attempt-requires Inv-loop μ-loop
-count-attempt-requires c κs = let a = c .before .before .before .before .before .before .before .before .before .before .before .before .before .before .before .before .before .before .before .before .before .before .before .before .before .args in let l = c .before .before .before .before .loop in let o = c .before .before .before .before .before .before .before .before .before .before .before .before .before .before .before .before .before .before .before .before .before .before .before .before .before .pre .2 in let b = c .before .before .before .before .before .before .before .before .before .before .before .before .before .before .before .numbered in let w : length (b .result .psws) ≡ 65 = search needs in let g = l .inv .0 .running (o .rows) (numbers-begin (o .rows) (a .users) (a .records) _ (b .result) (o .opens) (b .ensures) w) in let t = item-in (a .schedule .now) (l .i) (c .before .before .before .before .before .before .before .before .before .before .before .before .before .before .before .before .before .before .before .before .before .before .before .before .before .pre .1) (c .before .before .before .loop-test .taken) in let h : l .i < length (a .schedule .now) = c .before .before .before .loop-test .taken in (omega (arith, t .1), omega arith, omega (arith, l .inv .0 .cells), cell-room (a .schedule .now) (l .i) _ (o .rows) _ _ _ (l .tally) _ (c .before .before .before .before .before .before .before .before .before .before .before .before .before .before .before .before .before .before .before .before .before .before .before .before .before .pre .0) g (omega (arith, t .1)))
+unfolding placeOf
+count-attempt-requires c κs = let a = c .before .before .before .before .before .before .before .before .before .before .before .before .before .before .before .before .before .before .before .before .before .before .before .before .before .args in let l = c .before .before .before .before .loop in let o = c .before .before .before .before .before .before .before .before .before .before .before .before .before .before .before .before .before .before .before .before .before .before .before .before .before .pre .2 in let b = c .before .before .before .before .before .before .before .before .before .before .before .before .before .before .before .numbered in let w : length (b .result .psws) ≡ 65 = search needs in let g = l .inv .0 .running (o .rows) (numbers-begin (o .rows) (a .users) (a .records) _ (b .result) (o .opens) (b .ensures) w) in let t = item-in (a .schedule .now) (l .i) (c .before .before .before .before .before .before .before .before .before .before .before .before .before .before .before .before .before .before .before .before .before .before .before .before .before .pre .1) (c .before .before .before .loop-test .taken) in let h : l .i < length (a .schedule .now) = c .before .before .before .loop-test .taken in (omega (arith, t .1), omega arith, omega (arith, l .inv .0 .cells), cell-room (a .schedule .now) (l .i) _ (o .rows) _ _ _ (l .tally) _ 24 Step false Idle refl (c .before .before .before .before .before .before .before .before .before .before .before .before .before .before .before .before .before .before .before .before .before .before .before .before .before .pre .0) g (omega (arith, t .1)))
 
 add-i : tie.Need-add-i Inv-loop μ-loop
 add-i c = omega (arith, c .before .before .before .before .before .loop-test .taken, c .before .before .before .before .before .before .before .before .before .before .before .before .before .before .before .before .before .before .before .before .before .before .before .before .before .before .before .pre .0)
@@ -107,7 +112,7 @@ slice-aggregate-count-attempt-2 : tie.Need-slice-aggregate-count-attempt-2 Inv-l
 slice-aggregate-count-attempt-2 c = sym (c .before .before .before .before .before .before .before .before .before .before .before .before .before .before .before .before .before .before .before .before .before .before .before .before .before .before .before .before .before .before .before .before .before .before .before .before .before .before .loop .inv .0 .cells)
 
 count-attempt-requires-2 : tie.Need-count-attempt-requires-2 Inv-loop μ-loop
-count-attempt-requires-2 c κs = let a = c .before .before .before .before .before .before .before .before .before .before .before .before .before .before .before .before .before .before .before .before .before .before .before .before .before .before .before .before .before .before .before .before .before .before .before .before .before .before .before .before .before .before .before .before .before .before .before .before .before .before .before .before .before .before .before .before .before .before .before .args in let l = c .before .before .before .before .before .before .before .before .before .before .before .before .before .before .before .before .before .before .before .before .before .before .before .before .before .before .before .before .before .before .before .before .before .before .before .before .before .before .loop in let o = c .before .before .before .before .before .before .before .before .before .before .before .before .before .before .before .before .before .before .before .before .before .before .before .before .before .before .before .before .before .before .before .before .before .before .before .before .before .before .before .before .before .before .before .before .before .before .before .before .before .before .before .before .before .before .before .before .before .before .before .pre .2 in let b = c .before .before .before .before .before .before .before .before .before .before .before .before .before .before .before .before .before .before .before .before .before .before .before .before .before .before .before .before .before .before .before .before .before .before .before .before .before .before .before .before .before .before .before .before .before .before .before .before .before .numbered in let w : length (b .result .psws) ≡ 65 = search needs in let g = l .inv .0 .running (o .rows) (numbers-begin (o .rows) (a .users) (a .records) _ (b .result) (o .opens) (b .ensures) w) in let t = item-in (a .schedule .now) (l .i) (c .before .before .before .before .before .before .before .before .before .before .before .before .before .before .before .before .before .before .before .before .before .before .before .before .before .before .before .before .before .before .before .before .before .before .before .before .before .before .before .before .before .before .before .before .before .before .before .before .before .before .before .before .before .before .before .before .before .before .before .pre .1) (c .before .before .before .before .before .before .before .before .before .before .before .before .before .before .before .before .before .before .before .before .before .before .before .before .before .before .before .before .before .before .before .before .before .before .before .before .before .loop-test .taken) in let h : l .i < length (a .schedule .now) = c .before .before .before .before .before .before .before .before .before .before .before .before .before .before .before .before .before .before .before .before .before .before .before .before .before .before .before .before .before .before .before .before .before .before .before .before .before .loop-test .taken in (let p = place-le _ _ _ _ (c .before .before .before .before .before .before .before .before .settle .ensures .place) in (omega (arith, t .1), omega (arith, p), omega (arith, l .inv .0 .cells), cell-room (a .schedule .now) (l .i) _ (o .rows) _ _ _ (l .tally) _ (c .before .before .before .before .before .before .before .before .before .before .before .before .before .before .before .before .before .before .before .before .before .before .before .before .before .before .before .before .before .before .before .before .before .before .before .before .before .before .before .before .before .before .before .before .before .before .before .before .before .before .before .before .before .before .before .before .before .before .before .pre .0) g (omega (arith, t .1, p))))
+count-attempt-requires-2 c κs = let a = c .before .before .before .before .before .before .before .before .before .before .before .before .before .before .before .before .before .before .before .before .before .before .before .before .before .before .before .before .before .before .before .before .before .before .before .before .before .before .before .before .before .before .before .before .before .before .before .before .before .before .before .before .before .before .before .before .before .before .before .args in let l = c .before .before .before .before .before .before .before .before .before .before .before .before .before .before .before .before .before .before .before .before .before .before .before .before .before .before .before .before .before .before .before .before .before .before .before .before .before .before .loop in let o = c .before .before .before .before .before .before .before .before .before .before .before .before .before .before .before .before .before .before .before .before .before .before .before .before .before .before .before .before .before .before .before .before .before .before .before .before .before .before .before .before .before .before .before .before .before .before .before .before .before .before .before .before .before .before .before .before .before .before .before .pre .2 in let b = c .before .before .before .before .before .before .before .before .before .before .before .before .before .before .before .before .before .before .before .before .before .before .before .before .before .before .before .before .before .before .before .before .before .before .before .before .before .before .before .before .before .before .before .before .before .before .before .before .before .numbered in let w : length (b .result .psws) ≡ 65 = search needs in let g = l .inv .0 .running (o .rows) (numbers-begin (o .rows) (a .users) (a .records) _ (b .result) (o .opens) (b .ensures) w) in let t = item-in (a .schedule .now) (l .i) (c .before .before .before .before .before .before .before .before .before .before .before .before .before .before .before .before .before .before .before .before .before .before .before .before .before .before .before .before .before .before .before .before .before .before .before .before .before .before .before .before .before .before .before .before .before .before .before .before .before .before .before .before .before .before .before .before .before .before .before .pre .1) (c .before .before .before .before .before .before .before .before .before .before .before .before .before .before .before .before .before .before .before .before .before .before .before .before .before .before .before .before .before .before .before .before .before .before .before .before .before .loop-test .taken) in let h : l .i < length (a .schedule .now) = c .before .before .before .before .before .before .before .before .before .before .before .before .before .before .before .before .before .before .before .before .before .before .before .before .before .before .before .before .before .before .before .before .before .before .before .before .before .loop-test .taken in (let p = place-le _ _ _ _ (c .before .before .before .before .before .before .before .before .settle .ensures .place) in (omega (arith, t .1), omega (arith, p), omega (arith, l .inv .0 .cells), cell-room (a .schedule .now) (l .i) _ (o .rows) _ _ _ (l .tally) _ _ _ _ _ (c .before .before .before .before .before .before .before .before .settle .ensures .place) (c .before .before .before .before .before .before .before .before .before .before .before .before .before .before .before .before .before .before .before .before .before .before .before .before .before .before .before .before .before .before .before .before .before .before .before .before .before .before .before .before .before .before .before .before .before .before .before .before .before .before .before .before .before .before .before .before .before .before .before .pre .0) g (omega (arith, t .1))))
 
 add-i-2 : tie.Need-add-i-2 Inv-loop μ-loop
 add-i-2 c = omega (arith, c .before .before .before .before .before .before .before .before .before .before .before .before .before .before .before .before .before .before .before .before .before .before .before .before .before .before .before .before .before .before .before .before .before .before .before .before .before .before .before .before .loop-test .taken, c .before .before .before .before .before .before .before .before .before .before .before .before .before .before .before .before .before .before .before .before .before .before .before .before .before .before .before .before .before .before .before .before .before .before .before .before .before .before .before .before .before .before .before .before .before .before .before .before .before .before .before .before .before .before .before .before .before .before .before .before .before .before .pre .0)

@@ -30,10 +30,7 @@ same-length-4 : tie.Need-same-length-4
 same-length-4 c = search needs
 
 returns : tie.Need-returns
-returns c =
-    let a = c .before .before .before .before .before .before .before .before .before .before .before .before .before .before .before .before .before .before .before .before .before .before .before .before .before .before .args in
-    let r = c .before .before .before .before .before .before .before .before .before .before .before .before .before .run in
-    rw (c .answer-of .ensures, c .before .row-at .ensures) (λ s. step-by-run (a .n) _ (a .task) (r .result .rows) (r .ensures .1 .places) (a .place) s _ _ refl (r .ensures .0), r .ensures .1)
+returns c = let a = c .before .before .before .before .before .before .before .before .before .before .before .before .before .before .before .before .before .before .before .before .before .before .before .before .before .before .before .args in let r = c .before .before .before .before .before .before .before .before .before .before .before .before .before .before .run in rw (c .answer-of .ensures, c .before .row-at .ensures) (λ s. step-by-run (a .n) _ (a .task) (r .result .rows) (r .ensures .1 .places) (a .place) s _ _ refl (r .ensures .0), r .ensures .1)
 
 pub step-spec : {M : Type 1} → statement M
 step-spec =

@@ -36,7 +36,7 @@ loop-less : tie.Need-loop-less Inv-loop μ-loop
 loop-less c = omega arith
 
 loop-again : tie.Need-loop-again Inv-loop μ-loop
-loop-again c = let a = c .before .before .args in let l = c .before .loop in let f : length (a .t1) ≡ 65 = search needs in (omega arith, length-set (l .psw) (l .k) _ ∙ l .inv .1, copies (a .t1) (l .psw) (l .k) (omega arith) (omega arith) (l .inv .2))
+loop-again c = let a = c .before .before .args in let l = c .before .loop in let f : length (a .t1) ≡ 65 = search needs in (omega arith, length-set (l .psw) (l .k) _ ∙ l .inv .1, copies 0 (a .t1) (l .psw) (l .k) (omega arith) (omega arith) (l .inv .2))
 
 returns : tie.Need-returns Inv-loop μ-loop
 returns c = let a = c .before .before .args in let l = c .before .loop in let e : l .k ≡ 64 = omega arith in sym (take-all (l .k) (l .psw) (omega arith)) ∙ l .inv .2 ∙ ap (λ k. take k (a .t1)) e

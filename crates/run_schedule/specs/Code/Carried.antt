@@ -11,7 +11,7 @@ use Rattle.step.specs.State.{State, state}
 use Rattle.step.specs.Act.{tableOf}
 use Rattle.step.specs.Soundness.{sound}
 use Rattle.run.specs.declared.Counts.{Counts}
-use Rattle.run.specs.Run.{noCounts, run}
+use Rattle.run.specs.Run.{noTally, run}
 use Rattle.run_rings.specs.declared.Tasks.{Tasks}
 use Rattle.run_rings.specs.Code.Mask.{freeWord}
 use Rattle.run_rings.specs.Code.Rings.{ringCount, ringPlaces, queuesIn}
@@ -20,7 +20,7 @@ use Rattle.run_next.specs.Code.Next.{markCount}
 use Rattle.run_next.specs.Code.Settled.{Lines, lines}
 use Rattle.run_next.specs.Code.Stands.{Stands}
 use Rattle.run_next.specs.Code.Numbers.{Cells, stateFrom, Numbers}
-use Rattle.run_next.specs.Code.Tally.{tallyCells, countsIn}
+use Rattle.run_next.specs.Code.Tally.{tallyCells, tallyIn}
 use Rattle.run_next.specs.Code.Running.{Running}
 use Rattle.run_schedule.specs.declared.Carried.{Carried}
 
@@ -52,11 +52,11 @@ pub record Begins (users : Processes) (tasks : Tasks) (r : Carried) : Type 0 whe
   pub flag : r .flag ≡ users .flag
   pub free : r .free ≡ freeWord (users .queues)
   pub count : r .count ≡ users .count
-  pub tally : countsIn (r .tally) ≡ noCounts
+  pub tally : tallyIn (r .tally) ≡ noTally
 
 -- the numbers at the end, of a run from the state s
 pub record Ends (rows : List Row) (spans schedule : List ℕ) (s : State) (r : Carried) (m : Cells) : Type 0 where
-  pub ran : record { state = stateFrom rows (linesOf r) m; counts = countsIn (r .tally) } ≡ run schedule s
+  pub ran : record { state = stateFrom rows (linesOf r) m; notes = tallyIn (r .tally) } ≡ run schedule s
   pub numbers : Numbers rows spans (linesOf r) m
 
 -- the processes at the end
@@ -69,17 +69,17 @@ usersOf r = record {
   count = r .count;
 }
 
--- each count has 64 bits
+-- each count has 32 bits
 pub record Small (c : Counts) : Type 0 where
-  pub executed : c .executed < 2 ^ 64
-  pub waved : c .waved < 2 ^ 64
-  pub trapped : c .trapped < 2 ^ 64
-  pub idle : c .idle < 2 ^ 64
-  pub tries : c .tries < 2 ^ 64
+  pub executed : c .executed < 2 ^ 32
+  pub waved : c .waved < 2 ^ 32
+  pub trapped : c .trapped < 2 ^ 32
+  pub idle : c .idle < 2 ^ 32
+  pub tries : c .tries < 2 ^ 32
 
 -- what the loop over the attempts keeps: x₀ and m₀ are the numbers and memories at the start, x and m those before the next attempt
 pub record Looping (schedule : List ℕ) (i : ℕ) (spans : List ℕ) (x₀ : Lines) (m₀ : Cells) (x : Lines) (m : Cells) (tally : List ℕ) : Type 0 where
-  pub running : (rows : List Row) → Numbers rows spans x₀ m₀ → Running schedule i (stateFrom rows x₀ m₀) rows spans x m (countsIn tally)
+  pub running : (rows : List Row) → Numbers rows spans x₀ m₀ → Running schedule i (stateFrom rows x₀ m₀) rows spans x m (tallyIn tally)
   pub marks : length (x .marks) ≡ markCount
   pub pts : length (x .pts) ≡ ringPlaces
   pub heads : length (x .heads) ≡ ringCount

@@ -11,32 +11,31 @@ use Rattle.refusal.specs.declared.Refusal.the-variants.{UnsoundState, ListTooLo
 use Rattle.step.specs.Soundness.{every}
 use Rattle.run.specs.Run.{run}
 use Rattle.run.specs.Schedule.{itemSound, scheduleRefusal}
-use Rattle.library.specs.declared.RunAnswer.the-variants.{Refused, Counted}
 use Rattle.library.specs.declared.Sizes.{Sizes}
 use Rattle.library.specs.Buffers.{Buffers, fieldsIn, holding}
-use Rattle.library.specs.Calls.{unless, leaving, stateRefused, stateRefusal, orElse, runRefusal, runAnswer, runLeaves}
+use Rattle.library.specs.Calls.{refuses, answers, unless, leaving, stateRefused, stateRefusal, orElse, runRefusal, runAnswer, runLeaves}
 use Rattle.library.specs.Promises.{runAnswered, RunPromise}
 use Rattle.library.specs.Laws.Numbers.{run-promise}
 
 module _ (n : Sizes) (b : Buffers) (l : List ℕ) where
-  refuses : (e : Refusal) → runRefusal n b l ≡ some e → RunPromise n b l (Refused e) b
+  refused : (e : Refusal) → runRefusal n b l ≡ some e → RunPromise n b l (runAnswered (refuses e)) b
   unfolding runAnswered runAnswer runLeaves unless leaving
-  refuses e q = run-promise (rw q) (rw q)
+  refused e q = run-promise (rw q) (rw q)
 
-  pub unsound : stateRefused n b ≡ true → RunPromise n b l (Refused UnsoundState) b
+  pub unsound : stateRefused n b ≡ true → RunPromise n b l (runAnswered (refuses UnsoundState)) b
   unfolding runRefusal stateRefusal orElse
-  unsound e = refuses UnsoundState (rw e)
+  unsound e = refused UnsoundState (rw e)
 
-  pub too-long : stateRefused n b ≡ false → 65535 < length l → RunPromise n b l (Refused ListTooLong) b
+  pub too-long : stateRefused n b ≡ false → 65535 < length l → RunPromise n b l (runAnswered (refuses ListTooLong)) b
   unfolding runRefusal stateRefusal orElse scheduleRefusal
-  too-long e h = refuses ListTooLong (rw (e, lt-ltb 65535 (length l) h))
+  too-long e h = refused ListTooLong (rw (e, lt-ltb 65535 (length l) h))
 
-  pub out-of-range : stateRefused n b ≡ false → length l ≤ 65535 → every itemSound l ≡ false → RunPromise n b l (Refused ItemOutOfRange) b
+  pub out-of-range : stateRefused n b ≡ false → length l ≤ 65535 → every itemSound l ≡ false → RunPromise n b l (runAnswered (refuses ItemOutOfRange)) b
   unfolding runRefusal stateRefusal orElse scheduleRefusal
-  out-of-range e h i = refuses ItemOutOfRange (rw (e, le-ltb 65535 (length l) h, i))
+  out-of-range e h i = refused ItemOutOfRange (rw (e, le-ltb 65535 (length l) h, i))
 
   pub runs : stateRefused n b ≡ false → length l ≤ 65535 → every itemSound l ≡ true
-      → RunPromise n b l (Counted (run l (fieldsIn n b) .counts)) (holding (run l (fieldsIn n b) .state) b)
+      → RunPromise n b l (runAnswered (answers (run l (fieldsIn n b) .notes))) (holding (run l (fieldsIn n b) .state) b)
   unfolding runAnswered runAnswer runLeaves unless leaving runRefusal stateRefusal orElse scheduleRefusal
   runs e h i =
       let q : runRefusal n b l ≡ none = rw (e, le-ltb 65535 (length l) h, i) in

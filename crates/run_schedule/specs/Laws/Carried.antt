@@ -8,8 +8,8 @@ use mathlib.Core.List.{List, [], _∷_, _++_}
 use native.Mathlib.Numerals.{add-one}
 use native.Mathlib.Omega.{arith}
 use lib.Dec.{eqb, ltb}
-use lib.ListN.{length, getD, set, take, replicate, getD-replicate, length-set, List·getD-eq-default}
-use lib.Seq.{take-suc, take-set-le, getD-set-same}
+use lib.ListN.{length, getD, set, take, drop, replicate, getD-replicate, length-set, drop-of-length-le, List·getD-eq-default}
+use lib.Seq.{take-all, take-suc, take-set-le, getD-set-same, drop-cons}
 use borrow.Author.Tests.{leb-true, ltb-true, ltb-false}
 use Rattle.word.specs.Laws.Bools.{Eq?, same, differ, eq?}
 use Rattle.window.specs.declared.Row.{Row}
@@ -29,7 +29,8 @@ use Rattle.step.specs.Laws.Motions.{Tidy}
 use Rattle.step.specs.Laws.MemoriesKept.{memory-parts}
 use Rattle.window.specs.Sound.{tagSound, stateSound}
 use Rattle.run.specs.declared.Counts.{Counts}
-use Rattle.run.specs.Run.{noCounts, Ran, run}
+use Rattle.run.specs.Run.{noCounts, plus, summed, Tally, noTally, run}
+use Rattle.run.specs.Laws.Tallies.{plus-none, plus-grouped}
 use Rattle.run.specs.Laws.Run.{sum, run-counts, run-tries}
 use Rattle.run_rings.specs.declared.Tasks.{Tasks}
 use Rattle.run_rings.specs.Code.Mask.{freeWord}
@@ -43,8 +44,9 @@ use Rattle.run_next.specs.Code.Next.{placeAfter}
 use Rattle.run_next.specs.Code.Settled.{Lines, queuesOf, placeOf}
 use Rattle.run_next.specs.Code.Numbers.{Cells, stateFrom, Numbers}
 use Rattle.run_next.specs.Code.Stands.{Laid}
-use Rattle.run_next.specs.Code.Tally.{cellsSum, endedIn, countsIn}
+use Rattle.run_next.specs.Code.Tally.{ownIn, ownFrom, allOwn, tallyIn}
 use Rattle.run_next.specs.Code.Running.{Running}
+use Rattle.run_next.specs.Laws.Tally.{length-from, at-from}
 use Rattle.run_next.specs.Laws.Running.{ends}
 use Rattle.run_schedule.specs.declared.Carried.{Carried}
 use Rattle.run_schedule.specs.Code.Carried.{linesOf, openState, Opens, Begins, Ends, Small, usersOf}
@@ -90,26 +92,47 @@ module _ (rows : List Row) (users : Processes) (tasks : Tasks) (m : Cells) (r : 
 
 -- ---- the counts
 
-cell-in : (l : List ℕ) (i n j : ℕ) → i ≤ j → j < i + n → getD l j 0 ≤ cellsSum l i n
-unfolding cellsSum
-cell-in l i zero j a b = absurd (omega (arith, a, b))
-cell-in l i (suc n) j a b = on (eqb i j) (eq? i j) (λ k. cell-in l (suc i) n j k (omega (arith, b)))
-  where
-    on : (t : Bool) → Eq? i j t → (suc i ≤ j → getD l j 0 ≤ cellsSum l (suc i) n) → getD l j 0 ≤ getD l i 0 + cellsSum l (suc i) n
-    on true (same e) g = let q : getD l i 0 ≡ getD l j 0 = ap (λ (k : ℕ). getD l k 0) e in omega (arith, q)
-    on false (differ n) g = omega (arith, g (omega (arith, a, n)))
+-- no count of a task is above that of all
+record Within (c d : Counts) : Type 0 where
+  executed : c .executed ≤ d .executed
+  waved : c .waved ≤ d .waved
+  trapped : c .trapped ≤ d .trapped
+  idle : c .idle ≤ d .idle
+  tries : c .tries ≤ d .tries
 
--- no cell is above the counts together
-pub cell-most : (l : List ℕ) (j : ℕ) → j < 72 → getD l j 0 ≤ sum (countsIn l) + countsIn l .tries
-unfolding countsIn endedIn
-cell-most l j h = on (ltb j 8) (ltb j 16) (ltb j 24) (ltb j 32) refl refl refl refl
-  where
-    on : (a b c d : Bool) → ltb j 8 ≡ a → ltb j 16 ≡ b → ltb j 24 ≡ c → ltb j 32 ≡ d → getD l j 0 ≤ sum (countsIn l) + countsIn l .tries
-    on true b c d p q r s = omega (arith, cell-in l 0 8 j (omega arith) (omega (arith, ltb-true j 8 p)))
-    on false true c d p q r s = omega (arith, cell-in l 8 8 j (omega (arith, ltb-false j 8 p)) (omega (arith, ltb-true j 16 q)))
-    on false false true d p q r s = omega (arith, cell-in l 16 8 j (omega (arith, ltb-false j 16 q)) (omega (arith, ltb-true j 24 r)))
-    on false false false true p q r s = omega (arith, cell-in l 24 8 j (omega (arith, ltb-false j 24 r)) (omega (arith, ltb-true j 32 s)))
-    on false false false false p q r s = omega (arith, cell-in l 32 40 j (omega (arith, ltb-false j 32 s)) (omega (arith, h)))
+own-within : (l : List Counts) (t : ℕ) → Within (getD l t noCounts) (summed l)
+unfolding summed plus
+own-within [] t = record { executed = omega arith; waved = omega arith; trapped = omega arith; idle = omega arith; tries = omega arith }
+own-within (c ∷ l) zero = record { executed = omega arith; waved = omega arith; trapped = omega arith; idle = omega arith; tries = omega arith }
+own-within (c ∷ l) (suc t) =
+    let w = own-within l t in
+    record {
+      executed = omega (arith, w .executed);
+      waved = omega (arith, w .waved);
+      trapped = omega (arith, w .trapped);
+      idle = omega (arith, w .idle);
+      tries = omega (arith, w .tries);
+    }
+
+own-at : (l : List ℕ) (t : ℕ) → t < 8 → getD (allOwn l) t noCounts ≡ ownIn l t
+own-at l t h = at-from l 0 8 t h ∙ ap (ownIn l) (omega arith)
+
+own-in : (l : List ℕ) (t : ℕ) → t < 8 → Within (ownIn l t) (tallyIn l .counts)
+unfolding tallyIn
+own-in l t h = subst (λ (c : Counts). Within c (summed (allOwn l))) (own-at l t h) (own-within (allOwn l) t)
+
+-- no cell is above the counts of its task together
+cell-place : (l : List ℕ) (t : ℕ) (a : Attempt) (had : Bool) (e : Ending) → getD l (placeOf a had e + t) 0 ≤ sum (ownIn l t) + ownIn l t .tries
+unfolding placeOf placeAfter ownIn
+cell-place l t Step had Executed = omega arith
+cell-place l t Step had Waved = omega arith
+cell-place l t Step had (Trapped k p) = omega arith
+cell-place l t Try true Executed = omega arith
+cell-place l t Try false Executed = omega arith
+cell-place l t Try true Waved = omega arith
+cell-place l t Try false Waved = omega arith
+cell-place l t Try had (Trapped k p) = omega arith
+cell-place l t a had Idle = omega arith
 
 pub place-lt : (a : Attempt) (had : Bool) (e : Ending) → placeOf a had e ≤ 64
 unfolding placeOf placeAfter
@@ -123,29 +146,42 @@ place-lt Try false Waved = omega arith
 place-lt Try had (Trapped k p) = omega arith
 place-lt a had Idle = omega arith
 
--- of a whole run each has 64 bits
-pub small-counts : (l : List ℕ) (s : State) (c : Counts) → length l ≤ 65535 → c ≡ run l s .counts → Small c
-small-counts l s c h e =
-    let a : sum c ≡ length l = ap sum e ∙ run-counts l s in
-    let b : c .tries ≤ length l = subst (λ (x : Counts). x .tries ≤ length l) (sym e) (run-tries l s) in
+-- of a whole run each has 32 bits, and each of a task
+pub small-counts : (l : List ℕ) (s : State) (n : Tally) → length l ≤ 65535 → n ≡ run l s .notes → Small (n .counts)
+small-counts l s n h e =
+    let a : sum (n .counts) ≡ length l = ap (λ (x : Tally). sum (x .counts)) e ∙ run-counts l s in
+    let b : n .counts .tries ≤ length l = subst (λ (x : Tally). x .counts .tries ≤ length l) (sym e) (run-tries l s) in
     record { executed = omega (arith, a, h); waved = omega (arith, a, h); trapped = omega (arith, a, h); idle = omega (arith, a, h); tries = omega (arith, b, h) }
 
+pub small-own : (l : List ℕ) (t : ℕ) → Small (tallyIn l .counts) → t < 8 → Small (ownIn l t)
+small-own l t s h =
+    let w = own-in l t h in
+    record {
+      executed = omega (arith, w .executed, s .executed);
+      waved = omega (arith, w .waved, s .waved);
+      trapped = omega (arith, w .trapped, s .trapped);
+      idle = omega (arith, w .idle, s .idle);
+      tries = omega (arith, w .tries, s .tries);
+    }
+
 -- a cell of a count has room for one more
-pub cell-room : (l : List ℕ) (i : ℕ) (s₀ : State) (rows : List Row) (spans : List ℕ) (x : Lines) (m : Cells) (tally : List ℕ) (j : ℕ) → length l ≤ 65535
-    → Running l i s₀ rows spans x m (countsIn tally) → j < 72 → getD tally j 0 < 18446744073709551615
-cell-room l i s₀ rows spans x m tally j h g k =
-    let r = g .runs in omega (arith, cell-most tally j k, r .counts, r .within, h, tries-few (g .tried) (r .tries))
+pub cell-room : (l : List ℕ) (i : ℕ) (s₀ : State) (rows : List Row) (spans : List ℕ) (x : Lines) (m : Cells) (tally : List ℕ) (t r : ℕ) (a : Attempt) (had : Bool) (e : Ending)
+    → r ≡ placeOf a had e → length l ≤ 65535 → Running l i s₀ rows spans x m (tallyIn tally) → t < 8 → getD tally (r + t) 0 < 4294967295
+cell-room l i s₀ rows spans x m tally t p a had e q h g k =
+    let r = g .runs in
+    let w = own-in tally t k in
+    rw q (omega (arith, cell-place tally t a had e, w .executed, w .waved, w .trapped, w .idle, w .tries, r .counts, r .within, h, tries-few (g .tried) (r .tries)))
   where
-    tries-few : (b : Bool) → countsIn tally .tries ≤ i + cond b 1 0 → countsIn tally .tries ≤ i + 1
+    tries-few : (b : Bool) → tallyIn tally .counts .tries ≤ i + cond b 1 0 → tallyIn tally .counts .tries ≤ i + 1
     tries-few true q = q
     tries-few false q = omega (arith, q)
 
 -- ---- the end
 
 pub run-ends : (l : List ℕ) (i : ℕ) (s s′ : State) (rows : List Row) (spans : List ℕ) (r : Carried) (m : Cells) → length l ≤ i → s ≡ s′
-    → Running l i s rows spans (linesOf r) m (countsIn (r .tally)) → Ends rows spans l s′ r m
+    → Running l i s rows spans (linesOf r) m (tallyIn (r .tally)) → Ends rows spans l s′ r m
 run-ends l i s s′ rows spans r m h e g = record {
-  ran = ends l i s (stateFrom rows (linesOf r) m) (countsIn (r .tally)) (g .tried) h (g .runs) ∙ ap (run l) e;
+  ran = ends l i s (stateFrom rows (linesOf r) m) (tallyIn (r .tally)) (g .tried) h (g .runs) ∙ ap (run l) e;
   numbers = g .numbers;
 }
 
@@ -189,28 +225,59 @@ module _ (rows : List Row) (users : Processes) (m : Cells) (h : sound (openState
     sound = h;
   }
 
--- ---- the PSWs, copied one by one
+-- ---- a list copied one by one
 
-pub copies : (s d : List ℕ) (k : ℕ) → k < length s → k < length d → take k d ≡ take k s → take (k + 1) (set d k (getD s k 0)) ≡ take (k + 1) s
-copies s d k h l e =
+pub copies : {A : Type 0} (z : A) (s d : List A) (k : ℕ) → k < length s → k < length d → take k d ≡ take k s → take (k + 1) (set d k (getD s k z)) ≡ take (k + 1) s
+copies {A} z s d k h l e =
     rw (add-one k)
-    (take-suc (set d k (getD s k 0)) k 0 (omega (arith, l, length-set d k (getD s k 0)))
-    ∙ ap₂ {C = List ℕ} (λ a x. a ++ (x ∷ [])) (take-set-le k d k (getD s k 0) (omega arith) ∙ e) (getD-set-same d k (getD s k 0) 0 l)
-    ∙ sym (take-suc s k 0 h))
+    (take-suc (set d k (getD s k z)) k z (omega (arith, l, length-set d k (getD s k z)))
+    ∙ ap₂ {C = List A} (λ a x. a ++ (x ∷ [])) (take-set-le k d k (getD s k z) (omega arith) ∙ e) (getD-set-same d k (getD s k z) z l)
+    ∙ sym (take-suc s k z h))
 
--- ---- the sum of cells, one by one
+-- ---- the counts of all task numbers, one by one
 
-pub sums : (l : List ℕ) (i k n m : ℕ) → m + cellsSum l (i + k) (suc n) ≡ m + getD l (i + k) 0 + cellsSum l (i + (k + 1)) n
-unfolding cellsSum
-sums l i k n m = let e : suc (i + k) ≡ i + (k + 1) = omega arith in rw (← e) (omega arith)
+pub copies-own : (l : List ℕ) (d : List Counts) (t : ℕ) → t < 8 → t < length d → take t d ≡ take t (allOwn l) → take (t + 1) (set d t (ownIn l t)) ≡ take (t + 1) (allOwn l)
+copies-own l d t h k e =
+    ap (λ (c : Counts). take (t + 1) (set d t c)) (sym (own-at l t h)) ∙ copies noCounts (allOwn l) d t (omega (arith, h, length-from l 0 8)) k e
+
+pub all-copied : (l : List ℕ) (d : List Counts) (t : ℕ) → t ≡ 8 → length d ≡ 8 → take t d ≡ take t (allOwn l) → d ≡ allOwn l
+all-copied l d t q h e =
+    sym (take-all t d (omega (arith, q, h))) ∙ e ∙ take-all t (allOwn l) (omega (arith, q, length-from l 0 8))
+
+pub sums : (own : List Counts) (t : ℕ) (c : Counts) → t < length own → plus (plus c (getD own t noCounts)) (summed (drop (t + 1) own)) ≡ plus c (summed (drop t own))
+unfolding summed
+sums own t c h =
+    rw (add-one t) (sym (plus-grouped c (getD own t noCounts) (summed (drop (suc t) own))) ∙ ap (λ (l : List Counts). plus c (summed l)) (sym (drop-cons own t noCounts h)))
+
+-- nothing is left to be added
+pub nothing-last : (own : List Counts) (t : ℕ) (c : Counts) → plus c (summed (drop t own)) ≡ summed own → length own ≤ t → c ≡ summed own
+unfolding summed
+nothing-last own t c e h =
+    sym (plus-none c) ∙ ap (λ (l : List Counts). plus c (summed l)) (sym (drop-of-length-le own h)) ∙ e
+
+-- those of all task numbers, and their sum
+pub tallies : (l : List ℕ) (own : List Counts) (c : Counts) → own ≡ allOwn l → c ≡ summed own → record { counts = c; own = own } ≡ tallyIn l
+unfolding tallyIn
+tallies l own c e f = rw (f, e) refl
+
+-- a part of small counts is small
+pub small-part : (c d e : Counts) → plus c d ≡ e → Small e → Small c
+unfolding plus
+small-part c d e q s = record {
+  executed = omega (arith, ap (λ (x : Counts). x .executed) q, s .executed);
+  waved = omega (arith, ap (λ (x : Counts). x .waved) q, s .waved);
+  trapped = omega (arith, ap (λ (x : Counts). x .trapped) q, s .trapped);
+  idle = omega (arith, ap (λ (x : Counts). x .idle) q, s .idle);
+  tries = omega (arith, ap (λ (x : Counts). x .tries) q, s .tries);
+}
 
 -- ---- no next attempt yet, and nothing counted
 
 pub laid-none : (kinds : List ℕ) (qs : List Queue) → Laid 0 kinds (replicate 24 255) qs
 laid-none kinds qs = record { stands = λ t a b. absurd (omega (arith, a)); none = λ t a b. getD-replicate 24 t 255 0 (omega (arith, b)) }
 
-pub none-counted : countsIn (replicate 80 0) ≡ noCounts
-unfolding countsIn endedIn cellsSum
+pub none-counted : tallyIn (replicate 80 0) ≡ noTally
+unfolding tallyIn ownIn ownFrom summed plus
 none-counted = refl
 
 pub place-le : (r : ℕ) (a : Attempt) (had : Bool) (e : Ending) → r ≡ placeOf a had e → r ≤ 64

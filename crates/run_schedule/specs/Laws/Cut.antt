@@ -18,26 +18,24 @@ use Rattle.step.specs.Act.{tableOf}
 use Rattle.step.specs.Soundness as soundness
 use Rattle.step.specs.Soundness.{every, liveSound}
 use Rattle.step.specs.Laws.Counted.{live-counted, live-made}
-use Rattle.run.specs.declared.Counts.{Counts}
-use Rattle.run.specs.Run.{Ran, run}
+use Rattle.run.specs.Run.{Tally, Ran, run}
 use Rattle.run.specs.Laws.Run.{run-lengths}
 use Rattle.run.specs.Schedule.{itemSound}
 use Rattle.step_soundness.specs.Code.Held.{stateIn, soundIn}
-use Rattle.library.specs.declared.RunAnswer.the-variants.{Counted}
 use Rattle.library.specs.declared.Sizes.{Sizes}
 use Rattle.library.specs.declared.Rows.{Rows}
 use Rattle.library.specs.Buffers.{Buffers, fits, fieldsIn, holding}
-use Rattle.library.specs.Calls.{stateRefused}
+use Rattle.library.specs.Calls.{answers, stateRefused}
 use Rattle.library.specs.Held.{lentBuffers}
 use Rattle.library.specs.Code.HeldRows.{heldRows}
-use Rattle.library.specs.Promises.{RunPromise}
+use Rattle.library.specs.Promises.{runAnswered, RunPromise}
 use Rattle.library.specs.Laws.Places.{Fitting, fitting, over-first, over-cut, over-places, drop-later}
 use Rattle.library.specs.Laws.Held.{before, lengths, room-held, accepted, accepted-live}
 use Rattle.library.specs.Laws.Numbers.{run-promise}
 use Rattle.library_state.specs.Laws.Cut.{cut, cut-fields, cut-refused}
 use Rattle.run_rings.specs.Code.Records.{rowsIn}
 use Rattle.run_next.specs.Code.Numbers.{Cells, cells, stateFrom}
-use Rattle.run_next.specs.Code.Tally.{countsIn}
+use Rattle.run_next.specs.Code.Tally.{tallyIn}
 use Rattle.run_schedule.specs.declared.Carried.{Carried}
 use Rattle.run_rings.specs.declared.Tasks.{Tasks}
 use Rattle.run_rings.specs.Code.Laid.{noTasks, tasksLaid}
@@ -107,7 +105,7 @@ module _ (v : Rows) (table : ProcessTable) (constantTags constantWords tags word
   pub rows-beyond : (rows′ : List Row) → drop (n .rows) rows′ ≡ drop (n .rows) (v .at) → drop (v .n) rows′ ≡ drop (v .n) (v .at)
   rows-beyond rows′ d = let h : n .rows ≤ min (v .n) 7 = sizes-fit .rows in drop-later (n .rows) (v .n) (v .at) rows′ (omega (arith, h)) d
 
-  module _ (l : List ℕ) (rows′ : List Row) (table′ : ProcessTable) (c : Counts) (tags′ words′ dataTags′ dataWords′ : List ℕ) where
+  module _ (l : List ℕ) (rows′ : List Row) (table′ : ProcessTable) (tally : Tally) (tags′ words′ dataTags′ dataWords′ : List ℕ) where
     abbrev cutFrom : ProcessTable → State
     cutFrom t = stateIn rows′ (n .rows) t (memory (take (n .constants) constantTags) (take (n .constants) constantWords)) tags′ words′ (take (n .program) program) dataTags′ dataWords′
 
@@ -123,14 +121,14 @@ module _ (v : Rows) (table : ProcessTable) (constantTags constantWords tags word
     pub ran-cut : (spans : List ℕ) (r : Carried)
         → Ends (take (n .rows) (v .at)) spans l (openState (take (n .rows) (v .at)) (table .users) cutCells) r
         (cells (memory (take (n .constants) constantTags) (take (n .constants) constantWords)) (memory tags′ words′) (take (n .program) program) (memory dataTags′ dataWords′))
-        → take (n .rows) rows′ ≡ rowsIn (r .kinds) (r .stored) (take (n .rows) (v .at)) → table′ ≡ record { users = usersOf r } → c ≡ countsIn (r .tally)
-        → record { state = cutAfter; counts = c } ≡ run l given
+        → take (n .rows) rows′ ≡ rowsIn (r .kinds) (r .stored) (take (n .rows) (v .at)) → table′ ≡ record { users = usersOf r } → tally ≡ tallyIn (r .tally)
+        → record { state = cutAfter; notes = tally } ≡ run l given
     unfolding stateIn stateFrom
     ran-cut spans r e k t q =
         rw (k, t ∙ users-end (take (n .rows) (v .at)) spans r _ (e .numbers), q) (e .ran) ∙ ap (run l) open-given
 
     -- there are seven rows still
-    pub rows-left : record { state = cutAfter; counts = c } ≡ run l given → drop (n .rows) rows′ ≡ drop (n .rows) (v .at) → length rows′ ≡ 7
+    pub rows-left : record { state = cutAfter; notes = tally } ≡ run l given → drop (n .rows) rows′ ≡ drop (n .rows) (v .at) → length rows′ ≡ 7
     unfolding stateIn
     rows-left s d =
         let h : n .rows ≤ min (v .n) 7 = sizes-fit .rows in
@@ -166,11 +164,11 @@ module _ (v : Rows) (table : ProcessTable) (constantTags constantWords tags word
           )
 
       -- what the items leave of the cut slices is what a run leaves of the buffers
-      pub run-cuts : length l ≤ 65535 → every itemSound l ≡ true → record { state = cutAfter; counts = c } ≡ run l given → drop (n .rows) rows′ ≡ drop (n .rows) (v .at)
-          → RunPromise n held l (Counted c) after
+      pub run-cuts : length l ≤ 65535 → every itemSound l ≡ true → record { state = cutAfter; notes = tally } ≡ run l given → drop (n .rows) rows′ ≡ drop (n .rows) (v .at)
+          → RunPromise n held l (runAnswered (answers tally)) after
       run-cuts m i s d =
           let h : n .rows ≤ min (v .n) 7 = sizes-fit .rows in
-          let q : run l (fieldsIn n held) ≡ record { state = cutAfter; counts = c } = ap (run l) (sym (cut-fields v table constantTags constantWords tags words program dataTags dataWords n (omega (arith, h)))) ∙ sym s in
+          let q : run l (fieldsIn n held) ≡ record { state = cutAfter; notes = tally } = ap (run l) (sym (cut-fields v table constantTags constantWords tags words program dataTags dataWords n (omega (arith, h)))) ∙ sym s in
           let p = runs n held l sound m i in
-          run-promise (ap (λ (y : Ran). Counted (y .counts)) (sym q) ∙ p .answer)
+          run-promise (ap (λ (y : Ran). runAnswered (answers (y .notes))) (sym q) ∙ p .answer)
           (held-after (rows-left s d) d ∙ ap (λ (y : Ran). holding (y .state) held) (sym q) ∙ p .leaves)

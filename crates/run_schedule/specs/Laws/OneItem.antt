@@ -34,12 +34,12 @@ use Rattle.step.specs.Laws.Rows.{find-task}
 use Rattle.step.specs.Laws.Act.{change-fixed}
 use Rattle.step.specs.Laws.Step.{Attempts, idles, acts, attempts}
 use Rattle.step.specs.Laws.Sound.{found-hasRow}
-use Rattle.run.specs.Run.{noCounts, plus, countsOf, counted, Ran, runBy, run}
+use Rattle.run.specs.Run.{noCounts, plus, countsOf, counted, noTally, tallied, Ran, runBy, run}
 use Rattle.run.specs.Schedule.{itemSound, scheduleRefusal}
 use Rattle.run.specs.Laws.Run.{run-lengths}
 use Rattle.library.specs.declared.Rows.{Rows}
 use Rattle.library.specs.declared.Sizes.{Sizes}
-use Rattle.library.specs.declared.RunAnswer.{RunAnswer}
+use Rattle.library.specs.declared.RunResult.{RunResult}
 use Rattle.library.specs.declared.StepAnswer.the-variants as step-answer
 use Rattle.library.specs.Buffers.{Buffers, fieldsIn, holding}
 use Rattle.library.specs.Calls.{unless, leaving, orElse, stateRefusal, runRefusal, runAnswer, runLeaves, taskRefusal, stepRefusal, stepAnswer, stepLeaves}
@@ -151,7 +151,7 @@ module _ (a : Attempt) (t : ℕ) (s : State) where
       ]
 
 module _ (t : ℕ) (s : State) where
-  one-run : run (t ∷ []) s ≡ record { state = item t s .state; counts = counted (accountOf (item t s)) noCounts }
+  one-run : run (t ∷ []) s ≡ record { state = item t s .state; notes = tallied t (accountOf (item t s)) noTally }
   unfolding run runBy item
   one-run = refl
 
@@ -175,8 +175,8 @@ module _ (t : ℕ) (s : State) where
             attempt-records Step t (tried .state) x
             (λ e. h (sym (p .1) ∙ e) ∙ ap (λ (i : ℕ). getD (after .state .rows) i emptyRow) (sym (p .0)))
 
-    one-item : (hasRow t (s .rows) ≡ true → x ≡ getD (run (t ∷ []) s .state .rows) (placeOf t (s .rows)) emptyRow) → endingOf (run (t ∷ []) s .counts) x ≡ item t s .ending
-    unfolding run runBy item
+    one-item : (hasRow t (s .rows) ≡ true → x ≡ getD (run (t ∷ []) s .state .rows) (placeOf t (s .rows)) emptyRow) → endingOf (run (t ∷ []) s .notes .counts) x ≡ item t s .ending
+    unfolding run runBy item tallied
     one-item h = told (accountOf (item t s)) x (item-records h)
 
 -- ---- the call
@@ -199,7 +199,7 @@ module _ (n : Sizes) (b : Buffers) (t : ℕ) where
   leaves-same = go (stepRefusal n b t) refl
     where
       go : (o : Option Refusal) → stepRefusal n b t ≡ o
-          → leaving (unless (runRefusal n b (t ∷ [])) (run (t ∷ []) (fieldsIn n b) .counts)) b (holding (run (t ∷ []) (fieldsIn n b) .state) b)
+          → leaving (unless (runRefusal n b (t ∷ [])) (run (t ∷ []) (fieldsIn n b) .notes)) b (holding (run (t ∷ []) (fieldsIn n b) .state) b)
           ≡ leaving (unless (stepRefusal n b t) (item t (fieldsIn n b) .ending)) b (holding (item t (fieldsIn n b) .state) b)
       go (some e) q = rw (refusal-same, q) refl
       go none q = rw (refusal-same, q) (ap (λ (r : Ran). holding (r .state) b) (one-run t (fieldsIn n b)))
@@ -221,18 +221,18 @@ module _ (n : Sizes) (b : Buffers) (t : ℕ) where
         rw (← a, ← j, z)
         (sym (getD-take (n .rows) (take (v .n) (v .at)) i emptyRow (omega (arith, l, length-take (n .rows) (take (v .n) (v .at)))) ∙ getD-take (v .n) (v .at) i emptyRow (omega (arith, m, length-take (v .n) (v .at)))))
 
-    answer-same : heldRows v ≡ runLeaves n b (t ∷ []) .rows → answerOf (runAnswered (runAnswer n b (t ∷ []))) (rowAt (v .at) i) ≡ stepAnswered (stepAnswer n b t)
+    answer-same : heldRows v ≡ runLeaves n b (t ∷ []) .rows → answerOf (runAnswered (runAnswer n b (t ∷ [])) .answer) (rowAt (v .at) i) ≡ stepAnswered (stepAnswer n b t)
     unfolding runAnswer stepAnswer unless runAnswered stepAnswered answerOf
     answer-same h = go (stepRefusal n b t) refl
       where
         go : (o : Option Refusal) → stepRefusal n b t ≡ o
-            → answerOf (runAnswered (unless (runRefusal n b (t ∷ [])) (run (t ∷ []) (fieldsIn n b) .counts))) (rowAt (v .at) i)
+            → answerOf (runAnswered (unless (runRefusal n b (t ∷ [])) (run (t ∷ []) (fieldsIn n b) .notes)) .answer) (rowAt (v .at) i)
             ≡ stepAnswered (unless (stepRefusal n b t) (item t (fieldsIn n b) .ending))
         go (some e) q = rw (refusal-same, q) refl
         go none q = rw (refusal-same, q) (ap step-answer.Stepped (one-item t (fieldsIn n b) (rowAt (v .at) i) (row-there (refusal-same ∙ q) h)))
 
-    pub step-by-run : (r : RunAnswer) (a : Buffers) → heldRows v ≡ a .rows → RunPromise n b (t ∷ []) r a → StepPromise n b t (answerOf r (rowAt (v .at) i)) a
+    pub step-by-run : (r : RunResult) (a : Buffers) → heldRows v ≡ a .rows → RunPromise n b (t ∷ []) r a → StepPromise n b t (answerOf (r .answer) (rowAt (v .at) i)) a
     step-by-run r a h p =
         step-promise
-        (ap (λ (z : RunAnswer). answerOf z (rowAt (v .at) i)) (p .answer) ∙ answer-same (h ∙ ap (λ (z : Buffers). z .rows) (p .leaves)))
+        (ap (λ (z : RunResult). answerOf (z .answer) (rowAt (v .at) i)) (p .answer) ∙ answer-same (h ∙ ap (λ (z : Buffers). z .rows) (p .leaves)))
         (p .leaves ∙ leaves-same)

@@ -1,5 +1,6 @@
 //! A run as a JSON object on one line.
 
+use crate::runs;
 use crate::status::Failure;
 
 /// The object of a file.
@@ -18,22 +19,29 @@ pub fn object(file: &str, done: &Result<hep::Outcome, Failure>) -> String {
 
 fn accepted(outcome: &hep::Outcome) -> String {
     let state = outcome.state();
-    let tasks: Vec<String> = state.tasks.iter().map(|row| task(&state, row)).collect();
-    let hep::Counts { executed, waved, trapped, idle, tries } = outcome.counts;
-    let counts = format!(
-        "\"executed\":{executed},\"waved\":{waved},\"trapped\":{trapped},\"idle\":{idle},\"tries\":{tries},\"create_fault\":{}",
-        state.create_fault
-    );
-    format!("\"result\":\"accepted\",{counts},\"tasks\":[{}]", tasks.join(","))
+    let own = |number| task(&state, number, outcome.own(number));
+    let tasks: Vec<String> = runs::tasks(outcome, &state).map(own).collect();
+    let (counts, fault) = (counts(outcome.counts), state.create_fault);
+    format!(
+        "\"result\":\"accepted\",{counts},\"create_fault\":{fault},\"tasks\":[{}]",
+        tasks.join(",")
+    )
 }
 
-/// A task's line of the report.
-fn task(state: &hep::State, row: &hep::Task) -> String {
-    let live = state.processes_of(row.number).count();
-    let trap = row.trap.map_or("null".to_string(), |trap| {
+fn counts(counts: hep::Counts) -> String {
+    let hep::Counts { executed, waved, trapped, idle, tries } = counts;
+    format!("\"executed\":{executed},\"waved\":{waved},\"trapped\":{trapped},\"idle\":{idle},\"tries\":{tries}")
+}
+
+/// A task's line of the report; also of one that is not listed and has items, which has no line there.
+fn task(state: &hep::State, number: u8, own: hep::Counts) -> String {
+    let row = state.task(number);
+    let (listed, live) = (row.is_some(), state.processes_of(number).count());
+    let trap = row.and_then(|row| row.trap).map_or("null".to_string(), |trap| {
         format!("{{\"kind\":\"{:02X}\",\"pc\":{}}}", trap.kind, trap.psw & 0xF_FFFF)
     });
-    format!("{{\"task\":{},\"live\":{live},\"trap\":{trap}}}", row.number)
+    let own = counts(own);
+    format!("{{\"task\":{number},\"listed\":{listed},\"live\":{live},\"trap\":{trap},{own}}}")
 }
 
 fn string(text: &str) -> String {

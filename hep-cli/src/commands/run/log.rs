@@ -1,6 +1,7 @@
 //! The line of each file among several, the log of them with times, and progress on a terminal.
 
 use crate::output;
+use crate::runs;
 use crate::status::{Failure, Status};
 use std::fs::{File, OpenOptions};
 use std::io::{self, IsTerminal, Write};
@@ -8,14 +9,16 @@ use std::time::{Instant, SystemTime, UNIX_EPOCH};
 
 type Done = Result<hep::Outcome, Failure>;
 
-/// Name, `accepted` or the refusal, and the counts.
+/// Name, `accepted` or the refusal, the counts, and each task with its own.
 pub fn line(file: &str, done: &Done) -> String {
     let result = match done {
-        Ok(outcome) => format!(
-            "{}\t{}",
-            Status::Done.word(),
-            outcome.report.lines().last().unwrap_or_default()
-        ),
+        Ok(outcome) => {
+            let counts = outcome.report.lines().last().unwrap_or_default();
+            let state = outcome.state();
+            let own = |task| format!("\t{task} {}", outcome.own(task));
+            let tasks: String = runs::tasks(outcome, &state).map(own).collect();
+            format!("{}\t{counts}{tasks}", Status::Done.word())
+        }
         Err(Failure { number: Some(number), .. }) => format!("R{number}"),
         Err(failure) => failure.status.word().to_string(),
     };

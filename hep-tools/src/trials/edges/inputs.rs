@@ -2,6 +2,7 @@
 
 use super::*;
 use crate::emulator::batch::MOST_BYTES;
+use crate::emulator::machine::{NO_TRAP, PROTECTION};
 use crate::trials::printed;
 
 pub fn all(edges: &mut Edges) {
@@ -121,21 +122,20 @@ fn fullest(edges: &mut Edges) {
 
 impl Fullest {
     /// Task 1 runs through zeros, which are NOP, or traps at its first item since its program window is empty.
-    fn answer(&self, items: &[u8]) -> Answer {
+    fn answer(&self, schedule: &[u8]) -> Answer {
         let mut after = self.draft.clone();
-        let own = if after.processes.is_empty() { 0 } else { items.len().div_ceil(3) };
-        let (executed, trapped) = if self.runs { (own, 0) } else { (0, own.min(1)) };
-        let idle = items.len() - executed - trapped;
-        let mut output = String::new();
-        if let (Some(task), Some(process)) = (after.tasks.first_mut(), after.processes.first_mut())
-        {
-            process.psw = executed as u64;
-            if trapped == 1 {
-                task.kind = 0x14;
-            }
-            output += if trapped == 1 { "1 1 14 00000\n" } else { "1 1 -- -----\n" };
+        let ending = |place: usize, task: u8| match (task, place) {
+            _ if self.draft.processes.is_empty() => "I",
+            (1, _) if self.runs => "E",
+            (1, 0) => "T14",
+            _ => "I",
+        };
+        let item = |(place, &task)| Item { task, ending: ending(place, task), tried: false };
+        let items: Vec<Item> = schedule.iter().enumerate().map(item).collect();
+        for process in &mut after.processes {
+            process.psw = items.iter().filter(|item| item.ending == "E").count() as u64;
+            after.tasks[0].kind = if self.runs { NO_TRAP } else { PROTECTION };
         }
-        output += &format!("E{executed} W0 T{trapped} I{idle} S0 CF0\n");
-        Answer { output: output.into_bytes(), image: Some(after.bytes()) }
+        report::answer(&after, &items)
     }
 }

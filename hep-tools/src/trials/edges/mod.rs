@@ -7,6 +7,7 @@ mod processes;
 mod rows;
 mod sections;
 
+use super::report::{self, Item};
 use super::Trial;
 use crate::emulator::batch::Answer;
 use crate::emulator::draft::{batch_input, Draft, Process, Task};
@@ -50,7 +51,7 @@ impl Edges {
     fn input(&mut self, name: impl Into<String>, input: Vec<u8>, number: u8) {
         let expected = match number {
             0 => accepted(&input),
-            _ => Answer { output: format!("R{number}\n").into_bytes(), image: None },
+            _ => Answer::of(format!("R{number}\n").into_bytes()),
         };
         self.trials.push(Trial { name: name.into(), input, expected });
     }
@@ -73,8 +74,10 @@ impl Edges {
 
 /// The answer to an input whose steps are all idle, from its bytes by their places.
 fn accepted(input: &[u8]) -> Answer {
-    let items = usize::from(input[0]) << 8 | usize::from(input[1]);
-    let image = &input[2 + items..];
+    let count = usize::from(input[0]) << 8 | usize::from(input[1]);
+    let (items, image) = input[2..].split_at(count);
+    let idle = |&task| Item { task, ending: "I", tried: false };
+    let items: Vec<Item> = items.iter().map(idle).collect();
     let rows = usize::from(image[0]);
     let processes = &image[1 + 28 * rows..];
     let tasks: Vec<u8> = (0..usize::from(processes[0])).map(|i| processes[3 + 10 * i]).collect();
@@ -82,13 +85,15 @@ fn accepted(input: &[u8]) -> Answer {
     for row in image[1..].chunks(28).take(rows) {
         let live = tasks.iter().filter(|task| **task % 16 == row[0]).count();
         let pc = (u32::from(row[25] & 15) << 16) + (u32::from(row[26]) << 8) + u32::from(row[27]);
-        output += &match row[19] {
-            0xFF => format!("{} {live} -- -----\n", row[0]),
-            kind => format!("{} {live} {kind:02X} {pc:05X}\n", row[0]),
+        let trap = match row[19] {
+            0xFF => "-- -----".to_string(),
+            kind => format!("{kind:02X} {pc:05X}"),
         };
+        let own = items.iter().filter(|item| item.task == row[0]).count();
+        output += &format!("{} {live} {trap} E0 W0 T0 I{own} S0\n", row[0]);
     }
-    output += &format!("E0 W0 T0 I{items} S0 CF{}\n", processes[1]);
-    Answer { output: output.into_bytes(), image: Some(image.to_vec()) }
+    output += &format!("E0 W0 T0 I{count} S0 CF{}\n", processes[1]);
+    report::printed(output, image.to_vec(), &items)
 }
 
 /// One row with empty windows, changed.
