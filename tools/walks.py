@@ -886,7 +886,8 @@ class LentChanging:
         premises = [("os", "Parts r")] + list(zip(facts, told)) + [(f"n{sub(p.i)}", f"length {p.last} ≡ length {p.x}") for p in [self.rows] + changed]
         lasts = ["z₀", "r .table"] + [p.last if p.mut else "tt" for p in params[2:]]
         lengths = [f"n{sub(p.i)}" if p.mut and p.slice else "tt" for p in params]
-        exits = self.function.ends(binders, premises, answer.value(self.answered), f"r .{self.field}", law, list(items.values()), lasts, lengths, steps)
+        value, result = answer.value(self.answered), f"r .{self.field}"
+        exits = self.function.ends(binders, premises, value, result, law, list(items.values()), lasts, lengths, steps)
         w.keep(*items)
         finals = [f"(ws{sub(c + 1)} .0)"] + [f"({at(f'ws{self.n}', p.i + self.shift)})" for p in changed]
         equal = [f"n{sub(c + 1)}·0"] + [f"n{self.n}·{p.i + self.shift}" for p in changed]

@@ -175,12 +175,48 @@ imageCodec =
     seq programCodec (λ program.
     dataCodec))))))
 
--- the bytes of a row and of a process
+-- the bytes of a row, a process, a cell and a word
 abbrev pub rowLength : ℕ
 rowLength = 28
 
 abbrev pub processLength : ℕ
 processLength = 10
+
+abbrev pub cellLength : ℕ
+cellLength = 9
+
+abbrev pub wordLength : ℕ
+wordLength = 8
+
+-- the bytes of a section of n rows, processes, cells or words with its count, of w bytes where sections differ in it
+abbrev pub tasksLength : (n : ℕ) → ℕ
+tasksLength n = 1 + rowLength * n
+
+abbrev pub processesLength : (n : ℕ) → ℕ
+processesLength n = 2 + processLength * n
+
+abbrev pub cellsLength : (w n : ℕ) → ℕ
+cellsLength w n = w + cellLength * n
+
+abbrev pub wordsLength : (w n : ℕ) → ℕ
+wordsLength w n = w + wordLength * n
+
+-- where a section begins, by how many values each section before it has; the tasks begin at 0 and the processes behind them
+abbrev pub constantsBegin : (rows processes : ℕ) → ℕ
+constantsBegin rows processes = tasksLength rows + processesLength processes
+
+abbrev pub registersBegin : (rows processes constants : ℕ) → ℕ
+registersBegin rows processes constants = constantsBegin rows processes + cellsLength 2 constants
+
+abbrev pub programBegin : (rows processes constants registers : ℕ) → ℕ
+programBegin rows processes constants registers = registersBegin rows processes constants + cellsLength 2 registers
+
+abbrev pub dataBegin : (rows processes constants registers program : ℕ) → ℕ
+dataBegin rows processes constants registers program = programBegin rows processes constants registers + wordsLength 4 program
+
+-- how long the image is
+abbrev pub imageLength : (rows processes constants registers program dataWords : ℕ) → ℕ
+imageLength rows processes constants registers program dataWords = dataBegin rows processes constants registers program + cellsLength 4 dataWords
 
 -- ---- the image as a state
 

@@ -4,7 +4,7 @@ use mathlib.Core.Path.{_≡_, refl}
 use mathlib.Core.List.{List, [], _∷_, _++_, map}
 use lib.ListN.{replicate}
 use Rattle.step.specs.declared.Queue.{Queue}
-use Rattle.image.specs.Image.{decode, ptOf, processesFrom}
+use Rattle.image.specs.Image.{decode, ptOf, processesFrom, cellLength}
 use Rattle.image.specs.Trials.{numberRead}
 use Rattle.image.specs.Laws.Opened.{opened}
 
@@ -24,7 +24,7 @@ countDown (suc n) = n ∷ countDown n
 -- with these processes, n of them, and so many registers of tag 0 and word 0
 unfoldable pub ending : (kind n flag : ℕ) → (pts : List ℕ) → (registers : ℕ) → List ℕ
 ending kind n flag pts registers =
-    (1 ∷ rowOf kind) ++ ((n ∷ flag ∷ processesOf pts) ++ ((0 ∷ 0 ∷ 0 ∷ registers ∷ replicate (9 * registers) 0) ++ replicate 8 0))
+    (1 ∷ rowOf kind) ++ ((n ∷ flag ∷ processesOf pts) ++ ((0 ∷ 0 ∷ 0 ∷ registers ∷ replicate (cellLength * registers) 0) ++ replicate 8 0))
 
 -- the number that an image is refused by, 0 where it is accepted
 unfoldable pub refusedBy : List ℕ → ℕ

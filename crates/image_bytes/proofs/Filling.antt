@@ -10,7 +10,7 @@ use lib.Seq.{take-suc-set, take-all, take-at, length-take-le}
 use borrow.Rule.Slice.PartMut.{midOf, postOf, putMid, mid-len}
 use borrow.Author.Tests.{le-leb, lt-leb, eq-eqb, ne-eqb}
 use Rattle.window.specs.Memories.{memory, tagOf, wordOf}
-use Rattle.image.specs.Image.{memoryOf}
+use Rattle.image.specs.Image.{memoryOf, cellLength, wordLength}
 use Rattle.image.specs.Fields.{paired}
 use Rattle.image_bytes.specs.Code.Reading.{fieldAt, listed, wordsAt, cellFrom, cellsAt, filledWords, filledCells}
 use Rattle.image_bytes.specs.Laws.Listed.{length-listed, listed-add, map-listed}
@@ -77,13 +77,13 @@ module _ (stride : ℕ) (f : ℕ → ℕ) (long at n : ℕ) (l : List ℕ) where
 
 -- ---- what is filled, and what stays
 
-pub words-filled : (at : ℕ) (s l₀ : List ℕ) {l : List ℕ} → 8 * length l₀ ≤ length s - at → l ≡ listed 8 (λ p. fieldAt 8 p s) (length l₀) at → l ≡ filledWords at s l₀
+pub words-filled : (at : ℕ) (s l₀ : List ℕ) {l : List ℕ} → wordLength * length l₀ ≤ length s - at → l ≡ listed wordLength (λ p. fieldAt wordLength p s) (length l₀) at → l ≡ filledWords at s l₀
 unfolding filledWords wordsAt
-words-filled at s l₀ h e = rw (le-leb (8 * length l₀) (length (drop at s)) (rw length-drop h)) e
+words-filled at s l₀ h e = rw (le-leb (wordLength * length l₀) (length (drop at s)) (rw length-drop h)) e
 
-pub words-stay : (at : ℕ) (s l₀ : List ℕ) → length s - at < 8 * length l₀ → l₀ ≡ filledWords at s l₀
+pub words-stay : (at : ℕ) (s l₀ : List ℕ) → length s - at < wordLength * length l₀ → l₀ ≡ filledWords at s l₀
 unfolding filledWords
-words-stay at s l₀ h = rw (lt-leb (8 * length l₀) (length (drop at s)) (rw length-drop h))
+words-stay at s l₀ h = rw (lt-leb (wordLength * length l₀) (length (drop at s)) (rw length-drop h))
 
 module _ (at : ℕ) (s tags₀ words₀ : List ℕ) where
   pub cells-unpaired : (length tags₀ ≡ length words₀ → ⊥) → memory tags₀ words₀ ≡ filledCells at s (memory tags₀ words₀)
@@ -91,13 +91,13 @@ module _ (at : ℕ) (s tags₀ words₀ : List ℕ) where
   cells-unpaired h = rw (ne-eqb (length tags₀) (length words₀) h)
 
   module _ (same : length tags₀ ≡ length words₀) where
-    pub cells-stay : length s - at < 9 * length words₀ → memory tags₀ words₀ ≡ filledCells at s (memory tags₀ words₀)
+    pub cells-stay : length s - at < cellLength * length words₀ → memory tags₀ words₀ ≡ filledCells at s (memory tags₀ words₀)
     unfolding filledCells paired
-    cells-stay h = rw (eq-eqb (length tags₀) (length words₀) same, lt-leb (9 * length words₀) (length (drop at s)) (rw length-drop h))
+    cells-stay h = rw (eq-eqb (length tags₀) (length words₀) same, lt-leb (cellLength * length words₀) (length (drop at s)) (rw length-drop h))
 
-    pub cells-filled : {tags words : List ℕ} → 9 * length words₀ ≤ length s - at → tags ≡ listed 9 (λ p. fieldAt 1 p s) (length words₀) at
-        → words ≡ listed 9 (λ p. fieldAt 8 (p + 1) s) (length words₀) at → memory tags words ≡ filledCells at s (memory tags₀ words₀)
+    pub cells-filled : {tags words : List ℕ} → cellLength * length words₀ ≤ length s - at → tags ≡ listed cellLength (λ p. fieldAt 1 p s) (length words₀) at
+        → words ≡ listed cellLength (λ p. fieldAt wordLength (p + 1) s) (length words₀) at → memory tags words ≡ filledCells at s (memory tags₀ words₀)
     unfolding filledCells paired memoryOf cellsAt
     cells-filled h e f =
-        rw (eq-eqb (length tags₀) (length words₀) same, le-leb (9 * length words₀) (length (drop at s)) (rw length-drop h))
-        (ap₂ memory (e ∙ sym (map-listed 9 tagOf (λ p. cellFrom p s) (length words₀) at)) (f ∙ sym (map-listed 9 wordOf (λ p. cellFrom p s) (length words₀) at)))
+        rw (eq-eqb (length tags₀) (length words₀) same, le-leb (cellLength * length words₀) (length (drop at s)) (rw length-drop h))
+        (ap₂ memory (e ∙ sym (map-listed cellLength tagOf (λ p. cellFrom p s) (length words₀) at)) (f ∙ sym (map-listed cellLength wordOf (λ p. cellFrom p s) (length words₀) at)))

@@ -11,7 +11,7 @@ use borrow.Author.Tests.{eq-eqb, ne-eqb}
 use Rattle.refusal.specs.declared.Refusal.the-variants.{CellField}
 use Rattle.window.specs.Memories.{cell}
 use Rattle.image.specs.Codec.{Codec, digits, num, seq, via, encMany, noState}
-use Rattle.image.specs.Image.{wordCodec, cellCodec, cellsOf}
+use Rattle.image.specs.Image.{wordCodec, cellCodec, cellsOf, cellLength, wordLength}
 use Rattle.image.specs.Laws.Numbers.{length-digits}
 use Rattle.image_bytes.specs.Code.Writing.{laid, putAt, cellBytes, putCells}
 use Rattle.image_bytes.specs.Laws.Laid.{put-fits, put-not, laid-nil, laid-snoc, length-laid, laid-append}
@@ -75,15 +75,15 @@ module _ {A : Type 0} (c : Codec A) (size : ℕ) (long : (a : A) → length (c .
 
 -- ---- cells, each in two parts
 
-cell-laid : (at t w : ℕ) (l : List ℕ) {x : ℕ} {l₁ l₂ : List ℕ} → at + 9 ≤ length l → x ≡ t → l₁ ≡ laid at (digits 1 x) l → l₂ ≡ laid (at + 1) (digits 8 w) l₁
+cell-laid : (at t w : ℕ) (l : List ℕ) {x : ℕ} {l₁ l₂ : List ℕ} → at + cellLength ≤ length l → x ≡ t → l₁ ≡ laid at (digits 1 x) l → l₂ ≡ laid (at + 1) (digits wordLength w) l₁
     → l₂ ≡ laid at (cellCodec CellField (λ _. true) .enc (cell t w)) l
 unfolding cellCodec via seq wordCodec num
 cell-laid at t w l h ex e1 e2 =
-    let o = laid-append at (digits 1 t) (digits 8 w) l (rw length-digits (omega arith)) in
+    let o = laid-append at (digits 1 t) (digits wordLength w) l (rw length-digits (omega arith)) in
     rw (e2, e1, ex) (rw length-digits at o)
 
 abbrev pub PuttingCells : (at : ℕ) (tags words l₀ l : List ℕ) (p i : ℕ) → Type 0
-PuttingCells at tags words l₀ l p i = Putting (cellCodec CellField (λ _. true)) 9 (cell-length CellField (λ _. true)) at (cellsOf tags words) l₀ l p i
+PuttingCells at tags words l₀ l p i = Putting (cellCodec CellField (λ _. true)) cellLength (cell-length CellField (λ _. true)) at (cellsOf tags words) l₀ l p i
 
 module _ (at : ℕ) (tags words l₀ : List ℕ) where
   pub cells-unpaired : (length tags ≡ length words → ⊥) → l₀ ≡ putCells at tags words l₀
@@ -98,23 +98,23 @@ module _ (at : ℕ) (tags words l₀ : List ℕ) where
     many : length (cellsOf tags words) ≡ length words
     many = cells-length tags words same
 
-    pub cells-not : length l₀ < at + 9 * length words → l₀ ≡ putCells at tags words l₀
+    pub cells-not : length l₀ < at + cellLength * length words → l₀ ≡ putCells at tags words l₀
     cells-not h = paired (put-not at (cellBytes tags words) l₀ (rw (cell-bytes-length tags words same) h))
 
-    module _ (fit : at + 9 * length words ≤ length l₀) where
+    module _ (fit : at + cellLength * length words ≤ length l₀) where
       pub cells-start : PuttingCells at tags words l₀ l₀ at 0
-      cells-start = start (cellCodec CellField (λ _. true)) 9 (cell-length CellField (λ _. true)) at (cellsOf tags words) l₀ (rw many fit)
+      cells-start = start (cellCodec CellField (λ _. true)) cellLength (cell-length CellField (λ _. true)) at (cellsOf tags words) l₀ (rw many fit)
 
       module _ {l : List ℕ} {p i : ℕ} (z : PuttingCells at tags words l₀ l p i) where
-        pub cells-fit : i < length words → p + 9 ≤ length l₀
-        cells-fit h = fits (cellCodec CellField (λ _. true)) 9 (cell-length CellField (λ _. true)) at (cellsOf tags words) l₀ z (rw many h)
+        pub cells-fit : i < length words → p + cellLength ≤ length l₀
+        cells-fit h = fits (cellCodec CellField (λ _. true)) cellLength (cell-length CellField (λ _. true)) at (cellsOf tags words) l₀ z (rw many h)
 
         pub cells-step : {x : ℕ} {l₁ l₂ : List ℕ} → i < length words → x ≡ getD tags i 0 → l₁ ≡ laid p (digits 1 x) l
-            → l₂ ≡ laid (p + 1) (digits 8 (getD words i 0)) l₁ → PuttingCells at tags words l₀ l₂ (p + 9) (i + 1)
+            → l₂ ≡ laid (p + 1) (digits wordLength (getD words i 0)) l₁ → PuttingCells at tags words l₀ l₂ (p + cellLength) (i + 1)
         cells-step h ex e1 e2 =
-            step (cellCodec CellField (λ _. true)) 9 (cell-length CellField (λ _. true)) at (cellsOf tags words) l₀ z (rw many h) (cells-cons tags words i same h)
+            step (cellCodec CellField (λ _. true)) cellLength (cell-length CellField (λ _. true)) at (cellsOf tags words) l₀ z (rw many h) (cells-cons tags words i same h)
             (cell-laid p (getD tags i 0) (getD words i 0) l (rw (z .same) (cells-fit h)) ex e1 e2)
 
         pub cells-done : length words ≤ i → l ≡ putCells at tags words l₀
         unfolding cellBytes
-        cells-done h = paired (done (cellCodec CellField (λ _. true)) 9 (cell-length CellField (λ _. true)) at (cellsOf tags words) l₀ z (rw many h) (rw many fit))
+        cells-done h = paired (done (cellCodec CellField (λ _. true)) cellLength (cell-length CellField (λ _. true)) at (cellsOf tags words) l₀ z (rw many h) (rw many fit))

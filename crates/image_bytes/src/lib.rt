@@ -6,10 +6,12 @@ ghost use lib.ListN.{length};
 ghost use Rattle.window.specs.Memories.{memory};
 ghost use Rattle.step.specs.Soundness.{every};
 ghost use Rattle.image.specs.Codec.{num, digits, decMany, noState};
-ghost use Rattle.image.specs.Image.{wordCodec, cellCodec};
+ghost use Rattle.image.specs.Image.{wordCodec, cellCodec, cellLength, wordLength};
 ghost use Rattle.image_bytes.specs.Code.Reading.{fieldAt, numberAt, listed, tagsAt, filledWords, filledCells};
 ghost use Rattle.image_bytes.specs.Code.Writing.{laid, putAt, wordBytes, putCells};
 ghost use Rattle.image_bytes.specs.Code.Scanning.{scan, valueAt, tagTest, tagRefusal};
+use image::CELL_BYTES;
+use image::WORD_BYTES;
 use refusal::Refusal;
 
 // Whose tags they are: the qualities of constants, the tags of registers or the states of data words.
@@ -73,8 +75,8 @@ pub fn number_at(s: &[u8], at: usize, w: usize) -> u64
 
 // The word at `at`, by halves: so it becomes one load and a byte swap.
 fn get_word(s: &[u8], at: usize) -> u64
-    requires { ⌜ at + 8 ≤ length (now s) ⌝ }
-    ensures { λ r. ⌜ r ≡ fieldAt 8 at (now (s .entry)) ⌝ }
+    requires { ⌜ at + wordLength ≤ length (now s) ⌝ }
+    ensures { λ r. ⌜ r ≡ fieldAt wordLength at (now (s .entry)) ⌝ }
 {
     get(s, at, 4) * 4294967296 + get(s, at + 4, 4)
 }
@@ -84,44 +86,44 @@ pub fn fill_words(s: &[u8], at: usize, words: &mut [u64])
     ensures { λ _. ⌜ now (words .exit) ≡ filledWords at (now (s .entry)) (now (words .entry)) ⌝ }
 {
     let n = words.len();
-    if left_from(s, at) / 8 < n {
+    if left_from(s, at) / WORD_BYTES < n {
         return;
     }
     let mut p = at;
     let mut i = 0;
     while i < n {
         words[i] = get_word(s, p);
-        p += 8;
+        p += WORD_BYTES;
         i += 1;
     }
 }
 
 // Fills `tags` from the cells at `at`.
 fn fill_tags(s: &[u8], at: usize, tags: &mut [u8])
-    requires { ⌜ 9 * length (now tags) ≤ length (now s) - at ⌝ }
-    ensures { λ _. ⌜ now (tags .exit) ≡ listed 9 (λ p. fieldAt 1 p (now (s .entry))) (length (now (tags .entry))) at ⌝ }
+    requires { ⌜ cellLength * length (now tags) ≤ length (now s) - at ⌝ }
+    ensures { λ _. ⌜ now (tags .exit) ≡ listed cellLength (λ p. fieldAt 1 p (now (s .entry))) (length (now (tags .entry))) at ⌝ }
 {
     let n = tags.len();
     let mut p = at;
     let mut i = 0;
     while i < n {
         tags[i] = s[p];
-        p += 9;
+        p += CELL_BYTES;
         i += 1;
     }
 }
 
 // Fills `words` from the cells at `at`.
 fn fill_tagged_words(s: &[u8], at: usize, words: &mut [u64])
-    requires { ⌜ 9 * length (now words) ≤ length (now s) - at ⌝ }
-    ensures { λ _. ⌜ now (words .exit) ≡ listed 9 (λ p. fieldAt 8 (p + 1) (now (s .entry))) (length (now (words .entry))) at ⌝ }
+    requires { ⌜ cellLength * length (now words) ≤ length (now s) - at ⌝ }
+    ensures { λ _. ⌜ now (words .exit) ≡ listed cellLength (λ p. fieldAt wordLength (p + 1) (now (s .entry))) (length (now (words .entry))) at ⌝ }
 {
     let n = words.len();
     let mut p = at;
     let mut i = 0;
     while i < n {
         words[i] = get_word(s, p + 1);
-        p += 9;
+        p += CELL_BYTES;
         i += 1;
     }
 }
@@ -145,7 +147,7 @@ pub fn fill_cells(s: &[u8], at: usize, tags: &mut [u8], words: &mut [u64])
     if tags.len() != n {
         return;
     }
-    if left_from(s, at) / 9 < n {
+    if left_from(s, at) / CELL_BYTES < n {
         return;
     }
     let mut p = at;
@@ -155,7 +157,7 @@ pub fn fill_cells(s: &[u8], at: usize, tags: &mut [u8], words: &mut [u64])
         let end = i + k;
         fill_tags(s, p, &mut tags[i..end]);
         fill_tagged_words(s, p, &mut words[i..end]);
-        p += 9 * k;
+        p += CELL_BYTES * k;
         i = end;
     }
 }
@@ -195,14 +197,14 @@ pub fn put_words(out: &mut [u8], at: usize, words: &[u64])
     if out.len() < at {
         return;
     }
-    if (out.len() - at) / 8 < n {
+    if (out.len() - at) / WORD_BYTES < n {
         return;
     }
     let mut p = at;
     let mut i = 0;
     while i < n {
-        put(out, p, 8, words[i]);
-        p += 8;
+        put(out, p, WORD_BYTES, words[i]);
+        p += WORD_BYTES;
         i += 1;
     }
 }
@@ -219,15 +221,15 @@ pub fn put_cells(out: &mut [u8], at: usize, tags: &[u8], words: &[u64])
     if out.len() < at {
         return;
     }
-    if (out.len() - at) / 9 < n {
+    if (out.len() - at) / CELL_BYTES < n {
         return;
     }
     let mut p = at;
     let mut i = 0;
     while i < n {
         put(out, p, 1, wide(tags[i]));
-        put(out, p + 1, 8, words[i]);
-        p += 9;
+        put(out, p + 1, WORD_BYTES, words[i]);
+        p += CELL_BYTES;
         i += 1;
     }
 }
@@ -280,7 +282,7 @@ pub fn tags_ok(kind: CellKind, tags: &[u8]) -> bool
 
 // Whether the tags of n cells at `at` are sound, of which the last may not be whole.
 fn cell_tags_ok(s: &[u8], at: usize, n: usize, kind: CellKind) -> bool
-    requires { ⌜ 9 * n ≤ (length (now s) - at) + 8 ⌝ }
+    requires { ⌜ cellLength * n ≤ (length (now s) - at) + wordLength ⌝ }
     ensures { λ r. ⌜ r ≡ every (tagTest kind) (tagsAt n at (now (s .entry))) ⌝ }
 {
     let mut p = at;
@@ -288,7 +290,7 @@ fn cell_tags_ok(s: &[u8], at: usize, n: usize, kind: CellKind) -> bool
     let mut good = true;
     while 0 < k {
         good = still(good, kind, s[p]);
-        p += 9;
+        p += CELL_BYTES;
         k -= 1;
     }
     good
@@ -333,10 +335,10 @@ pub fn check_words(s: &[u8], c: Scan, n: usize) -> Scan
         return c;
     };
     let left = left_from(s, p);
-    if left / 8 < n {
+    if left / WORD_BYTES < n {
         return Scan::Refused(Refusal::InputEnds);
     }
-    Scan::At(s.len() - (left - 8 * n))
+    Scan::At(s.len() - (left - WORD_BYTES * n))
 }
 
 // n cells: refused where a tag that is there is not sound, and then where they are not all there.
@@ -347,8 +349,8 @@ pub fn check_cells(s: &[u8], c: Scan, n: usize, kind: CellKind) -> Scan
         return c;
     };
     let left = left_from(s, p);
-    if left / 9 < n {
-        if !cell_tags_ok(s, p, (left + 8) / 9, kind) {
+    if left / CELL_BYTES < n {
+        if !cell_tags_ok(s, p, (left + WORD_BYTES) / CELL_BYTES, kind) {
             return Scan::Refused(tag_refusal(kind));
         }
         return Scan::Refused(Refusal::InputEnds);
@@ -356,5 +358,5 @@ pub fn check_cells(s: &[u8], c: Scan, n: usize, kind: CellKind) -> Scan
     if !cell_tags_ok(s, p, n, kind) {
         return Scan::Refused(tag_refusal(kind));
     }
-    Scan::At(s.len() - (left - 9 * n))
+    Scan::At(s.len() - (left - CELL_BYTES * n))
 }

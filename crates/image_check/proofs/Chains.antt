@@ -8,6 +8,7 @@ use native.Mathlib.Nat.{add-zero}
 use lib.ListN.{drop}
 use lib.Seq.{drop-drop}
 use lib.Dec.{ltb}
+use Rattle.window.specs.Limits.{mostConstants, mostRegisters, mostProgram}
 use Rattle.window.specs.Sound.{bits, tagSound, stateSound, qualitySound}
 use Rattle.step.specs.Soundness.{taskSound}
 use Rattle.refusal.specs.declared.Refusal.the-variants.{TaskField, ConstantField, CellField}
@@ -58,8 +59,8 @@ process-leads before s x e f p q = rw (f, e, q, drop-drop 1 p s)
 -- the image: six sections
 pub image-scan : (s : List ℕ) {c₁ c₂ c₃ c₄ c₅ c₆ : Scan} → c₁ ≡ scan (tasksCodec .dec) s (At 0)
     → c₂ ≡ scan (processesCodec (rowsAt (fieldAt 1 0 s) s) .dec) s c₁
-    → c₃ ≡ scan (cellsCodec ConstantField qualitySound 2 4096 .dec) s c₂
-    → c₄ ≡ scan (cellsCodec CellField tagSound 2 2048 .dec) s c₃
+    → c₃ ≡ scan (cellsCodec ConstantField qualitySound 2 mostConstants .dec) s c₂
+    → c₄ ≡ scan (cellsCodec CellField tagSound 2 mostRegisters .dec) s c₃
     → c₅ ≡ scan (wordsCodec 4 1048576 .dec) s c₄
     → c₆ ≡ scan (cellsCodec CellField stateSound 4 1048576 .dec) s c₅
     → scan (imageCodec .dec) s (At 0) ≡ c₆
@@ -68,7 +69,7 @@ image-scan s {c₁} {c₂} {c₃} {c₄} e₁ e₂ e₃ e₄ e₅ e₆ =
     via-scan toImage fromImage _ s (At 0)
     ∙ seq-scan tasks-spans s (At 0) e₁ _ (rowsAt (fieldAt 1 0 s) s) (λ p q. let z : _≡_ {A = ℕ} 0 p = cc in rw (← z) (first-rows s (field 1 s)))
     ∙ then-scan (processes-spans (rowsAt (fieldAt 1 0 s) s)) s c₁ e₂ _
-    ∙ then-scan (cells-spans ConstantField qualitySound 2 4096) s c₂ e₃ _
-    ∙ then-scan (cells-spans CellField tagSound 2 2048) s c₃ e₄ _
-    ∙ then-scan (words-spans 4 (2 ^ 20)) s c₄ e₅ _
+    ∙ then-scan (cells-spans ConstantField qualitySound 2 mostConstants) s c₂ e₃ _
+    ∙ then-scan (cells-spans CellField tagSound 2 mostRegisters) s c₃ e₄ _
+    ∙ then-scan (words-spans 4 mostProgram) s c₄ e₅ _
     ∙ sym e₆

@@ -10,7 +10,7 @@ use Rattle.refusal.specs.declared.Refusal.{Refusal}
 use Rattle.refusal.specs.declared.Refusal.the-variants.{BytesLeftOver, WindowPastMemory, ProcessesClash}
 use Rattle.step.specs.Soundness.{windowsSound, distinct, totalSound}
 use Rattle.image.specs.Codec.{Result, refused, accepted}
-use Rattle.image.specs.Image.{Image, Decoded, bad, good, imageCodec, afterSections, decode, rowLength}
+use Rattle.image.specs.Image.{Image, Decoded, bad, good, imageCodec, afterSections, decode, tasksLength}
 use Rattle.image_bytes.specs.declared.Scan.the-variants.{Refused as Stopped, At}
 use Rattle.image_bytes.specs.Code.Reading.{fieldAt, cellsAt, wordsAt}
 use Rattle.image_bytes.specs.Code.Scanning.{scanned, scan}
@@ -36,7 +36,7 @@ module _ (n : Sizes) (s : List ℕ) where
   windows = windowsSound (n .registers) (n .program) (n .data_words) (rowsAt (n .rows) s)
 
   abbrev processes : Bool
-  processes = distinct (ptsAt (fieldAt 1 (1 + rowLength * n .rows) s) (1 + rowLength * n .rows + 2) s) && totalSound (fieldAt 1 (1 + rowLength * n .rows) s) (fieldAt 1 (1 + rowLength * n .rows + 1) s)
+  processes = distinct (ptsAt (fieldAt 1 (tasksLength (n .rows)) s) (tasksLength (n .rows) + 2) s) && totalSound (fieldAt 1 (tasksLength (n .rows)) s) (fieldAt 1 (tasksLength (n .rows) + 1) s)
 
   ended : afterSections (accepted (imageAt n s) []) ≡ cond (not windows) (bad WindowPastMemory) (cond (not processes) (bad ProcessesClash) (good (imageAt n s)))
   unfolding afterSections imageAt cellsAt wordsAt processesAt processAt ptsAt processesPlace

@@ -7,14 +7,16 @@ ghost use lib.ListN.{drop};
 ghost use Rattle.step.specs.Queues.{occ};
 ghost use Rattle.step.specs.Soundness.{hasRow, windowsSound, distinct, totalSound};
 ghost use Rattle.image.specs.Codec.{num, decMany, accepted};
-ghost use Rattle.image.specs.Image.{queueOfByte, byteSound, rowCodec, rowTask, tasksCodec, processCodec, queueAfter, processesCodec, wordsCodec, cellsCodec, afterSections, decode, rowLength, processLength};
+ghost use Rattle.image.specs.Image.{queueOfByte, byteSound, rowCodec, rowTask, tasksCodec, processCodec, queueAfter, processesCodec, wordsCodec, cellsCodec, afterSections, decode, processLength, tasksLength};
 ghost use Rattle.image_bytes.specs.Code.Reading.{fieldAt};
 ghost use Rattle.image_bytes.specs.Code.Scanning.{scan, Within, tagTest, tagRefusal};
 ghost use Rattle.library.specs.Calls.{checkAnswer};
 ghost use Rattle.library.specs.Promises.{readAnswered};
 ghost use Rattle.image_check.specs.Code.Places.{rowAt, rowsAt, ptsAt, trapCodec, sizesIn, imageAt};
+use image::CELL_BYTES;
 use image::PROCESS_BYTES;
 use image::ROW_BYTES;
+use image::WORD_BYTES;
 use image_bytes::CellKind;
 use image_bytes::Scan;
 use library::ReadAnswer;
@@ -308,11 +310,11 @@ fn sizes(s: &[u8]) -> Sizes
     let processes = image_bytes::number_at(s, at, 1) as usize;
     let at = at + (2 + PROCESS_BYTES * processes);
     let constants = image_bytes::number_at(s, at, 2) as usize;
-    let at = at + (2 + 9 * constants);
+    let at = at + (2 + CELL_BYTES * constants);
     let registers = image_bytes::number_at(s, at, 2) as usize;
-    let at = at + (2 + 9 * registers);
+    let at = at + (2 + CELL_BYTES * registers);
     let program = image_bytes::number_at(s, at, 4) as usize;
-    let at = at + (4 + 8 * program);
+    let at = at + (4 + WORD_BYTES * program);
     let data_words = image_bytes::number_at(s, at, 4) as usize;
     Sizes {
         rows,
@@ -326,7 +328,7 @@ fn sizes(s: &[u8]) -> Sizes
 // Whether the processes after n rows have different PTs, and aren't 64 with flag 0.
 fn processes_sound(s: &[u8], n: usize) -> bool
     requires { ⌜ n ≤ 255 ⌝ }
-    ensures { λ r. ⌜ r ≡ (distinct (ptsAt (fieldAt 1 (1 + rowLength * n) (now (s .entry))) (1 + rowLength * n + 2) (now (s .entry))) && totalSound (fieldAt 1 (1 + rowLength * n) (now (s .entry))) (fieldAt 1 (1 + rowLength * n + 1) (now (s .entry)))) ⌝ }
+    ensures { λ r. ⌜ r ≡ (distinct (ptsAt (fieldAt 1 (tasksLength n) (now (s .entry))) (tasksLength n + 2) (now (s .entry))) && totalSound (fieldAt 1 (tasksLength n) (now (s .entry))) (fieldAt 1 (tasksLength n + 1) (now (s .entry)))) ⌝ }
 {
     let at = 1 + ROW_BYTES * n;
     let m = image_bytes::number_at(s, at, 1) as usize;

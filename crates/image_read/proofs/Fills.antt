@@ -7,7 +7,7 @@ use lib.Seq.{length-take-le}
 use borrow.Author.Tests.{le-leb, eq-eqb}
 use Rattle.window.specs.declared.Cell.{Cell}
 use Rattle.window.specs.Memories.{memory}
-use Rattle.image.specs.Image.{memoryOf}
+use Rattle.image.specs.Image.{memoryOf, cellLength, wordLength}
 use Rattle.image.specs.Fields.{paired, over}
 use Rattle.image_bytes.specs.Code.Reading.{wordsAt, cellsAt, filledWords, filledCells}
 use Rattle.image_bytes.specs.Laws.Listed.{length-listed}
@@ -23,12 +23,12 @@ module _ (at n : ℕ) (s l : List ℕ) where
   cells-over f = rw (length-map, length-listed)
 
 module _ (at n : ℕ) (s : List ℕ) where
-  pub first-words : (words : List ℕ) → n ≤ length words → 8 * n ≤ length s - at → filledWords at s (take n words) ≡ wordsAt n at s
+  pub first-words : (words : List ℕ) → n ≤ length words → wordLength * n ≤ length s - at → filledWords at s (take n words) ≡ wordsAt n at s
   unfolding filledWords
-  first-words words h k = rw (length-take-le n words h, le-leb (8 * n) (length (drop at s)) (rw length-drop k))
+  first-words words h k = rw (length-take-le n words h, le-leb (wordLength * n) (length (drop at s)) (rw length-drop k))
 
-  pub first-cells : (tags words : List ℕ) → n ≤ length tags → n ≤ length words → 9 * n ≤ length s - at
+  pub first-cells : (tags words : List ℕ) → n ≤ length tags → n ≤ length words → cellLength * n ≤ length s - at
       → filledCells at s (memory (take n tags) (take n words)) ≡ memoryOf (cellsAt n at s)
   unfolding filledCells paired
   first-cells tags words g h k =
-      rw (length-take-le n tags g, length-take-le n words h, eq-eqb n n refl, le-leb (9 * n) (length (drop at s)) (rw length-drop k))
+      rw (length-take-le n tags g, length-take-le n words h, eq-eqb n n refl, le-leb (cellLength * n) (length (drop at s)) (rw length-drop k))

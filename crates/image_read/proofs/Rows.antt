@@ -12,12 +12,12 @@ use Rattle.image_bytes.specs.Code.Reading.{listed}
 use Rattle.image_bytes.specs.Laws.Listed.{length-listed}
 use Rattle.image.specs.Fields.{over}
 use Rattle.image_check.specs.Code.Places.{rowAt, rowsAt}
-use Rattle.image.specs.Image.{rowLength}
+use Rattle.image.specs.Image.{rowLength, tasksLength}
 
 -- i of n rows are in l; the next stands at p
 pub record Filling (s : List ℕ) (n : ℕ) (old l : List Row) (p i : ℕ) : Type 0 where
   pub most : i ≤ n
-  pub place : p ≡ 1 + rowLength * i
+  pub place : p ≡ tasksLength i
   pub size : length l ≡ 7
   pub all : take i l ++ (listed rowLength (λ q. rowAt q s) (n - i) p ++ drop n l) ≡ over (rowsAt n s) old
 

@@ -8,7 +8,7 @@ use Rattle.step.specs.Queues.{liveCounts, liveTotal}
 use Rattle.image.specs.Codec.{Bytes}
 use Rattle.image.specs.Laws.Accepted.{decode-accepted}
 use Rattle.image.specs.Laws.LiveCounts.{accepted-total}
-use Rattle.image.specs.Image.{queuesOf, pswTable, memoryOf, stateOf, rowLength, processLength}
+use Rattle.image.specs.Image.{queuesOf, pswTable, memoryOf, stateOf, processLength, tasksLength, constantsBegin, registersBegin, programBegin, dataBegin}
 use Rattle.image.specs.Fields.{over}
 use Rattle.image_bytes.specs.Code.Reading.{fieldAt, wordsAt, cellsAt}
 use Rattle.library.specs.declared.Sizes.{Sizes}
@@ -18,32 +18,28 @@ use Rattle.image_bytes.specs.Laws.Listed.{length-listed}
 use Rattle.image_check.specs.Laws.Found.{Found}
 use Rattle.image_check.specs.Code.Places.{processAt, processesAt, processesPlace, constantsPlace, registersPlace, programPlace, dataPlace, imageAt}
 
--- where the section of the constants stands, behind that of m processes
-abbrev pub constantsAt : (n : Sizes) (m : ℕ) → ℕ
-constantsAt n m = 1 + rowLength * n .rows + (2 + processLength * m)
-
 pub all-filled : (n : Sizes) (m : ℕ) (s : List ℕ) (rows : List Row) (t : ProcessTable) (constantTags constantWords registerTags registerWords program dataTags dataWords : List ℕ)
-    {constantTags′ constantWords′ registerTags′ registerWords′ program′ dataTags′ dataWords′ : List ℕ} → m ≡ fieldAt 1 (1 + rowLength * n .rows) s
-    → (constantTags′ ≡ over (memoryOf (cellsAt (n .constants) (constantsAt n m + 2) s) .tags) constantTags)
-    × (constantWords′ ≡ over (memoryOf (cellsAt (n .constants) (constantsAt n m + 2) s) .words) constantWords)
-    → (registerTags′ ≡ over (memoryOf (cellsAt (n .registers) (constantsAt n m + (2 + 9 * n .constants) + 2) s) .tags) registerTags)
-    × (registerWords′ ≡ over (memoryOf (cellsAt (n .registers) (constantsAt n m + (2 + 9 * n .constants) + 2) s) .words) registerWords)
-    → program′ ≡ over (wordsAt (n .program) (constantsAt n m + (2 + 9 * n .constants) + (2 + 9 * n .registers) + 4) s) program
-    → (dataTags′ ≡ over (memoryOf (cellsAt (n .data_words) (constantsAt n m + (2 + 9 * n .constants) + (2 + 9 * n .registers) + (4 + 8 * n .program) + 4) s) .tags) dataTags)
-    × (dataWords′ ≡ over (memoryOf (cellsAt (n .data_words) (constantsAt n m + (2 + 9 * n .constants) + (2 + 9 * n .registers) + (4 + 8 * n .program) + 4) s) .words) dataWords)
+    {constantTags′ constantWords′ registerTags′ registerWords′ program′ dataTags′ dataWords′ : List ℕ} → m ≡ fieldAt 1 (tasksLength (n .rows)) s
+    → (constantTags′ ≡ over (memoryOf (cellsAt (n .constants) (constantsBegin (n .rows) m + 2) s) .tags) constantTags)
+    × (constantWords′ ≡ over (memoryOf (cellsAt (n .constants) (constantsBegin (n .rows) m + 2) s) .words) constantWords)
+    → (registerTags′ ≡ over (memoryOf (cellsAt (n .registers) (registersBegin (n .rows) m (n .constants) + 2) s) .tags) registerTags)
+    × (registerWords′ ≡ over (memoryOf (cellsAt (n .registers) (registersBegin (n .rows) m (n .constants) + 2) s) .words) registerWords)
+    → program′ ≡ over (wordsAt (n .program) (programBegin (n .rows) m (n .constants) (n .registers) + 4) s) program
+    → (dataTags′ ≡ over (memoryOf (cellsAt (n .data_words) (dataBegin (n .rows) m (n .constants) (n .registers) (n .program) + 4) s) .tags) dataTags)
+    × (dataWords′ ≡ over (memoryOf (cellsAt (n .data_words) (dataBegin (n .rows) m (n .constants) (n .registers) (n .program) + 4) s) .words) dataWords)
     → lentBuffers (over (imageAt n s .rows) rows) (stateOf (imageAt n s) .table) constantTags′ constantWords′ registerTags′ registerWords′ program′ dataTags′ dataWords′
     ≡ holding (stateOf (imageAt n s)) (lentBuffers rows t constantTags constantWords registerTags registerWords program dataTags dataWords)
 unfolding holding stateOf imageAt processesPlace constantsPlace registersPlace programPlace dataPlace
 all-filled n m s rows t constantTags constantWords registerTags registerWords program dataTags dataWords e c r p d = rw (c .0, c .1, r .0, r .1, p, d .0, d .1, e)
 
 -- the table, from the section of m processes, all of which live
-pub table-read : (n : Sizes) (m : ℕ) (s : List ℕ) {t : ProcessTable} → Bytes s → Found n s → m ≡ fieldAt 1 (1 + rowLength * n .rows) s
+pub table-read : (n : Sizes) (m : ℕ) (s : List ℕ) {t : ProcessTable} → Bytes s → Found n s → m ≡ fieldAt 1 (tasksLength (n .rows)) s
     → t ≡ (record {
       users = record {
-        psw = pswTable (processesAt m (1 + rowLength * n .rows + 2) s);
-        queues = queuesOf 16 0 (processesAt m (1 + rowLength * n .rows + 2) s);
-        flag = fieldAt 1 (1 + rowLength * n .rows + 1) s;
-        live = liveCounts (queuesOf 16 0 (processesAt m (1 + rowLength * n .rows + 2) s));
+        psw = pswTable (processesAt m (tasksLength (n .rows) + 2) s);
+        queues = queuesOf 16 0 (processesAt m (tasksLength (n .rows) + 2) s);
+        flag = fieldAt 1 (tasksLength (n .rows) + 1) s;
+        live = liveCounts (queuesOf 16 0 (processesAt m (tasksLength (n .rows) + 2) s));
         count = m;
       };
     }) → t ≡ stateOf (imageAt n s) .table
@@ -51,7 +47,7 @@ unfolding stateOf imageAt processesPlace processesAt
 table-read n m s hb f e i =
     let k : liveTotal (queuesOf 16 0 (imageAt n s .processes)) ≡ m =
     accepted-total (imageAt n s) (decode-accepted s hb (imageAt n s) (f .accepts) .0) ∙ length-listed processLength (λ p. processAt p s) _ _ ∙ sym e in
-    let at = 1 + rowLength * n .rows in
+    let at = tasksLength (n .rows) in
     i
     ∙ ap₂ {C = ProcessTable}
     (λ j l. record {

@@ -8,7 +8,7 @@ ghost use Rattle.window.specs.declared.Row.{Row};
 ghost use Rattle.step.specs.declared.ProcessTable.{ProcessTable};
 ghost use Rattle.step.specs.Queues.{queueCount, liveCounts};
 ghost use Rattle.image.specs.Fields.{over};
-ghost use Rattle.image.specs.Image.{ptsOf, queueOf, queuesOf, pswTable, memoryOf, stateOf, decode, processLength};
+ghost use Rattle.image.specs.Image.{ptsOf, queueOf, queuesOf, pswTable, memoryOf, stateOf, decode, processLength, cellLength, wordLength};
 ghost use Rattle.image_bytes.specs.Code.Reading.{fieldAt, wordsAt, cellsAt};
 ghost use Rattle.library.specs.Buffers.{fits, holding};
 ghost use Rattle.library.specs.Calls.{checkAnswer};
@@ -19,8 +19,10 @@ ghost use Rattle.library.specs.declared.ReadAnswer.the-variants.{Refused, Read}
 ghost use Rattle.image_check.specs.Code.Places.{rowsAt, processesAt, imageAt};
 ghost use Rattle.image_read.specs.Code.Room.{Room};
 ghost use Rattle.window.specs.Limits.{tasks};
+use image::CELL_BYTES;
 use image::PROCESS_BYTES;
 use image::ROW_BYTES;
+use image::WORD_BYTES;
 use library::AfterRead;
 use library::ReadAnswer;
 use library::Rows;
@@ -136,7 +138,7 @@ fn table_at(image: &[u8], at: usize, m: usize) -> ProcessTable
 
 // Fills the first n of `words` from the bytes at `at`.
 fn fill_first_words(image: &[u8], at: usize, n: usize, words: &mut [u64])
-    requires { ⌜ (n ≤ length (now words)) × (8 * n ≤ length (now image) - at) ⌝ }
+    requires { ⌜ (n ≤ length (now words)) × (wordLength * n ≤ length (now image) - at) ⌝ }
     ensures { λ _. ⌜ now (words .exit) ≡ over (wordsAt n at (now (image .entry))) (now (words .entry)) ⌝ }
 {
     image_bytes::fill_words(image, at, &mut words[..n]);
@@ -144,7 +146,7 @@ fn fill_first_words(image: &[u8], at: usize, n: usize, words: &mut [u64])
 
 // Fills the first n of `tags` and of `words` from the cells at `at`.
 fn fill_first_cells(image: &[u8], at: usize, n: usize, tags: &mut [u8], words: &mut [u64])
-    requires { ⌜ ((n ≤ length (now tags)) × (n ≤ length (now words))) × (9 * n ≤ length (now image) - at) ⌝ }
+    requires { ⌜ ((n ≤ length (now tags)) × (n ≤ length (now words))) × (cellLength * n ≤ length (now image) - at) ⌝ }
     ensures { λ _. ⌜ now (tags .exit) ≡ over (memoryOf (cellsAt n at (now (image .entry))) .tags) (now (tags .entry)) ⌝ }
     ensures { λ _. ⌜ now (words .exit) ≡ over (memoryOf (cellsAt n at (now (image .entry))) .words) (now (words .entry)) ⌝ }
 {
@@ -168,9 +170,9 @@ fn fill(
     ensures { λ _. ⌜ ((rows : List Row) (t : ProcessTable) → lentBuffers (over (imageAt n (now (image .entry)) .rows) rows) (stateOf (imageAt n (now (image .entry))) .table) (now («constant_tags» .exit)) (now («constant_words» .exit)) (now («register_tags» .exit)) (now («register_words» .exit)) (now (program .exit)) (now (data_tags .exit)) (now (data_words .exit)) ≡ holding (stateOf (imageAt n (now (image .entry)))) (lentBuffers rows t (now («constant_tags» .entry)) (now («constant_words» .entry)) (now («register_tags» .entry)) (now («register_words» .entry)) (now (program .entry)) (now (data_tags .entry)) (now (data_words .entry)))) ⌝ }
 {
     let constants_at = 1 + ROW_BYTES * n.rows + (2 + PROCESS_BYTES * m);
-    let registers_at = constants_at + (2 + 9 * n.constants);
-    let program_at = registers_at + (2 + 9 * n.registers);
-    let data_at = program_at + (4 + 8 * n.program);
+    let registers_at = constants_at + (2 + CELL_BYTES * n.constants);
+    let program_at = registers_at + (2 + CELL_BYTES * n.registers);
+    let data_at = program_at + (4 + WORD_BYTES * n.program);
     fill_first_cells(
         image,
         constants_at + 2,

@@ -9,6 +9,7 @@ use lib.ListN.{length, take, drop, length-append}
 use lib.Seq.{length-take-le}
 use lib.Dec.{eqb}
 use borrow.Author.Tests.{eqb-true, leb-true, ltb-true, lt-ltb, le-ltb}
+use Rattle.window.specs.Limits.{mostConstants, mostRegisters, mostProgram, mostData}
 use Rattle.word.specs.Laws.Bools.{and-left, and-right}
 use Rattle.window.specs.Memories.{Memory}
 use Rattle.refusal.specs.declared.Refusal.the-variants.{ShortBuffer, UnsoundState}
@@ -20,7 +21,7 @@ use Rattle.step.specs.Laws.Occurrences.{length-once}
 use Rattle.step.specs.Laws.Every.{once-of, every-at}
 use Rattle.step.specs.Laws.Sound.{sound-parts}
 use Rattle.step.specs.Laws.Counted.{live-counted}
-use Rattle.image.specs.Image.{encode, rowLength, processLength}
+use Rattle.image.specs.Image.{encode, imageLength}
 use Rattle.image_bytes.specs.Code.Writing.{laid, putAt}
 use Rattle.image_bytes.specs.Laws.Laid.{put-fits}
 use Rattle.step_soundness.proofs.Seeing.{zero-of}
@@ -68,10 +69,10 @@ pts-few pts d e =
 pub record Small (n : Sizes) (t : ProcessTable) : Type 0 where
   pub rows : n .rows ≤ 7
   pub processes : length (livePts (t .users .queues)) ≤ 64
-  pub constants : n .constants ≤ 4096
-  pub registers : n .registers ≤ 2048
-  pub program : n .program ≤ 2 ^ 20
-  pub dataWords : n .data_words ≤ 2 ^ 20
+  pub constants : n .constants ≤ mostConstants
+  pub registers : n .registers ≤ mostRegisters
+  pub program : n .program ≤ mostProgram
+  pub dataWords : n .data_words ≤ mostData
 
 -- ---- a state in buffers that isn't refused
 
@@ -102,10 +103,10 @@ module _ (v : Rows) (table : ProcessTable) (constantTags constantWords registerT
       record {
         rows = omega (arith, few);
         processes = pts-few (livePts (table .users .queues)) (p .table .once) (p .table .small);
-        constants = omega (arith, z .constantWords, memory-few 4096 _ (fieldsIn n held .constants) (m .constants));
-        registers = omega (arith, z .registerWords, memory-few 2048 _ (fieldsIn n held .registers) (m .registers));
-        program = omega (arith, z .program, words-few (2 ^ 20) (take (n .program) program) (m .program));
-        dataWords = omega (arith, z .dataWords, memory-few (2 ^ 20) _ (fieldsIn n held .dataWords) (m .dataWords));
+        constants = omega (arith, z .constantWords, memory-few mostConstants _ (fieldsIn n held .constants) (m .constants));
+        registers = omega (arith, z .registerWords, memory-few mostRegisters _ (fieldsIn n held .registers) (m .registers));
+        program = omega (arith, z .program, words-few mostProgram (take (n .program) program) (m .program));
+        dataWords = omega (arith, z .dataWords, memory-few mostData _ (fieldsIn n held .dataWords) (m .dataWords));
       }
 
   -- the total that is stored is the number of the processes
@@ -136,7 +137,7 @@ module _ (v : Rows) (table : ProcessTable) (constantTags constantWords registerT
   -- how long it is
   pub image-size : (m : ℕ) → m ≡ length (livePts (table .users .queues))
       → length (encode (fieldsIn n held))
-      ≡ (1 + rowLength * n .rows) + ((2 + processLength * m) + ((2 + 9 * n .constants) + ((2 + 9 * n .registers) + ((4 + 8 * n .program) + (4 + 9 * n .data_words)))))
+      ≡ imageLength (n .rows) m (n .constants) (n .registers) (n .program) (n .data_words)
   unfolding imageBytes stateIn
   image-size m k =
       ap length bytes
@@ -153,6 +154,7 @@ module _ (v : Rows) (table : ProcessTable) (constantTags constantWords registerT
         length-take-le (n .program) program (fitted .program),
         length-take-le (n .data_words) dataWords (fitted .dataWords),
       )
+      (omega arith)
 
 -- ---- the answers
 

@@ -13,7 +13,7 @@ use Rattle.window.specs.declared.Row.{Row}
 use Rattle.step.specs.declared.Queue.{Queue}
 use Rattle.step.specs.Queues.{livePts}
 use Rattle.image.specs.Codec.{digits}
-use Rattle.image.specs.Image.{processesFrom, rowLength, processLength}
+use Rattle.image.specs.Image.{processesFrom, processLength, tasksLength, processesLength, cellsLength, wordsLength}
 use Rattle.image.specs.Laws.Numbers.{length-digits}
 use Rattle.image_bytes.specs.Code.Writing.{laid, putAt, wordBytes, cellBytes, putCells}
 use Rattle.image_bytes.specs.Laws.Bytes.{word-bytes-length, cell-bytes-length}
@@ -41,11 +41,11 @@ counted at w v body l₀ h e e₁ e₂ =
 -- ---- tasks
 
 module _ (rows : List Row) (n : ℕ) (h : n ≤ length rows) where
-  pub tasks-size : length (tasksSection (take n rows)) ≡ 1 + rowLength * n
+  pub tasks-size : length (tasksSection (take n rows)) ≡ tasksLength n
   unfolding tasksSection
   tasks-size = simp (length-append, length-digits, rows-size rows n h)
 
-  pub tasks-put : (l₀ : List ℕ) {l₁ l₂ : List ℕ} → 1 + rowLength * n ≤ length l₀ → l₁ ≡ putAt 0 (digits 1 n) l₀ → l₂ ≡ putAt 1 (rowsBytes (take n rows)) l₁
+  pub tasks-put : (l₀ : List ℕ) {l₁ l₂ : List ℕ} → tasksLength n ≤ length l₀ → l₁ ≡ putAt 0 (digits 1 n) l₀ → l₂ ≡ putAt 1 (rowsBytes (take n rows)) l₁
       → l₂ ≡ putAt 0 (tasksSection (take n rows)) l₀
   unfolding tasksSection
   tasks-put l₀ f e₁ e₂ =
@@ -61,11 +61,11 @@ module _ (psw : List ℕ) (flag : ℕ) (qs : List Queue) (m : ℕ) (h : m ≡ le
   body : length (processesBytes (processesFrom psw 0 qs)) ≡ processLength * m
   body = processes-length (processesFrom psw 0 qs) ∙ ap (λ (k : ℕ). processLength * k) count
 
-  pub processes-size : length (processesSection flag (processesFrom psw 0 qs)) ≡ 2 + processLength * m
+  pub processes-size : length (processesSection flag (processesFrom psw 0 qs)) ≡ processesLength m
   unfolding processesSection
   processes-size = simp (length-append, length-digits, body) (omega arith)
 
-  pub processes-put : (at : ℕ) (l₀ : List ℕ) {l₁ l₂ l₃ : List ℕ} → at + (2 + processLength * m) ≤ length l₀ → l₁ ≡ putAt at (digits 1 m) l₀
+  pub processes-put : (at : ℕ) (l₀ : List ℕ) {l₁ l₂ l₃ : List ℕ} → at + processesLength m ≤ length l₀ → l₁ ≡ putAt at (digits 1 m) l₀
       → l₂ ≡ putAt (at + 1) (digits 1 flag) l₁ → l₃ ≡ putAt (at + 2) (processesBytes (processesFrom psw 0 qs)) l₂
       → l₃ ≡ putAt at (processesSection flag (processesFrom psw 0 qs)) l₀
   unfolding processesSection
@@ -80,21 +80,21 @@ module _ (psw : List ℕ) (flag : ℕ) (qs : List Queue) (m : ℕ) (h : m ≡ le
 -- ---- words and cells
 
 module _ (w : ℕ) (words : List ℕ) where
-  pub words-size : length (wordsSection w words) ≡ w + 8 * length words
+  pub words-size : length (wordsSection w words) ≡ wordsLength w (length words)
   unfolding wordsSection
   words-size = simp (length-append, length-digits, word-bytes-length)
 
-  pub words-put : (at : ℕ) (l₀ : List ℕ) {l₁ l₂ : List ℕ} → at + (w + 8 * length words) ≤ length l₀ → l₁ ≡ putAt at (digits w (length words)) l₀
+  pub words-put : (at : ℕ) (l₀ : List ℕ) {l₁ l₂ : List ℕ} → at + wordsLength w (length words) ≤ length l₀ → l₁ ≡ putAt at (digits w (length words)) l₀
       → l₂ ≡ putAt (at + w) (wordBytes words) l₁ → l₂ ≡ putAt at (wordsSection w words) l₀
   unfolding wordsSection
   words-put at l₀ f e₁ e₂ = counted at w (length words) (wordBytes words) l₀ (omega (arith, word-bytes-length words)) refl e₁ e₂
 
   module _ (tags : List ℕ) (h : length tags ≡ length words) where
-    pub cells-size : length (cellsSection w tags words) ≡ w + 9 * length words
+    pub cells-size : length (cellsSection w tags words) ≡ cellsLength w (length words)
     unfolding cellsSection
     cells-size = simp (length-append, length-digits, cell-bytes-length tags words h)
 
-    pub cells-put : (at : ℕ) (l₀ : List ℕ) {l₁ l₂ : List ℕ} → at + (w + 9 * length words) ≤ length l₀ → l₁ ≡ putAt at (digits w (length words)) l₀
+    pub cells-put : (at : ℕ) (l₀ : List ℕ) {l₁ l₂ : List ℕ} → at + cellsLength w (length words) ≤ length l₀ → l₁ ≡ putAt at (digits w (length words)) l₀
         → l₂ ≡ putCells (at + w) tags words l₁ → l₂ ≡ putAt at (cellsSection w tags words) l₀
     unfolding cellsSection putCells
     cells-put at l₀ {l₁} f e₁ e₂ =

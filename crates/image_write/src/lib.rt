@@ -5,7 +5,7 @@ ghost use Prim.Native.Nat.{_+_, _*_, _^_, _≤_};
 ghost use lib.ListN.{length, take, getD};
 ghost use Rattle.window.specs.Memories.{memory};
 ghost use Rattle.step.specs.Queues.{listOf, livePts};
-ghost use Rattle.image.specs.Image.{byteOfQueue, toProcess, processesIn, processesFrom, encode, rowLength, processLength};
+ghost use Rattle.image.specs.Image.{byteOfQueue, toProcess, processesIn, processesFrom, encode, rowLength, processLength, tasksLength, processesLength, cellsLength, wordsLength, imageLength};
 ghost use Rattle.image_bytes.specs.Code.Writing.{putAt};
 ghost use Rattle.step_soundness.specs.Code.Held.{stateIn};
 ghost use Rattle.library.specs.Buffers.{fieldsIn};
@@ -16,8 +16,10 @@ ghost use Rattle.library.specs.Promises.{WritePromise};
 ghost use Rattle.image_write.specs.Code.Bytes.{rowFirst, rowSecond, rowRecord, rowBytes, processBytes, rowsBytes, processesBytes, tasksSection, processesSection, wordsSection, cellsSection, imageBytes};
 ghost use Rattle.image_write.specs.Code.Lengths.{lengthWritten};
 ghost use Rattle.window.specs.Limits.{tasks};
+use image::CELL_BYTES;
 use image::PROCESS_BYTES;
 use image::ROW_BYTES;
+use image::WORD_BYTES;
 use library::Rows;
 use library::Sizes;
 use library::WriteAnswer;
@@ -155,7 +157,7 @@ fn put_queues(output: &mut [u8], at: usize, psw: [u64; PTS], queues: [Queue; QUE
 // ---- sections, each after its count
 
 fn put_tasks(output: &mut [u8], rows: [Row; TASKS], n: usize) -> usize
-    requires { ⌜ (n ≤ tasks) × (1 + rowLength * n ≤ length (now output)) ⌝ }
+    requires { ⌜ (n ≤ tasks) × (tasksLength n ≤ length (now output)) ⌝ }
     ensures { λ r. ⌜ r ≡ length (tasksSection (take n rows)) ⌝ }
     ensures { λ _. ⌜ now (output .exit) ≡ putAt 0 (tasksSection (take n rows)) (now (output .entry)) ⌝ }
 {
@@ -165,7 +167,7 @@ fn put_tasks(output: &mut [u8], rows: [Row; TASKS], n: usize) -> usize
 
 // The table has m processes.
 fn put_processes(output: &mut [u8], at: usize, m: usize, users: Processes) -> usize
-    requires { ⌜ (m ≡ length (livePts (users .queues))) × (at + (2 + processLength * m) ≤ length (now output)) ⌝ }
+    requires { ⌜ (m ≡ length (livePts (users .queues))) × (at + processesLength m ≤ length (now output)) ⌝ }
     ensures { λ r. ⌜ r ≡ at + length (processesSection (users .flag) (processesFrom (users .psw) 0 (users .queues))) ⌝ }
     ensures { λ _. ⌜ now (output .exit) ≡ putAt at (processesSection (users .flag) (processesFrom (users .psw) 0 (users .queues))) (now (output .entry)) ⌝ }
 {
@@ -178,26 +180,26 @@ fn put_processes(output: &mut [u8], at: usize, m: usize, users: Processes) -> us
 
 // Words after a count of w bytes.
 fn put_words(output: &mut [u8], at: usize, w: usize, words: &[u64]) -> usize
-    requires { ⌜ at + (w + 8 * length (now words)) ≤ length (now output) ⌝ }
+    requires { ⌜ at + wordsLength w (length (now words)) ≤ length (now output) ⌝ }
     ensures { λ r. ⌜ r ≡ at + length (wordsSection w (now (words .entry))) ⌝ }
     ensures { λ _. ⌜ now (output .exit) ≡ putAt at (wordsSection w (now (words .entry))) (now (output .entry)) ⌝ }
 {
     let n = words.len();
     image_bytes::put_number(output, at, w, n as u64);
     image_bytes::put_words(output, at + w, words);
-    at + (w + 8 * n)
+    at + (w + WORD_BYTES * n)
 }
 
 // Cells after a count of w bytes.
 fn put_cells(output: &mut [u8], at: usize, w: usize, tags: &[u8], words: &[u64]) -> usize
-    requires { ⌜ (length (now tags) ≡ length (now words)) × (at + (w + 9 * length (now words)) ≤ length (now output)) ⌝ }
+    requires { ⌜ (length (now tags) ≡ length (now words)) × (at + cellsLength w (length (now words)) ≤ length (now output)) ⌝ }
     ensures { λ r. ⌜ r ≡ at + length (cellsSection w (now (tags .entry)) (now (words .entry))) ⌝ }
     ensures { λ _. ⌜ now (output .exit) ≡ putAt at (cellsSection w (now (tags .entry)) (now (words .entry))) (now (output .entry)) ⌝ }
 {
     let n = words.len();
     image_bytes::put_number(output, at, w, n as u64);
     image_bytes::put_cells(output, at + w, tags, words);
-    at + (w + 9 * n)
+    at + (w + CELL_BYTES * n)
 }
 
 // ---- the whole
@@ -205,12 +207,15 @@ fn put_cells(output: &mut [u8], at: usize, w: usize, tags: &[u8], words: &[u64])
 // How long the image of a state of these sizes and m processes is.
 fn size(n: Sizes, m: usize) -> usize
     requires { ⌜ (n .rows ≤ tasks) × ((m ≤ 64) × ((n .constants ≤ 4096) × ((n .registers ≤ 2048) × ((n .program ≤ 2 ^ 20) × (n .data_words ≤ 2 ^ 20))))) ⌝ }
-    ensures { λ r. ⌜ r ≡ (1 + rowLength * n .rows) + ((2 + processLength * m) + ((2 + 9 * n .constants) + ((2 + 9 * n .registers) + ((4 + 8 * n .program) + (4 + 9 * n .data_words))))) ⌝ }
+    ensures { λ r. ⌜ r ≡ imageLength (n .rows) m (n .constants) (n .registers) (n .program) (n .data_words) ⌝ }
 {
-    (1 + ROW_BYTES * n.rows)
-        + ((2 + PROCESS_BYTES * m)
-            + ((2 + 9 * n.constants)
-                + ((2 + 9 * n.registers) + ((4 + 8 * n.program) + (4 + 9 * n.data_words)))))
+    1
+        + ROW_BYTES * n.rows
+        + (2 + PROCESS_BYTES * m)
+        + (2 + CELL_BYTES * n.constants)
+        + (2 + CELL_BYTES * n.registers)
+        + (4 + WORD_BYTES * n.program)
+        + (4 + CELL_BYTES * n.data_words)
 }
 
 // The image of the first n rows, the table of m processes and the slices, each in its whole length.

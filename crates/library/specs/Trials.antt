@@ -215,7 +215,8 @@ pub record RunTrials : Type 0 where
   -- refused: nothing is touched
   pub left : runLeaves trialSizes (buffersOf exact) (2 ∷ 0 ∷ []) ≡ buffersOf exact
   -- and no task has counts
-  pub refused : runAnswered (runAnswer trialSizes (buffersOf exact) (2 ∷ 0 ∷ [])) ≡ record { answer = Refused ItemOutOfRange; own = replicate 8 noCounts }
+  pub refused : runAnswered (runAnswer trialSizes (buffersOf exact) (2 ∷ 0 ∷ []))
+      ≡ record { answer = Refused ItemOutOfRange; own = replicate 8 noCounts }
   -- the NOP of task 2, and an item of task 3, which has no row: each under its task's number
   pub ran : runAnswered (runAnswer trialSizes (buffersOf exact) (2 ∷ 3 ∷ []))
       ≡ record { answer = Counted (counts 1 0 0 1 0); own = noCounts ∷ noCounts ∷ counts 1 0 0 0 0 ∷ counts 0 0 0 1 0 ∷ replicate 4 noCounts }

@@ -145,8 +145,18 @@ unfoldable pub counted : Ran
 counted =
     let s : State = machine 1 0 0 0 in
     record {
-      state = record { rows = rowOf 5 ∷ rowOf 2 ∷ []; table = s .table; constants = s .constants; registers = s .registers; program = s .program; dataWords = s .dataWords };
-      notes = record { counts = counts 1 2 3 4 5; own = replicate 2 noCounts ++ (counts 21 22 23 24 25 ∷ noCounts ∷ noCounts ∷ counts 51 52 53 54 55 ∷ []) };
+      state = record {
+        rows = rowOf 5 ∷ rowOf 2 ∷ [];
+        table = s .table;
+        constants = s .constants;
+        registers = s .registers;
+        program = s .program;
+        dataWords = s .dataWords;
+      };
+      notes = record {
+        counts = counts 1 2 3 4 5;
+        own = replicate 2 noCounts ++ (counts 21 22 23 24 25 ∷ noCounts ∷ noCounts ∷ counts 51 52 53 54 55 ∷ []);
+      };
     }
 
 -- the starred trials, the printed case from its input bytes to its two lines, and what document 01 excludes

@@ -1,7 +1,7 @@
 -- Runs of two and three items.
 use mathlib.Core.Path.{_≡_, refl}
-use mathlib.Core.List.{[], _∷_}
-use lib.ListN.{getD}
+use mathlib.Core.List.{[], _∷_, _++_}
+use lib.ListN.{getD, replicate}
 use Rattle.operation.specs.Exclusions.{instructionWord, exclusionRow}
 use Rattle.step.specs.State.{State}
 use Rattle.step.specs.Instances.{trialQueue, noTrialQueue, besideState, trialState}
@@ -35,7 +35,7 @@ pub record ItemTrials : Type 0 where
   pub own-tries-1 : ownCounts 1 (run (1 ∷ 3 ∷ 1 ∷ []) (sfuState (rowWith noTrap 0) [] (0 ∷ 6 ∷ []) 0 0 0) .notes) ≡ counts 0 2 0 0 2
   pub own-tries-3 : ownCounts 3 (run (1 ∷ 3 ∷ 1 ∷ []) (sfuState (rowWith noTrap 0) [] (0 ∷ 6 ∷ []) 0 0 0) .notes) ≡ counts 0 0 0 1 0
   -- task 7 is the last: eight places, of which the first stays empty
-  pub own-all : run (7 ∷ 1 ∷ 7 ∷ []) counting .notes .own ≡ noCounts ∷ counts 1 0 0 0 0 ∷ noCounts ∷ noCounts ∷ noCounts ∷ noCounts ∷ noCounts ∷ counts 0 0 0 2 0 ∷ []
+  pub own-all : run (7 ∷ 1 ∷ 7 ∷ []) counting .notes .own ≡ noCounts ∷ counts 1 0 0 0 0 ∷ (replicate 5 noCounts ++ (counts 0 0 0 2 0 ∷ []))
   pub own-past : ownCounts 8 (run (1 ∷ []) counting .notes) ≡ noCounts
   pub sums : summed (counts 1 2 3 4 5 ∷ counts 10 20 30 40 50 ∷ counts 100 200 300 400 500 ∷ []) ≡ counts 111 222 333 444 555
 

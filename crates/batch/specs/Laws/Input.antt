@@ -6,10 +6,11 @@ use native.Mathlib.Omega.{arith}
 use lib.ListN.{length, take, drop, length-drop}
 use lib.Seq.{take-all, drop-drop}
 use borrow.Author.Tests.{lt-ltb, le-ltb, le-leb}
+use Rattle.run.specs.Schedule.{mostItems}
 use Rattle.refusal.specs.declared.Refusal.the-variants.{InputEnds, InputTooLong}
 use Rattle.image.specs.Codec.{Result, refused, accepted, bind, number, field, num, count, via, decMany, section, noHeader, listSection, noState, uniformSection}
 use Rattle.image.specs.Image.{decode}
-use Rattle.report.specs.Report.{refusalLine, itemCodec, scheduleCodec, outputRead, outputScheduled, outputOf}
+use Rattle.report.specs.Report.{mostInput, refusalLine, itemCodec, scheduleCodec, outputRead, outputScheduled, outputOf}
 
 -- ---- items: one byte each
 
@@ -35,10 +36,10 @@ items-short (suc n) (x ∷ b) h = rw (item-read x b, items-short n b (omega arit
 -- ---- the schedule
 
 module _ (s : List ℕ) where
-  schedule-of : (x : Result (List ℕ)) → 2 ≤ length s → field 2 s ≤ 65535 → itemsFrom (field 2 s) (drop 2 s) ≡ x → scheduleCodec .dec s ≡ x
+  schedule-of : (x : Result (List ℕ)) → 2 ≤ length s → field 2 s ≤ mostItems → itemsFrom (field 2 s) (drop 2 s) ≡ x → scheduleCodec .dec s ≡ x
   unfolding scheduleCodec uniformSection listSection via section noHeader count num bind
-  schedule-of (refused e) h k i = rw (le-ltb (length s) 2 h, le-leb (field 2 s) 65535 k, i)
-  schedule-of (accepted l r) h k i = rw (le-ltb (length s) 2 h, le-leb (field 2 s) 65535 k, i)
+  schedule-of (refused e) h k i = rw (le-ltb (length s) 2 h, le-leb (field 2 s) mostItems k, i)
+  schedule-of (accepted l r) h k i = rw (le-ltb (length s) 2 h, le-leb (field 2 s) mostItems k, i)
 
   no-count : length s < 2 → scheduleCodec .dec s ≡ refused InputEnds
   unfolding scheduleCodec uniformSection listSection via section count num bind
@@ -46,25 +47,25 @@ module _ (s : List ℕ) where
 
   -- ---- the output
 
-  pub input-too-long : 65536 < length s → outputOf s ≡ refusalLine InputTooLong
+  pub input-too-long : mostInput < length s → outputOf s ≡ refusalLine InputTooLong
   unfolding outputOf
-  input-too-long h = rw (lt-ltb 65536 (length s) h)
+  input-too-long h = rw (lt-ltb mostInput (length s) h)
 
-  output-scheduled : (x : Result (List ℕ)) → length s ≤ 65536 → scheduleCodec .dec s ≡ x → outputOf s ≡ outputScheduled x
+  output-scheduled : (x : Result (List ℕ)) → length s ≤ mostInput → scheduleCodec .dec s ≡ x → outputOf s ≡ outputScheduled x
   unfolding outputOf
-  output-scheduled x h e = rw (le-ltb 65536 (length s) h, e)
+  output-scheduled x h e = rw (le-ltb mostInput (length s) h, e)
 
-  pub count-missing : length s ≤ 65536 → length s < 2 → outputOf s ≡ refusalLine InputEnds
+  pub count-missing : length s ≤ mostInput → length s < 2 → outputOf s ≡ refusalLine InputEnds
   unfolding outputScheduled
   count-missing h k = output-scheduled (refused InputEnds) h (no-count k)
 
-  pub items-missing : length s ≤ 65536 → 2 ≤ length s → field 2 s ≤ 65535 → length s - 2 < field 2 s → outputOf s ≡ refusalLine InputEnds
+  pub items-missing : length s ≤ mostInput → 2 ≤ length s → field 2 s ≤ mostItems → length s - 2 < field 2 s → outputOf s ≡ refusalLine InputEnds
   unfolding outputScheduled
   items-missing h k f m =
       output-scheduled (refused InputEnds) h (schedule-of _ k f (items-short (field 2 s) (drop 2 s) (omega (arith, length-drop 2 s))))
 
   -- the items, and the image behind them
-  pub schedule-whole : (n : ℕ) → n ≡ field 2 s → length s ≤ 65536 → 2 ≤ length s → n ≤ 65535 → n ≤ length s - 2
+  pub schedule-whole : (n : ℕ) → n ≡ field 2 s → length s ≤ mostInput → 2 ≤ length s → n ≤ mostItems → n ≤ length s - 2
       → outputRead (take (2 + n - 2) (drop 2 s)) (decode (take (length s - (2 + n)) (drop (2 + n) s))) ≡ outputOf s
   unfolding outputScheduled
   schedule-whole n e h k f m =

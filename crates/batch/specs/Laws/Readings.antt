@@ -26,7 +26,7 @@ use Rattle.library.specs.Laws.InPlace.{held-by-read, read-sized}
 use Rattle.library.specs.declared.ReadAnswer.{ReadAnswer}
 use Rattle.library.specs.declared.ReadAnswer.the-variants.{Refused, Read}
 use Rattle.library.specs.Promises.{readAnswered, ReadPromise}
-use Rattle.report.specs.Report.{refusalLine, outputRun, outputRead}
+use Rattle.report.specs.Report.{mostInput, refusalLine, outputRun, outputRead}
 use Rattle.batch.specs.Output.{runText}
 use Rattle.batch.specs.Laws.Room.{room-kept}
 
@@ -42,7 +42,7 @@ pub record Roomy (b : Buffers) : Type 0 where
   pub dataWords : length (b .dataWords) ≡ 8192
 
 -- each value of these sections has 8 or 9 bytes
-few-fit : (z : Sizes) (s : List ℕ) (b : Buffers) → Found z s → length s ≤ 65536 → Roomy b → fits z (roomOf b) ≡ true
+few-fit : (z : Sizes) (s : List ℕ) (b : Buffers) → Found z s → length s ≤ mostInput → Roomy b → fits z (roomOf b) ≡ true
 unfolding fits roomOf endPlace dataPlace programPlace registersPlace constantsPlace processesPlace
 few-fit z s b f h r =
     let e = f .ends in
@@ -59,7 +59,7 @@ unfolding runText outputRun
 text-of-image l none i = refl
 text-of-image l (some e) i = refl
 
-module _ (s : List ℕ) (short : length s ≤ 65536) where
+module _ (s : List ℕ) (short : length s ≤ mostInput) where
   room-enough : (i : Image) (b : Buffers) → decode s ≡ good i → Roomy b → fits (sizesOf (stateOf i)) (roomOf b) ≡ true
   room-enough i b d w = few-fit (sizesOf (stateOf i)) s b (found-image s i d) short w
 

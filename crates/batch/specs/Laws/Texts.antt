@@ -28,7 +28,8 @@ unfolding runAnswered unless runText
 refused-text none r e h = let z : _≡_ {A = ℕ} 0 1 = cc in absurd (omega arith)
 refused-text (some d) r e h = let q : d ≡ e = cc in rw q
 
-counted-text : (x : Option Refusal) (r : Ran) (s : State) (c : Counts) → runAnswered (unless x (r .notes)) .answer ≡ Counted c → (x ≡ none → s ≡ r .state)
+counted-text : (x : Option Refusal) (r : Ran) (s : State) (c : Counts) → runAnswered (unless x (r .notes)) .answer ≡ Counted c
+    → (x ≡ none → s ≡ r .state)
     → rowLines (s .table) (tally c (runAnswered (unless x (r .notes)) .own)) (s .rows) ++ countsLine c (s .table .users .flag) ≡ runText x r
 unfolding runAnswered unless runText reportOf
 counted-text none r s c h l = let q : r .notes .counts ≡ c = cc in rw (l refl, ← q)
@@ -42,10 +43,12 @@ module _ (n : Sizes) (b b′ : Buffers) (l : List ℕ) (a : RunResult) (runs : R
 
   -- a run that none stops, from what it answers and leaves
   pub run-counted : (c : Counts) → a .answer ≡ Counted c
-      → rowLines (b′ .table) (tally c (a .own)) (take (n .rows) (b′ .rows)) ++ countsLine c (b′ .table .users .flag) ≡ runText (runRefusal n b l) (run l (fieldsIn n b))
+      → rowLines (b′ .table) (tally c (a .own)) (take (n .rows) (b′ .rows)) ++ countsLine c (b′ .table .users .flag)
+      ≡ runText (runRefusal n b l) (run l (fieldsIn n b))
   unfolding runAnswer fieldsIn
   run-counted c q =
-      ap (λ (x : RunResult). rowLines (b′ .table) (tally c (x .own)) (take (n .rows) (b′ .rows)) ++ countsLine c (b′ .table .users .flag)) (runs .answer)
+      ap (λ (x : RunResult). rowLines (b′ .table) (tally c (x .own)) (take (n .rows) (b′ .rows)) ++ countsLine c (b′ .table .users .flag))
+      (runs .answer)
       ∙ counted-text (runRefusal n b l) (run l (fieldsIn n b)) (fieldsIn n b′) c (ap (λ (x : RunResult). x .answer) (sym (runs .answer)) ∙ q)
       (λ e. ap (fieldsIn n) (runs .leaves) ∙ run-in-place n b l e)
 

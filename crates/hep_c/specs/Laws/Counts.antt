@@ -28,11 +28,13 @@ module _ (xs ys start now last : List ℕ) (a : ℕ) (is : now ≡ over xs start
   none-behind = let h : length (drop a now) ≤ length now - a = omega (arith, length-drop a now) in drop-of-length-le (drop a now) h
 
   -- ys go to the front of what lies behind xs
-  pub put-behind : last ≡ over ys (take (length now - a) (drop a now)) → take a now ++ (last ++ drop (length now - a) (drop a now)) ≡ over (xs ++ ys) start
+  pub put-behind : last ≡ over ys (take (length now - a) (drop a now))
+      → take a now ++ (last ++ drop (length now - a) (drop a now)) ≡ over (xs ++ ys) start
   put-behind e =
       let front : take a now ≡ xs = ap (take a) is ∙ take-at xs (drop (length xs) start) a long in
       let back : last ++ drop (length now - a) (drop a now) ≡ ys ++ drop (a + length ys) start =
-      ap (λ (l : List ℕ). last ++ l) none-behind ∙ append-nil last ∙ e ∙ ap (over ys) rest-is ∙ ap (λ (l : List ℕ). ys ++ l) (drop-drop (length ys) a start) in
+      ap (λ (l : List ℕ). last ++ l) none-behind ∙ append-nil last ∙ e ∙ ap (over ys) rest-is
+      ∙ ap (λ (l : List ℕ). ys ++ l) (drop-drop (length ys) a start) in
       let whole : a + length ys ≡ length (xs ++ ys) = omega (arith, length-append xs ys, long) in
       ap (λ (l : List ℕ). l ++ (last ++ drop (length now - a) (drop a now))) front
       ∙ ap (λ (l : List ℕ). xs ++ l) back
@@ -64,10 +66,14 @@ module _ (own : List Counts) (start : List ℕ) where
 
   module _ (now : List ℕ) (i : ℕ) (g : Listing own start now i) where
     few : length (ownListed (take i (drop 1 own))) ≡ i * countKinds
-    few = length-own (take i (drop 1 own)) ∙ ap (λ (n : ℕ). n * countKinds) (length-take-le i (drop 1 own) (omega (arith, length-drop 1 own, g .listed)))
+    few =
+        length-own (take i (drop 1 own))
+        ∙ ap (λ (n : ℕ). n * countKinds) (length-take-le i (drop 1 own) (omega (arith, length-drop 1 own, g .listed)))
 
     pub kept-length : length now ≡ length start
-    kept-length = let x = ownListed (take i (drop 1 own)) in omega (arith, ap length (g .is), length-append x (drop (length x) start), length-drop (length x) start, few, g .listed, g .room)
+    kept-length =
+        let x = ownListed (take i (drop 1 own)) in
+        omega (arith, ap length (g .is), length-append x (drop (length x) start), length-drop (length x) start, few, g .listed, g .room)
 
     pub goes : (c d : Counts) (last : List ℕ) → suc i < length own → getD own (i + 1) d ≡ c
         → last ≡ over (kindsListed c) (take (length now - i * countKinds) (drop (i * countKinds) now))
@@ -78,12 +84,14 @@ module _ (own : List Counts) (start : List ℕ) where
         let more : take (i + 1) (drop 1 own) ≡ take i (drop 1 own) ++ (c ∷ []) =
         rw add-one (take-suc (drop 1 own) i d (omega (arith, length-drop 1 own)) ∙ ap (λ (x : Counts). take i (drop 1 own) ++ (x ∷ [])) at) in
         let own-more : ownListed (take (i + 1) (drop 1 own)) ≡ ownListed (take i (drop 1 own)) ++ kindsListed c =
-        ap ownListed more ∙ own-append (take i (drop 1 own)) (c ∷ []) ∙ ap (λ (l : List ℕ). ownListed (take i (drop 1 own)) ++ l) (append-nil (kindsListed c)) in
+        ap ownListed more ∙ own-append (take i (drop 1 own)) (c ∷ [])
+        ∙ ap (λ (l : List ℕ). ownListed (take i (drop 1 own)) ++ l) (append-nil (kindsListed c)) in
         record {
           listed = omega (arith, h);
           room = g .room;
           is =
-              put-behind (ownListed (take i (drop 1 own))) (kindsListed c) start now last (i * countKinds) (g .is) few (omega (arith, kept-length, g .room, g .listed)) p
+              put-behind (ownListed (take i (drop 1 own))) (kindsListed c) start now last (i * countKinds) (g .is) few
+              (omega (arith, kept-length, g .room, g .listed)) p
               ∙ ap (λ (l : List ℕ). over l start) (sym own-more);
         }
 
@@ -98,7 +106,8 @@ behind a now last = take a now ++ (last ++ drop (length now - a) (drop a now))
 
 pub all-listed : (n : Tally) (image report : ℕ) (start now last own : List ℕ) → now ≡ over (kindsListed (n .counts)) start
     → last ≡ over (image ∷ report ∷ []) (take (length now - countKinds) (drop countKinds now))
-    → own ≡ over (ownListed (drop 1 (n .own))) (take (length (behind countKinds now last) - runNumbers) (drop runNumbers (behind countKinds now last)))
+    → own ≡ over (ownListed (drop 1 (n .own)))
+    (take (length (behind countKinds now last) - runNumbers) (drop runNumbers (behind countKinds now last)))
     → behind runNumbers (behind countKinds now last) own ≡ over (countsListed n image report) start
 unfolding countsListed kindsListed
 all-listed n image report start now last own e f g =

@@ -11,7 +11,7 @@ use Rattle.refusal.specs.declared.Refusal.the-variants.{ShortBuffer, ListTooLon
 use Rattle.refusal.specs.Numbers.{numberOf}
 use Rattle.step.specs.Soundness.{every}
 use Rattle.step.specs.Laws.Rows.{none-some}
-use Rattle.run.specs.Schedule.{itemSound, scheduleRefusal}
+use Rattle.run.specs.Schedule.{mostItems, itemSound, scheduleRefusal}
 use Rattle.library.specs.declared.Sizes.{Sizes}
 use Rattle.library.specs.Buffers.{Room, fits}
 use Rattle.library.specs.Calls.{orElse}
@@ -22,17 +22,17 @@ use Rattle.report_text.specs.Texts.{reportRoom}
 -- ---- a schedule
 
 module _ (schedule : List ℕ) where
-  pub too-long : 65535 < length schedule → numberOf ListTooLong ≡ numbered (scheduleRefusal schedule)
+  pub too-long : mostItems < length schedule → numberOf ListTooLong ≡ numbered (scheduleRefusal schedule)
   unfolding scheduleRefusal numbered
-  too-long h = rw (lt-ltb 65535 (length schedule) h)
+  too-long h = rw (lt-ltb mostItems (length schedule) h)
 
-  pub out-of-range : length schedule ≤ 65535 → every itemSound schedule ≡ false → numberOf ItemOutOfRange ≡ numbered (scheduleRefusal schedule)
+  pub out-of-range : length schedule ≤ mostItems → every itemSound schedule ≡ false → numberOf ItemOutOfRange ≡ numbered (scheduleRefusal schedule)
   unfolding scheduleRefusal numbered
-  out-of-range h e = rw (le-ltb 65535 (length schedule) h, e)
+  out-of-range h e = rw (le-ltb mostItems (length schedule) h, e)
 
-  pub schedule-fine : length schedule ≤ 65535 → every itemSound schedule ≡ true → 0 ≡ numbered (scheduleRefusal schedule)
+  pub schedule-fine : length schedule ≤ mostItems → every itemSound schedule ≡ true → 0 ≡ numbered (scheduleRefusal schedule)
   unfolding scheduleRefusal numbered
-  schedule-fine h e = rw (le-ltb 65535 (length schedule) h, e)
+  schedule-fine h e = rw (le-ltb mostItems (length schedule) h, e)
 
 -- ---- lengths
 

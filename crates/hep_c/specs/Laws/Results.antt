@@ -81,13 +81,17 @@ module _ (image schedule : List ℕ) (i : Image) (n : Sizes) (bytes : Bytes imag
     rows-are = ap (λ (s : State). s .rows) (fields₂ image schedule i n bytes d sizes buffers₀ buffers₁ buffers₂ fit₀ (taken .schedule-taken) x reads y runs)
 
     -- the report of the state after the run
-    pub report-is : (c : Counts) → c ≡ countsAnswered (y .answer) → rowLines t₂ (tally c (y .own)) (take (n .rows) rows₂) ++ countsLine c (t₂ .users .flag) ≡ reportOf ran
+    pub report-is : (c : Counts) → c ≡ countsAnswered (y .answer)
+        → rowLines t₂ (tally c (y .own)) (take (n .rows) rows₂) ++ countsLine c (t₂ .users .flag) ≡ reportOf ran
     unfolding reportOf
-    report-is c e = rw (e, table-is, rows-are) (ap (λ (n : Tally). rowLines (ran .state .table) n (ran .state .rows) ++ countsLine (n .counts) (ran .state .table .users .flag)) tally-is)
+    report-is c e =
+        rw (e, table-is, rows-are)
+        (ap (λ (x : Tally). rowLines (ran .state .table) x (ran .state .rows) ++ countsLine (x .counts) (ran .state .table .users .flag)) tally-is)
 
     module _ (w : WriteAnswer) (output₂ : List ℕ) (writes : WritePromise n buffers₂ w output output₂)
         (c : Counts) (c-is : c ≡ countsAnswered (y .answer)) (k : ℕ) (k-is : k ≡ lengthWritten w)
-        (m : ℕ) (report₂ : List ℕ) (text : TextPromise (rowLines t₂ (tally c (y .own)) (take (n .rows) rows₂) ++ countsLine c (t₂ .users .flag)) report m report₂)
+        (m : ℕ) (report₂ : List ℕ)
+        (text : TextPromise (rowLines t₂ (tally c (y .own)) (take (n .rows) rows₂) ++ countsLine c (t₂ .users .flag)) report m report₂)
         (counts₂ : List ℕ) (put : counts₂ ≡ over (countsListed (tally c (y .own)) k m) counts) where
       reported : (m ≡ length (reportOf ran)) × (report₂ ≡ over (reportOf ran) report)
       reported = rw (← report-is c c-is) (put-whole _ report m report₂ text (taken .report-fits))

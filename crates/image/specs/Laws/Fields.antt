@@ -7,6 +7,7 @@ use native.Mathlib.Omega.{arith}
 use lib.ListN.{length, getD, length-map, length-append}
 use lib.Dec.{eqb, eqb·suc-zero}
 use borrow.Author.Tests.{eqb-true, le-leb}
+use Rattle.window.specs.Limits.{mostConstants, mostRegisters}
 use Rattle.window.specs.declared.Row.{Row}
 use Rattle.window.specs.Memories.{Memory, memory, wordOf}
 use Rattle.word.specs.Laws.Bools.{or-right, and-left}
@@ -149,8 +150,8 @@ shape-of s e =
       sixteen = p .table .sixteen;
       full = queues-parts s e .0;
       counted = p .table .counted;
-      constants = paired-of 4096 qualitySound (s .constants) (p .memories .constants);
-      registers = paired-of 2048 tagSound (s .registers) (p .memories .registers);
+      constants = paired-of mostConstants qualitySound (s .constants) (p .memories .constants);
+      registers = paired-of mostRegisters tagSound (s .registers) (p .memories .registers);
       dataWords = paired-of _ stateSound (s .dataWords) (p .memories .dataWords);
     }
 
@@ -194,8 +195,8 @@ sound-accepted s e =
           tasks = queues-parts s e .1;
           psws = ap (every pswSound) (psws-from psw 0 qs) ∙ p .table .psws;
         };
-        constants = ap (memorySound 4096 qualitySound) (constants-same s h) ∙ p .memories .constants;
-        registers = ap (memorySound 2048 tagSound) (registers-same s h) ∙ p .memories .registers;
+        constants = ap (memorySound mostConstants qualitySound) (constants-same s h) ∙ p .memories .constants;
+        registers = ap (memorySound mostRegisters tagSound) (registers-same s h) ∙ p .memories .registers;
         program = p .memories .program;
         dataWords = ap (memorySound _ stateSound) (dataWords-same s h) ∙ p .memories .dataWords;
       };
@@ -227,8 +228,8 @@ accepted-sound s h a =
         counted = h .counted;
       };
       memories = record {
-        constants = ap (memorySound 4096 qualitySound) (sym (constants-same s h)) ∙ i .constants;
-        registers = ap (memorySound 2048 tagSound) (sym (registers-same s h)) ∙ i .registers;
+        constants = ap (memorySound mostConstants qualitySound) (sym (constants-same s h)) ∙ i .constants;
+        registers = ap (memorySound mostRegisters tagSound) (sym (registers-same s h)) ∙ i .registers;
         program = i .program;
         dataWords = ap (memorySound _ stateSound) (sym (dataWords-same s h)) ∙ i .dataWords;
       };

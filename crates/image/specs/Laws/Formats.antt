@@ -3,6 +3,7 @@ use Prim.Native.Nat.{ℕ, _^_}
 use mathlib.Core.Path.{refl}
 use mathlib.Core.Bool.{Bool, true}
 use mathlib.Core.List.{List}
+use Rattle.window.specs.Limits.{mostConstants, mostRegisters, mostProgram, mostData}
 use Rattle.word.specs.Fields.{pswSound}
 use Rattle.window.specs.declared.Row.{Row}
 use Rattle.window.specs.Sound.{bits, qualitySound, tagSound, stateSound}
@@ -65,7 +66,7 @@ image-lawful =
     via-lawful toImage fromImage (λ x. refl) (λ x. refl)
     (seq-lawful tasks-lawful
     (λ rows. seq-lawful (processes-lawful rows)
-    (λ _. seq-lawful (cells-lawful _ qualitySound 2 4096)
-    (λ _. seq-lawful (cells-lawful _ tagSound 2 2048)
-    (λ _. seq-lawful (words-lawful 4 (2 ^ 20))
-    (λ _. cells-lawful _ stateSound 4 (2 ^ 20)))))))
+    (λ _. seq-lawful (cells-lawful _ qualitySound 2 mostConstants)
+    (λ _. seq-lawful (cells-lawful _ tagSound 2 mostRegisters)
+    (λ _. seq-lawful (words-lawful 4 mostProgram)
+    (λ _. cells-lawful _ stateSound 4 mostData))))))

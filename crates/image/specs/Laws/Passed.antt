@@ -7,6 +7,7 @@ use native.Mathlib.Omega.{arith}
 use lib.ListN.{length, length-map}
 use lib.Dec.{eqb, leb, ltb}
 use borrow.Author.Tests.{eqb-true, eq-eqb, leb-true, le-leb, ltb-true, lt-ltb}
+use Rattle.window.specs.Limits.{mostConstants, mostRegisters, mostProgram, mostData}
 use Rattle.word.specs.Fields.{pswSound}
 use Rattle.window.specs.declared.Row.{Row}
 use Rattle.window.specs.declared.Cell.{Cell}
@@ -242,22 +243,22 @@ module _ (rows : List Row) where
 pub record PassedImage (i : Image) : Type 0 where
   pub rows : rowsSound 0 (i .rows) ≡ true
   pub processes : PassedAll (i .rows) (i .flag) (i .processes)
-  pub constants : memorySound 4096 qualitySound (memoryOf (i .constants)) ≡ true
-  pub registers : memorySound 2048 tagSound (memoryOf (i .registers)) ≡ true
-  pub program : wordsSound (2 ^ 20) (i .program) ≡ true
-  pub dataWords : memorySound (2 ^ 20) stateSound (memoryOf (i .dataWords)) ≡ true
+  pub constants : memorySound mostConstants qualitySound (memoryOf (i .constants)) ≡ true
+  pub registers : memorySound mostRegisters tagSound (memoryOf (i .registers)) ≡ true
+  pub program : wordsSound mostProgram (i .program) ≡ true
+  pub dataWords : memorySound mostData stateSound (memoryOf (i .dataWords)) ≡ true
 
-constants-ok : (l : List Cell) → cellsCodec ConstantField qualitySound 2 4096 .ok l ≡ memorySound 4096 qualitySound (memoryOf l)
-constants-ok = cells-ok ConstantField qualitySound quality-fits 2 4096 (omega arith)
+constants-ok : (l : List Cell) → cellsCodec ConstantField qualitySound 2 mostConstants .ok l ≡ memorySound mostConstants qualitySound (memoryOf l)
+constants-ok = cells-ok ConstantField qualitySound quality-fits 2 mostConstants (omega arith)
 
-registers-ok : (l : List Cell) → cellsCodec CellField tagSound 2 2048 .ok l ≡ memorySound 2048 tagSound (memoryOf l)
-registers-ok = cells-ok CellField tagSound tag-fits 2 2048 (omega arith)
+registers-ok : (l : List Cell) → cellsCodec CellField tagSound 2 mostRegisters .ok l ≡ memorySound mostRegisters tagSound (memoryOf l)
+registers-ok = cells-ok CellField tagSound tag-fits 2 mostRegisters (omega arith)
 
-program-ok : (l : List ℕ) → wordsCodec 4 (2 ^ 20) .ok l ≡ wordsSound (2 ^ 20) l
-program-ok = words-ok 4 (2 ^ 20) (omega arith)
+program-ok : (l : List ℕ) → wordsCodec 4 mostProgram .ok l ≡ wordsSound mostProgram l
+program-ok = words-ok 4 mostProgram (omega arith)
 
-dataWords-ok : (l : List Cell) → cellsCodec CellField stateSound 4 (2 ^ 20) .ok l ≡ memorySound (2 ^ 20) stateSound (memoryOf l)
-dataWords-ok = cells-ok CellField stateSound state-fits 4 (2 ^ 20) (omega arith)
+dataWords-ok : (l : List Cell) → cellsCodec CellField stateSound 4 mostData .ok l ≡ memorySound mostData stateSound (memoryOf l)
+dataWords-ok = cells-ok CellField stateSound state-fits 4 mostData (omega arith)
 
 pub image-passes : (i : Image) → imageCodec .ok i ≡ true → PassedImage i
 unfolding imageCodec via seq

@@ -4,6 +4,7 @@ use Prim.Native.Nat.{_+_, _-_, _*_, _≤_}
 use mathlib.Core.Bool.{_&&_}
 use mathlib.Core.Path.{_≡_, refl, sym, _∙_}
 use lib.ListN.{length}
+use Rattle.image.specs.Image.{cellLength, wordLength}
 use Rattle.step.specs.Soundness.{every}
 use Rattle.image_bytes.specs.Code.Reading.{tagsAt}
 use Rattle.image_bytes.specs.Code.Scanning.{tagTest}
@@ -14,7 +15,7 @@ use Rattle.image_bytes.proofs.cell_tags_ok.Statement.{statement}
 use Rattle.image_bytes.proofs.cell_tags_ok.Tie as tie
 
 abbrev Inv-loop : tie.InvT-loop
-Inv-loop s at n kind p₀ k₀ good₀ p k good = (9 * k ≤ (length s - p) + 8) × ((good && every (tagTest kind) (tagsAt k p s)) ≡ every
+Inv-loop s at n kind p₀ k₀ good₀ p k good = (cellLength * k ≤ (length s - p) + wordLength) × ((good && every (tagTest kind) (tagsAt k p s)) ≡ every
     (tagTest kind) (tagsAt n at s))
 
 abbrev μ-loop : tie.MeasureT-loop

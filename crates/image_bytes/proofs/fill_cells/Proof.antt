@@ -3,6 +3,7 @@
 use Prim.Native.Nat.{_+_, _-_, _*_, _≤_}
 use mathlib.Core.Path.{refl, sym, _∙_}
 use lib.ListN.{length}
+use Rattle.image.specs.Image.{cellLength, wordLength}
 use Rattle.image_bytes.specs.Code.Reading.{fieldAt}
 use Rattle.image_bytes.proofs.Filling.{Filling, start, steps, done, cells-unpaired, cells-stay, cells-filled}
 use borrow.Author.Needs.{needs}
@@ -11,7 +12,7 @@ use Rattle.image_bytes.proofs.fill_cells.Statement.{statement}
 use Rattle.image_bytes.proofs.fill_cells.Tie as tie
 
 abbrev Inv-loop : tie.InvT-loop
-Inv-loop s at tags₀ words₀ n p₀ i₀ tags words p i = Filling 9 (λ p. fieldAt 1 p s) (length s) at n tags p i × Filling 9 (λ p. fieldAt 8 (p + 1) s)
+Inv-loop s at tags₀ words₀ n p₀ i₀ tags words p i = Filling cellLength (λ p. fieldAt 1 p s) (length s) at n tags p i × Filling cellLength (λ p. fieldAt wordLength (p + 1) s)
     (length s) at n words p i
 
 abbrev μ-loop : tie.MeasureT-loop
@@ -37,7 +38,7 @@ loop-holds c =
     let args = c .before .before .before .before .before .before .args in
     let left-from = c .before .left-from in
     let if1 = c .before .before .if1 in
-    let h : 9 * length (args .words .now) ≤ length (args .s .now) - args .at = omega (arith, left-from .ensures, c .if2 .left) in
+    let h : cellLength * length (args .words .now) ≤ length (args .s .now) - args .at = omega (arith, left-from .ensures, c .if2 .left) in
     (start _ _ _ _ _ _ h (if1 .left), start _ _ _ _ _ _ h refl)
 
 sub-block : tie.Need-sub-block Inv-loop μ-loop
@@ -106,7 +107,7 @@ returns-3 c =
     let if2 = c .before .before .if2 in
     let if1 = c .before .before .before .before .if1 in
     let loop = c .before .loop in
-    let h : 9 * length (a .words .now) ≤ length (a .s .now) - a .at = omega (arith, left-from .ensures, if2 .left) in
+    let h : cellLength * length (a .words .now) ≤ length (a .s .now) - a .at = omega (arith, left-from .ensures, if2 .left) in
     cells-filled (a .at) (a .s .now) (a .tags .now) (a .words .now) (if1 .left) h (done _ _ _ _ _ _ _ _ (loop .inv .0) (c .loop-test .left))
     (done _ _ _ _ _ _ _ _ (loop .inv .1) (c .loop-test .left))
 

@@ -3,6 +3,7 @@
 use Prim.Native.Nat.{_+_, _-_}
 use mathlib.Core.Path.{refl}
 use lib.ListN.{length}
+use Rattle.image.specs.Image.{cellLength, wordLength}
 use Rattle.image_bytes.specs.Code.Reading.{fieldAt}
 use Rattle.image_bytes.proofs.Filling.{Filling, start, fits, step, done}
 use borrow.Author.Needs.{needs}
@@ -11,7 +12,7 @@ use Rattle.image_bytes.proofs.fill_tagged_words.Statement.{statement}
 use Rattle.image_bytes.proofs.fill_tagged_words.Tie as tie
 
 abbrev Inv-loop : tie.InvT-loop
-Inv-loop s at words₀ n p₀ i₀ words p i = Filling 9 (λ p. fieldAt 8 (p + 1) s) (length s) at n words p i
+Inv-loop s at words₀ n p₀ i₀ words p i = Filling cellLength (λ p. fieldAt wordLength (p + 1) s) (length s) at n words p i
 
 abbrev μ-loop : tie.MeasureT-loop
 μ-loop s at words₀ n p₀ i₀ words p i = n - i

@@ -3,6 +3,7 @@
 use Prim.Native.Nat.{_-_}
 use mathlib.Core.Path.{refl, sym}
 use lib.ListN.{length}
+use Rattle.image.specs.Image.{cellLength}
 use Rattle.image_bytes.specs.Code.Reading.{fieldAt}
 use Rattle.image_bytes.specs.Laws.Fields.{byte-at}
 use Rattle.image_bytes.proofs.Filling.{Filling, start, fits, step, done}
@@ -12,7 +13,7 @@ use Rattle.image_bytes.proofs.fill_tags.Statement.{statement}
 use Rattle.image_bytes.proofs.fill_tags.Tie as tie
 
 abbrev Inv-loop : tie.InvT-loop
-Inv-loop s at tags₀ n p₀ i₀ tags p i = Filling 9 (λ p. fieldAt 1 p s) (length s) at n tags p i
+Inv-loop s at tags₀ n p₀ i₀ tags p i = Filling cellLength (λ p. fieldAt 1 p s) (length s) at n tags p i
 
 abbrev μ-loop : tie.MeasureT-loop
 μ-loop s at tags₀ n p₀ i₀ tags p i = n - i

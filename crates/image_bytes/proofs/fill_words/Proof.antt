@@ -3,6 +3,7 @@
 use Prim.Native.Nat.{_-_, _*_, _≤_}
 use mathlib.Core.Path.{refl}
 use lib.ListN.{length}
+use Rattle.image.specs.Image.{wordLength}
 use Rattle.image_bytes.specs.Code.Reading.{fieldAt}
 use Rattle.image_bytes.proofs.Filling.{Filling, start, fits, step, done, words-filled, words-stay}
 use borrow.Author.Needs.{needs}
@@ -11,7 +12,7 @@ use Rattle.image_bytes.proofs.fill_words.Statement.{statement}
 use Rattle.image_bytes.proofs.fill_words.Tie as tie
 
 abbrev Inv-loop : tie.InvT-loop
-Inv-loop s at words₀ n p₀ i₀ words p i = Filling 8 (λ p. fieldAt 8 p s) (length s) at n words p i
+Inv-loop s at words₀ n p₀ i₀ words p i = Filling wordLength (λ p. fieldAt wordLength p s) (length s) at n words p i
 
 abbrev μ-loop : tie.MeasureT-loop
 μ-loop s at words₀ n p₀ i₀ words p i = n - i
@@ -58,7 +59,7 @@ returns-2 c =
     let left-from = c .before .before .before .left-from in
     let if1 = c .before .before .if1 in
     let loop = c .before .loop in
-    let h : 8 * length (a .words .now) ≤ length (a .s .now) - a .at = omega (arith, left-from .ensures, if1 .left) in
+    let h : wordLength * length (a .words .now) ≤ length (a .s .now) - a .at = omega (arith, left-from .ensures, if1 .left) in
     words-filled (a .at) (a .s .now) (a .words .now) h (done _ _ _ _ _ _ _ _ (loop .inv) (c .loop-test .left))
 
 pub fill-words-spec : {M : Type 1} → statement M

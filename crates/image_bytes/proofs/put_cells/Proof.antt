@@ -2,6 +2,7 @@
 -- `image_bytes::put_cells` meets its contract: by the laws of `Putting`.
 use Prim.Native.Nat.{_+_, _-_, _*_, _≤_}
 use lib.ListN.{length}
+use Rattle.image.specs.Image.{cellLength}
 use Rattle.image_bytes.proofs.Putting.{PuttingCells, cells-unpaired, cells-not, cells-start, cells-fit, cells-step, cells-done}
 use borrow.Author.Needs.{needs}
 use native.Mathlib.Omega.{arith}
@@ -9,7 +10,7 @@ use Rattle.image_bytes.proofs.put_cells.Statement.{statement}
 use Rattle.image_bytes.proofs.put_cells.Tie as tie
 
 abbrev Inv-loop : tie.InvT-loop
-Inv-loop out₀ at tags words n p₀ i₀ out p i = (at + 9 * length words ≤ length out₀) × PuttingCells at tags words out₀ out p i
+Inv-loop out₀ at tags words n p₀ i₀ out p i = (at + cellLength * length words ≤ length out₀) × PuttingCells at tags words out₀ out p i
 
 abbrev μ-loop : tie.MeasureT-loop
 μ-loop out₀ at tags words n p₀ i₀ out p i = n - i
@@ -39,7 +40,7 @@ loop-holds c =
     let args = c .before .before .before .before .before .before .args in
     let if2 = c .before .if2 in
     let if1 = c .before .before .if1 in
-    let fit : args .at + 9 * length (args .words .now) ≤ length (args .out .now) = omega (arith, if2 .left, c .if3 .left) in
+    let fit : args .at + cellLength * length (args .words .now) ≤ length (args .out .now) = omega (arith, if2 .left, c .if3 .left) in
     (fit, cells-start _ _ _ _ (if1 .left) fit)
 
 shared-slice-read-wide : tie.Need-shared-slice-read-wide Inv-loop μ-loop

@@ -4,7 +4,7 @@ use Prim.Native.Nat.{_+_, _-_, _*_, _≤_}
 use lib.ListN.{length}
 use lib.Seq.{drop-cons}
 use Rattle.image.specs.Codec.{num}
-use Rattle.image.specs.Image.{wordCodec}
+use Rattle.image.specs.Image.{wordCodec, wordLength}
 use Rattle.image_bytes.specs.Code.Writing.{wordBytes}
 use Rattle.image_bytes.specs.Laws.Bytes.{word-length, word-bytes-length}
 use Rattle.image_bytes.specs.Laws.Laid.{put-not}
@@ -15,7 +15,7 @@ use Rattle.image_bytes.proofs.put_words.Statement.{statement}
 use Rattle.image_bytes.proofs.put_words.Tie as tie
 
 abbrev Inv-loop : tie.InvT-loop
-Inv-loop out₀ at words n p₀ i₀ out p i = Putting wordCodec 8 word-length at words out₀ out p i
+Inv-loop out₀ at words n p₀ i₀ out p i = Putting wordCodec wordLength word-length at words out₀ out p i
 
 abbrev μ-loop : tie.MeasureT-loop
 μ-loop out₀ at words n p₀ i₀ out p i = n - i
@@ -34,7 +34,7 @@ returns-2 c =
     put-not (args .at) (wordBytes (args .words .now)) (args .out .now) (rw word-bytes-length (omega arith))
 
 loop-holds : tie.Need-loop-holds Inv-loop μ-loop
-loop-holds c = start wordCodec 8 word-length _ _ _ (omega arith)
+loop-holds c = start wordCodec wordLength word-length _ _ _ (omega arith)
 
 mul-put : tie.Need-mul-put Inv-loop μ-loop
 mul-put c = search needs
@@ -46,14 +46,14 @@ put-requires : tie.Need-put-requires Inv-loop μ-loop
 put-requires c κs =
     let loop = c .before .before .before .loop in
     let loop-test = c .before .before .loop-test in
-    omega (arith, fits wordCodec 8 word-length _ _ _ (loop .inv) (loop-test .taken), loop .inv .same)
+    omega (arith, fits wordCodec wordLength word-length _ _ _ (loop .inv) (loop-test .taken), loop .inv .same)
 
 add-p : tie.Need-add-p Inv-loop μ-loop
 add-p c =
     let loop = c .before .before .before .before .before .before .loop in
     let loop-test = c .before .before .before .before .before .loop-test in
     let good = c .before .before .before .before .before .before .before .before .before .before .before .good in
-    omega (arith, fits wordCodec 8 word-length _ _ _ (loop .inv) (loop-test .taken), good)
+    omega (arith, fits wordCodec wordLength word-length _ _ _ (loop .inv) (loop-test .taken), good)
 
 add-i : tie.Need-add-i Inv-loop μ-loop
 add-i c = search needs
@@ -67,7 +67,7 @@ loop-again c =
     let loop = c .before .before .before .before .before .before .loop in
     let loop-test = c .before .before .before .before .before .loop-test in
     let put = c .before .before .put in
-    step wordCodec 8 word-length _ _ _ (loop .inv) (loop-test .taken) (drop-cons _ _ 0 (loop-test .taken)) (put .ensures)
+    step wordCodec wordLength word-length _ _ _ (loop .inv) (loop-test .taken) (drop-cons _ _ 0 (loop-test .taken)) (put .ensures)
 
 same-length : tie.Need-same-length Inv-loop μ-loop
 same-length c = c .before .loop .inv .same
@@ -79,8 +79,8 @@ returns-3 c =
     let if1 = c .before .before .before .if1 in
     let if2 = c .before .before .if2 in
     let loop = c .before .loop in
-    let h : args .at + 8 * length (args .words .now) ≤ length (args .out .now) = omega (arith, if1 .left, if2 .left) in
-    done wordCodec 8 word-length _ _ _ (loop .inv) (c .loop-test .left) h
+    let h : args .at + wordLength * length (args .words .now) ≤ length (args .out .now) = omega (arith, if1 .left, if2 .left) in
+    done wordCodec wordLength word-length _ _ _ (loop .inv) (c .loop-test .left) h
 
 pub put-words-spec : {M : Type 1} → statement M
 put-words-spec =

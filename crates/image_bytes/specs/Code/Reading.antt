@@ -7,7 +7,7 @@ use lib.Dec.{leb}
 use Rattle.window.specs.declared.Cell.{Cell}
 use Rattle.window.specs.Memories.{Memory, cell}
 use Rattle.image.specs.Codec.{field}
-use Rattle.image.specs.Image.{memoryOf}
+use Rattle.image.specs.Image.{memoryOf, cellLength, wordLength}
 use Rattle.image.specs.Fields.{paired}
 
 -- the number that w bytes at a place are; past the end, of the bytes that are there
@@ -25,23 +25,23 @@ listed stride f (suc n) at = f at ∷ listed stride f n (at + stride)
 
 -- n words
 unfoldable pub wordsAt : (n at : ℕ) → List ℕ → List ℕ
-wordsAt n at s = listed 8 (λ p. fieldAt 8 p s) n at
+wordsAt n at s = listed wordLength (λ p. fieldAt wordLength p s) n at
 
 -- n cells, each a tag and a word; and their tags
 abbrev pub cellFrom : (at : ℕ) → List ℕ → Cell
-cellFrom at s = cell (fieldAt 1 at s) (fieldAt 8 (at + 1) s)
+cellFrom at s = cell (fieldAt 1 at s) (fieldAt wordLength (at + 1) s)
 
 unfoldable pub cellsAt : (n at : ℕ) → List ℕ → List Cell
-cellsAt n at s = listed 9 (λ p. cellFrom p s) n at
+cellsAt n at s = listed cellLength (λ p. cellFrom p s) n at
 
 unfoldable pub tagsAt : (n at : ℕ) → List ℕ → List ℕ
-tagsAt n at s = listed 9 (λ p. fieldAt 1 p s) n at
+tagsAt n at s = listed cellLength (λ p. fieldAt 1 p s) n at
 
 -- words filled from the bytes at a place; as they were where the bytes are not all there
 unfoldable pub filledWords : (at : ℕ) → (s words : List ℕ) → List ℕ
-filledWords at s words = cond (leb (8 * length words) (length (drop at s))) (wordsAt (length words) at s) words
+filledWords at s words = cond (leb (wordLength * length words) (length (drop at s))) (wordsAt (length words) at s) words
 
 -- tags and words of one length, filled from the cells at a place
 unfoldable pub filledCells : (at : ℕ) → (s : List ℕ) → Memory → Memory
 filledCells at s m =
-    cond (paired m && leb (9 * length (m .words)) (length (drop at s))) (memoryOf (cellsAt (length (m .words)) at s)) m
+    cond (paired m && leb (cellLength * length (m .words)) (length (drop at s))) (memoryOf (cellsAt (length (m .words)) at s)) m

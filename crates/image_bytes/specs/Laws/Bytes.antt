@@ -11,15 +11,15 @@ use Rattle.window.specs.Memories.{cell}
 use Rattle.refusal.specs.declared.Refusal.{Refusal}
 use Rattle.refusal.specs.declared.Refusal.the-variants.{CellField}
 use Rattle.image.specs.Codec.{Codec, digits, num, count, seq, via, encMany, section, noHeader, listSection, noState, uniformSection}
-use Rattle.image.specs.Image.{wordCodec, wordsCodec, cellCodec, cellsCodec, cellsOf}
+use Rattle.image.specs.Image.{wordCodec, wordsCodec, cellCodec, cellsCodec, cellsOf, cellLength, wordLength}
 use Rattle.image.specs.Laws.Numbers.{length-digits}
 use Rattle.image_bytes.specs.Code.Writing.{wordBytes, cellBytes}
 
-pub word-length : (v : ℕ) → length (wordCodec .enc v) ≡ 8
+pub word-length : (v : ℕ) → length (wordCodec .enc v) ≡ wordLength
 unfolding wordCodec num
-word-length v = length-digits 8 v
+word-length v = length-digits wordLength v
 
-pub cell-length : (e : Refusal) (f : ℕ → Bool) (c : Cell) → length (cellCodec e f .enc c) ≡ 9
+pub cell-length : (e : Refusal) (f : ℕ → Bool) (c : Cell) → length (cellCodec e f .enc c) ≡ cellLength
 unfolding cellCodec via seq wordCodec num
 cell-length e f c = rw (length-append, length-digits, length-digits)
 
@@ -45,14 +45,14 @@ cells-cons (t ∷ ts) [] i e h = absurd (omega arith)
 cells-cons (t ∷ ts) (w ∷ ws) zero e h = refl
 cells-cons (t ∷ ts) (w ∷ ws) (suc i) e h = cells-cons ts ws i (omega arith) (omega arith)
 
-pub word-bytes-length : (words : List ℕ) → length (wordBytes words) ≡ 8 * length words
+pub word-bytes-length : (words : List ℕ) → length (wordBytes words) ≡ wordLength * length words
 unfolding wordBytes
-word-bytes-length words = uniform-length wordCodec 8 word-length words
+word-bytes-length words = uniform-length wordCodec wordLength word-length words
 
-pub cell-bytes-length : (tags words : List ℕ) → length tags ≡ length words → length (cellBytes tags words) ≡ 9 * length words
+pub cell-bytes-length : (tags words : List ℕ) → length tags ≡ length words → length (cellBytes tags words) ≡ cellLength * length words
 unfolding cellBytes
 cell-bytes-length tags words e =
-    uniform-length (cellCodec _ (λ _. true)) 9 (cell-length CellField (λ _. true)) (cellsOf tags words) ∙ ap (λ (n : ℕ). 9 * n) (cells-length tags words e)
+    uniform-length (cellCodec _ (λ _. true)) cellLength (cell-length CellField (λ _. true)) (cellsOf tags words) ∙ ap (λ (n : ℕ). cellLength * n) (cells-length tags words e)
 
 -- cells are written alike whatever their tags mean
 cells-alike : (d e : Refusal) (f g : ℕ → Bool) (cs : List Cell) → encMany (λ _. cellCodec d f) noState tt cs ≡ encMany (λ _. cellCodec e g) noState tt cs

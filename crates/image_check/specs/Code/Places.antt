@@ -6,7 +6,7 @@ use Rattle.step.specs.Soundness.{kindSound, recordSound}
 use Rattle.refusal.specs.declared.Refusal.the-variants.{TaskField}
 use Rattle.image.specs.declared.Process.{Process}
 use Rattle.image.specs.Codec.{Codec, num, seq}
-use Rattle.image.specs.Image.{Image, rowLength, processLength}
+use Rattle.image.specs.Image.{Image, rowLength, processLength, tasksLength, constantsBegin, registersBegin, programBegin, dataBegin, imageLength}
 use Rattle.image_bytes.specs.Code.Reading.{fieldAt, listed, wordsAt, cellsAt}
 use Rattle.library.specs.declared.Sizes.{Sizes}
 
@@ -43,35 +43,35 @@ ptsAt n at s = listed processLength (λ p. fieldAt 1 p s) n at
 -- ---- the sections: each starts with its count, and the processes have their flag behind it
 
 unfoldable pub processesPlace : Sizes → ℕ
-processesPlace n = 1 + rowLength * n .rows
+processesPlace n = tasksLength (n .rows)
 
 abbrev pub processCount : Sizes → List ℕ → ℕ
 processCount n s = fieldAt 1 (processesPlace n) s
 
 unfoldable pub constantsPlace : Sizes → List ℕ → ℕ
-constantsPlace n s = processesPlace n + (2 + processLength * processCount n s)
+constantsPlace n s = constantsBegin (n .rows) (processCount n s)
 
 unfoldable pub registersPlace : Sizes → List ℕ → ℕ
-registersPlace n s = constantsPlace n s + (2 + 9 * n .constants)
+registersPlace n s = registersBegin (n .rows) (processCount n s) (n .constants)
 
 unfoldable pub programPlace : Sizes → List ℕ → ℕ
-programPlace n s = registersPlace n s + (2 + 9 * n .registers)
+programPlace n s = programBegin (n .rows) (processCount n s) (n .constants) (n .registers)
 
 unfoldable pub dataPlace : Sizes → List ℕ → ℕ
-dataPlace n s = programPlace n s + (4 + 8 * n .program)
+dataPlace n s = dataBegin (n .rows) (processCount n s) (n .constants) (n .registers) (n .program)
 
 unfoldable pub endPlace : Sizes → List ℕ → ℕ
-endPlace n s = dataPlace n s + (4 + 9 * n .data_words)
+endPlace n s = imageLength (n .rows) (processCount n s) (n .constants) (n .registers) (n .program) (n .data_words)
 
 -- the sizes of the state, as the counts in the bytes have them
 unfoldable pub sizesIn : List ℕ → Sizes
 sizesIn s =
     let rows = fieldAt 1 0 s in
-    let processes = fieldAt 1 (1 + rowLength * rows) s in
-    let constants = fieldAt 2 (1 + rowLength * rows + (2 + processLength * processes)) s in
-    let registers = fieldAt 2 (1 + rowLength * rows + (2 + processLength * processes) + (2 + 9 * constants)) s in
-    let program = fieldAt 4 (1 + rowLength * rows + (2 + processLength * processes) + (2 + 9 * constants) + (2 + 9 * registers)) s in
-    let data-words = fieldAt 4 (1 + rowLength * rows + (2 + processLength * processes) + (2 + 9 * constants) + (2 + 9 * registers) + (4 + 8 * program)) s in
+    let processes = fieldAt 1 (tasksLength rows) s in
+    let constants = fieldAt 2 (constantsBegin rows processes) s in
+    let registers = fieldAt 2 (registersBegin rows processes constants) s in
+    let program = fieldAt 4 (programBegin rows processes constants registers) s in
+    let data-words = fieldAt 4 (dataBegin rows processes constants registers program) s in
     record { rows = rows; constants = constants; registers = registers; program = program; data_words = data-words }
 
 -- the image whose sections have these sizes

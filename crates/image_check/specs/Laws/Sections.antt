@@ -7,6 +7,7 @@ use native.Mathlib.Nat.{add-zero}
 use native.Mathlib.Omega.{arith}
 use lib.ListN.{drop, length-map}
 use lib.Seq.{drop-drop}
+use Rattle.window.specs.Limits.{mostConstants, mostRegisters, mostProgram, mostData}
 use Rattle.refusal.specs.declared.Refusal.{Refusal}
 use Rattle.word.specs.Fields.{pswSound}
 use Rattle.window.specs.declared.Row.{Row}
@@ -15,7 +16,7 @@ use Rattle.step.specs.Soundness.{taskSound, kindSound, recordSound, ptSound, fl
 use Rattle.refusal.specs.declared.Refusal.the-variants.{TaskField, ProcessField}
 use Rattle.image.specs.Codec.{field, uniformSection, noState}
 use Rattle.image.specs.Image.{rowCodec, toRow, fromRow, rowTask, tasksCodec, processCodec, toProcess, fromProcess, queueAfter, processesCodec, rowLength, processLength}
-use Rattle.image.specs.Image.{wordsCodec, cellsCodec, imageCodec, toImage, fromImage, memoryOf, stateOf}
+use Rattle.image.specs.Image.{wordsCodec, cellsCodec, imageCodec, toImage, fromImage, memoryOf, stateOf, cellLength, wordLength, tasksLength, processesLength, cellsLength, wordsLength}
 use Rattle.image_bytes.specs.Code.Reading.{fieldAt, listed, wordsAt, cellFrom, cellsAt}
 use Rattle.image_bytes.specs.Laws.Listed.{length-listed, listed-at}
 use Rattle.image_bytes.specs.Laws.Spans.{Spans, spans-as, num-spans, seq-spans, via-spans, section-spans, listSection-spans}
@@ -63,20 +64,20 @@ process-place s p = simp (drop-drop, add-zero)
 
 -- ---- sections
 
-pub tasks-spans : Spans tasksCodec (λ b. listed rowLength (λ p. rowAt 0 (drop p b)) (field 1 b) 1) (λ b. 1 + rowLength * field 1 b)
+pub tasks-spans : Spans tasksCodec (λ b. listed rowLength (λ p. rowAt 0 (drop p b)) (field 1 b) 1) (λ b. tasksLength (field 1 b))
 unfolding tasksCodec
 tasks-spans = listSection-spans rowTask row-spans 1 7 0
 
 pub processes-spans : (rows : List Row)
-    → Spans (processesCodec rows) (λ b. (field 1 (drop 1 b), listed processLength (λ p. processAt 0 (drop p b)) (field 1 b) 2)) (λ b. 2 + processLength * field 1 b)
+    → Spans (processesCodec rows) (λ b. (field 1 (drop 1 b), listed processLength (λ p. processAt 0 (drop p b)) (field 1 b) 2)) (λ b. processesLength (field 1 b))
 unfolding processesCodec
 processes-spans rows = section-spans queueAfter (process-spans rows) (num-spans 1 ProcessField flagSound) 1 64 0
 
-pub words-spans : (w most : ℕ) → Spans (wordsCodec w most) (λ b. listed 8 (λ p. field 8 (drop p b)) (field w b) w) (λ b. w + 8 * field w b)
+pub words-spans : (w most : ℕ) → Spans (wordsCodec w most) (λ b. listed wordLength (λ p. field wordLength (drop p b)) (field w b) w) (λ b. wordsLength w (field w b))
 unfolding wordsCodec uniformSection
 words-spans w most = listSection-spans noState (λ _. word-spans) w most tt
 
-pub cells-spans : (e : Refusal) (f : ℕ → Bool) (w most : ℕ) → Spans (cellsCodec e f w most) (λ b. listed 9 (λ p. cellFrom 0 (drop p b)) (field w b) w) (λ b. w + 9 * field w b)
+pub cells-spans : (e : Refusal) (f : ℕ → Bool) (w most : ℕ) → Spans (cellsCodec e f w most) (λ b. listed cellLength (λ p. cellFrom 0 (drop p b)) (field w b) w) (λ b. cellsLength w (field w b))
 unfolding cellsCodec uniformSection
 cells-spans e f w most = listSection-spans noState (λ _. cell-spans e f) w most tt
 
@@ -86,12 +87,12 @@ unfolding rowsAt
 first-rows s n = listed-at rowLength (rowAt 0) (λ p. rowAt p s) s (row-place s) 0 n 1
 
 module _ (s : List ℕ) where
-  tasks-placed : Placed s tasksCodec 0 (rowsAt (fieldAt 1 0 s) s) (1 + rowLength * fieldAt 1 0 s)
+  tasks-placed : Placed s tasksCodec 0 (rowsAt (fieldAt 1 0 s) s) (tasksLength (fieldAt 1 0 s))
   tasks-placed = placed tasks-spans s 0 (first-rows s (field 1 s)) (omega arith)
 
   module _ (p : ℕ) where
     processes-placed : (rows : List Row)
-        → Placed s (processesCodec rows) p (fieldAt 1 (p + 1) s, processesAt (fieldAt 1 p s) (p + 2) s) (p + (2 + processLength * fieldAt 1 p s))
+        → Placed s (processesCodec rows) p (fieldAt 1 (p + 1) s, processesAt (fieldAt 1 p s) (p + 2) s) (p + processesLength (fieldAt 1 p s))
     unfolding processesAt
     processes-placed rows =
         placed (processes-spans rows) s p
@@ -99,14 +100,14 @@ module _ (s : List ℕ) where
         (listed-at processLength (processAt 0) (λ q. processAt q s) s (process-place s) p (fieldAt 1 p s) 2))
         refl
 
-    words-placed : (w most : ℕ) → Placed s (wordsCodec w most) p (wordsAt (fieldAt w p s) (p + w) s) (p + (w + 8 * fieldAt w p s))
+    words-placed : (w most : ℕ) → Placed s (wordsCodec w most) p (wordsAt (fieldAt w p s) (p + w) s) (p + wordsLength w (fieldAt w p s))
     unfolding wordsAt
-    words-placed w most = placed (words-spans w most) s p (listed-at 8 (field 8) (λ q. fieldAt 8 q s) s (λ q. refl) p (fieldAt w p s) w) refl
+    words-placed w most = placed (words-spans w most) s p (listed-at wordLength (field wordLength) (λ q. fieldAt wordLength q s) s (λ q. refl) p (fieldAt w p s) w) refl
 
-    cells-placed : (e : Refusal) (f : ℕ → Bool) (w most : ℕ) → Placed s (cellsCodec e f w most) p (cellsAt (fieldAt w p s) (p + w) s) (p + (w + 9 * fieldAt w p s))
+    cells-placed : (e : Refusal) (f : ℕ → Bool) (w most : ℕ) → Placed s (cellsCodec e f w most) p (cellsAt (fieldAt w p s) (p + w) s) (p + cellsLength w (fieldAt w p s))
     unfolding cellsAt
     cells-placed e f w most =
-        placed (cells-spans e f w most) s p (listed-at 9 (cellFrom 0) (λ q. cellFrom q s) s (λ q. simp (drop-drop, add-zero)) p (fieldAt w p s) w) refl
+        placed (cells-spans e f w most) s p (listed-at cellLength (cellFrom 0) (λ q. cellFrom q s) s (λ q. simp (drop-drop, add-zero)) p (fieldAt w p s) w) refl
 
   -- the whole
   pub image-placed : Placed s imageCodec 0 (imageAt (sizesIn s) s) (endPlace (sizesIn s) s)
@@ -115,10 +116,10 @@ module _ (s : List ℕ) where
       via-placed toImage fromImage
       (seq-placed tasks-placed
       (λ rows. seq-placed (processes-placed _ rows)
-      (λ _. seq-placed (cells-placed _ _ qualitySound 2 4096)
-      (λ _. seq-placed (cells-placed _ _ tagSound 2 2048)
-      (λ _. seq-placed (words-placed _ 4 (2 ^ 20))
-      (λ _. cells-placed _ _ stateSound 4 (2 ^ 20)))))))
+      (λ _. seq-placed (cells-placed _ _ qualitySound 2 mostConstants)
+      (λ _. seq-placed (cells-placed _ _ tagSound 2 mostRegisters)
+      (λ _. seq-placed (words-placed _ 4 mostProgram)
+      (λ _. cells-placed _ _ stateSound 4 mostData))))))
 
 -- its sizes are those that it was read by
 pub sizes-image : (n : Sizes) (s : List ℕ) → sizesOf (stateOf (imageAt n s)) ≡ n

@@ -5,12 +5,12 @@ use mathlib.Core.List.{List}
 use lib.ListN.{length}
 use Rattle.library.specs.declared.Sizes.{Sizes}
 use Rattle.image_bytes.specs.Code.Reading.{fieldAt}
-use Rattle.image.specs.Image.{rowLength, processLength}
+use Rattle.image.specs.Image.{tasksLength, imageLength}
 
 -- an image of these sizes and m processes, and buffers of these lengths
 pub record Room (n : Sizes) (m : ℕ) (s : List ℕ) (a b c d e f g : ℕ) : Type 0 where
-  pub processes : m ≡ fieldAt 1 (1 + rowLength * n .rows) s
-  pub ends : 1 + rowLength * n .rows + (2 + processLength * m) + (2 + 9 * n .constants) + (2 + 9 * n .registers) + (4 + 8 * n .program) + (4 + 9 * n .data_words) ≡ length s
+  pub processes : m ≡ fieldAt 1 (tasksLength (n .rows)) s
+  pub ends : imageLength (n .rows) m (n .constants) (n .registers) (n .program) (n .data_words) ≡ length s
   pub constantTags : n .constants ≤ a
   pub constantWords : n .constants ≤ b
   pub registerTags : n .registers ≤ c

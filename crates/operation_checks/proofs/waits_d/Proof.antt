@@ -2,23 +2,16 @@
 use borrow.Author.Needs.{needs}
 use Rattle.operation_checks.proofs.waits_d.Statement.{statement}
 use Rattle.operation_checks.proofs.waits_d.Tie as tie
-use Rattle.operand.proofs.access.Reads as access-reads
-use Rattle.operand.proofs.waits.Reads as waits-reads
-use Rattle.window.proofs.tag_at.Reads as tag-at-reads
 
--- src/lib.rt:135:9
 access-requires : tie.Need-access-requires
 access-requires c κs = search needs
 
--- src/lib.rt:136:9
 tag-at-requires : tie.Need-tag-at-requires
 tag-at-requires c κs = search needs
 
--- src/lib.rt:133:5
 waits-requires : tie.Need-waits-requires
 waits-requires c κs = search needs
 
--- src/lib.rt:130:1
 returns : tie.Need-returns
 returns c = simp (← c .waits .ensures, ← c .before .tag-at .ensures, ← c .before .before .access .ensures)
 

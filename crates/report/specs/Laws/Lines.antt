@@ -21,7 +21,7 @@ use Rattle.run.specs.Kept.{run-keeps-sound}
 use Rattle.image.specs.Codec.{Bytes}
 use Rattle.image.specs.Image.{Image, stateOf, good, decode}
 use Rattle.image.specs.RoundTrips.{reads-only-sound}
-use Rattle.report.specs.Report.{decimal, space, newline, kindText, pcText, countsText, rowLine, rowLines, reportOf, mostInput, outputRun, outputRead, outputScheduled, outputOf}
+use Rattle.report.specs.Report.{rowLine, rowLines, reportOf, mostInput, outputRun, outputRead, outputScheduled, outputOf}
 use Rattle.report.specs.Lines.{WholeInput, lineOf, taskLine, StandsIn, Printed}
 
 -- ---- where it stands
@@ -71,8 +71,7 @@ same-count table table′ t c c′ e f = stored-live table t c ∙ ap₂ _+_ (ap
 line-counted : (table table′ : ProcessTable) (r : Row) (c : Counts) → liveCount (table .users) (r .task) ≡ liveCount (table′ .users) (r .task)
     → rowLine table r c ≡ rowLine table′ r c
 unfolding rowLine
-line-counted table table′ r c e =
-    ap (λ (n : ℕ). decimal (r .task) ++ (space ++ decimal n) ++ (space ++ kindText (r .kind)) ++ (space ++ pcText (r .kind) (r .psw)) ++ (space ++ countsText c) ++ newline) e
+line-counted table table′ r c e = rw e
 
 pub line-same : (t : ℕ) (x x′ : Ran) → Counted (x .state .table .users) → Counted (x′ .state .table .users)
     → own t (x .state) ≡ own t (x′ .state) → ownCounts t (x .notes) ≡ ownCounts t (x′ .notes) → taskLine t x ≡ taskLine t x′

@@ -81,7 +81,8 @@ length-narrow : (n : ℕ) → n < 2 ^ 32 → length (decimal n) ≤ 10
 unfolding decimal
 length-narrow n h = digits-10 20 n (omega arith)
 
-pub length-counts : (c : Counts) → c .executed < 2 ^ 32 → c .waved < 2 ^ 32 → c .trapped < 2 ^ 32 → c .idle < 2 ^ 32 → c .tries < 2 ^ 32 → length (countsText c) ≤ longestCounts
+pub length-counts : (c : Counts) → c .executed < 2 ^ 32 → c .waved < 2 ^ 32 → c .trapped < 2 ^ 32 → c .idle < 2 ^ 32 → c .tries < 2 ^ 32
+    → length (countsText c) ≤ longestCounts
 unfolding countsText
 length-counts c e w t i s =
     simp length-append
@@ -94,7 +95,8 @@ length-counts c e w t i s =
       length-narrow (c .tries) s,
     ))
 
-pub length-row : (table : ProcessTable) (r : Row) (c : Counts) → r .task < 256 → length (countsText c) ≤ longestCounts → length (rowLine table r c) ≤ longestRow
+pub length-row : (table : ProcessTable) (r : Row) (c : Counts) → r .task < 256 → length (countsText c) ≤ longestCounts
+    → length (rowLine table r c) ≤ longestRow
 unfolding rowLine decimal
 length-row table r c h k =
     simp length-append
@@ -141,6 +143,7 @@ length-longest : length (countsLine longCounts 255) ≡ longestLast
 unfolding longCounts countsText countsLine decimal decimalBy
 length-longest = refl
 
-pub longest-report : (table : ProcessTable) → getD (table .users .live) 7 0 ≡ largest → length (rowLines table longTally (replicate 7 longRow) ++ countsLine longCounts 255) ≡ longestReport
+pub longest-report : (table : ProcessTable) → getD (table .users .live) 7 0 ≡ largest
+    → length (rowLines table longTally (replicate 7 longRow) ++ countsLine longCounts 255) ≡ longestReport
 unfolding rowLines
 longest-report table h = simp (length-append, own-long, longest-row table h, length-longest)

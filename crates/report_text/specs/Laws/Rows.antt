@@ -31,11 +31,13 @@ module _ (table : ProcessTable) (own : Tally) (rows : List Row) (start : Text) w
   unfolding rowLines
   next i d h = rw (add-one, drop-cons rows i d h)
 
-  pub goes : (now after : Text) (i : ℕ) (d row : Row) (c : Counts) → Going table own rows start now i → i < length rows → getD rows i d ≡ row → c ≡ ownCounts (row .task) own
+  pub goes : (now after : Text) (i : ℕ) (d row : Row) (c : Counts) → Going table own rows start now i → i < length rows → getD rows i d ≡ row
+      → c ≡ ownCounts (row .task) own
       → length (rowLine table row c) ≤ longestRow → after ≡ appended now (rowLine table row c) → Going table own rows start after (i + 1)
   goes now after i d row c g h r o b e =
       let n : rowLines table own (drop i rows) ≡ rowLine table row c ++ rowLines table own (drop (i + 1) rows) =
-      next i d h ∙ ap (λ x. line x ++ rowLines table own (drop (i + 1) rows)) r ∙ ap (λ (x : Counts). rowLine table row x ++ rowLines table own (drop (i + 1) rows)) (sym o) in
+      next i d h ∙ ap (λ x. line x ++ rowLines table own (drop (i + 1) rows)) r
+      ∙ ap (λ (x : Counts). rowLine table row x ++ rowLines table own (drop (i + 1) rows)) (sym o) in
       record {
         text = rw (e, appended-twice, ← n) (g .text);
         bound = omega (arith, g .bound, ap length n, length-append (rowLine table row c) (rowLines table own (drop (i + 1) rows)));
@@ -53,7 +55,8 @@ module _ (table : ProcessTable) (own : Tally) (rows : List Row) (start : Text) w
   )
 
 -- they go by the own counts alone
-pub lines-own : (table : ProcessTable) (c : Counts) (own : List Counts) (rows : List Row) → rowLines table (tally noCounts own) rows ≡ rowLines table (tally c own) rows
+pub lines-own : (table : ProcessTable) (c : Counts) (own : List Counts) (rows : List Row)
+    → rowLines table (tally noCounts own) rows ≡ rowLines table (tally c own) rows
 unfolding rowLines ownCounts
 lines-own table c own [] = refl
 lines-own table c own (r ∷ rows) = ap (λ (l : List ℕ). rowLine table r (getD own (r .task) noCounts) ++ l) (lines-own table c own rows)

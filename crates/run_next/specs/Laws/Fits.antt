@@ -7,7 +7,7 @@ use native.Mathlib.Omega.{arith}
 use lib.ListN.{length, getD, set, length-set}
 use lib.Seq.{getD-set-other}
 use Rattle.step.specs.declared.Queue.{Queue}
-use Rattle.step.specs.Queues.{livePts, liveTotal}
+use Rattle.step.specs.Queues.{numbers, livePts, liveTotal}
 use Rattle.step.specs.State.{noQueue, queueIn}
 use Rattle.step.specs.Laws.Queues.{length-live, len-get}
 use Rattle.run_rings.specs.Code.Rings.{queuesIn}
@@ -17,7 +17,7 @@ both : (qs : List Queue) (i j : ℕ) → i < length qs → j < length qs → j �
 both qs i j h k n =
     omega (arith, length-live qs i noQueue h, len-get (set qs i noQueue) j (omega (arith, k, length-set qs i noQueue)), ap (λ (q : Queue). q .len) (getD-set-other qs i j noQueue noQueue n))
 
-pub both-fit : (t : ℕ) (a b c : List ℕ) → t < 8 → getD c (2 * t) 0 + getD c (2 * t + 1) 0 ≤ liveTotal (queuesIn a b c)
+pub both-fit : (t : ℕ) (a b c : List ℕ) → t < numbers → getD c (2 * t) 0 + getD c (2 * t + 1) 0 ≤ liveTotal (queuesIn a b c)
 unfolding liveTotal queueIn
 both-fit t a b c h =
     omega (

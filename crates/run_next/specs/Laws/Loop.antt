@@ -8,6 +8,8 @@ use native.Mathlib.Omega.{arith}
 use lib.Dec.{eqb, leb}
 use lib.ListN.{length, getD, set}
 use borrow.Author.Tests.{eq-eqb, ne-eqb, lt-leb, le-leb}
+use Rattle.step.specs.Step.{noTrap}
+use Rattle.step.specs.Queues.{ptCount, numbers}
 use Rattle.window.specs.declared.Row.{Row}
 use Rattle.operation.specs.declared.Course.{Course}
 use Rattle.operation.specs.Environment.{environmentOf}
@@ -22,11 +24,11 @@ use Rattle.run.specs.Run.{Tally, noTally}
 use Rattle.run.specs.Code.Attempts.{added}
 use Rattle.run_rings.specs.Code.Records.{rowIn}
 use Rattle.run_rings.specs.Code.Spans.{Windows}
-use Rattle.run_next.specs.Code.Next.{nextIs, nextAt, Acting, alone, several, follows, tries, standing, hadIn, goesOn}
+use Rattle.run_next.specs.Code.Next.{thenPlaces, noAttempt, nextIs, nextAt, Acting, alone, several, follows, tries, standing, hadIn, goesOn}
 use Rattle.run_next.specs.Code.Settled.{Lines, lines, queuesOf, attemptOf, resultBy, placeOf, Ready, Settles}
 use Rattle.run_next.specs.Code.Stands.{Stands}
 use Rattle.run_next.specs.Code.Numbers.{Cells, stateFrom, Numbers, Attempted}
-use Rattle.run_next.specs.Code.Tally.{tallyIn, attemptCounts}
+use Rattle.run_next.specs.Code.Tally.{tallyCells, tallyIn, attemptCounts}
 use Rattle.run_next.specs.Code.Running.{before, between, Standing, Running, leftOver}
 use Rattle.run_next.specs.Laws.Next.{as-step}
 use Rattle.run_next.specs.Laws.Stands.{not-idle, place-goes}
@@ -41,7 +43,7 @@ begins l rows spans x m c h s e = record { tried = false; runs = rw e (starts l 
 -- less is left where an item is over
 pub less-next : (l : List ℕ) (i : ℕ) (marks marks′ : List ℕ) → i < length l → leftOver l (i + 1) marks′ < leftOver l i marks
 unfolding leftOver
-less-next l i marks marks′ h = on (eqb (getD marks (16 + getD l i 0) 0) 2) (eqb (getD marks′ (16 + getD l (i + 1) 0) 0) 2)
+less-next l i marks marks′ h = on (eqb (getD marks (2 * numbers + getD l i 0) 0) 2) (eqb (getD marks′ (2 * numbers + getD l (i + 1) 0) 0) 2)
   where
     on : (a b : Bool) → 2 * (length l - (i + 1)) - cond b 1 0 < 2 * (length l - i) - cond a 1 0
     on true true = omega (arith, h)
@@ -49,27 +51,27 @@ less-next l i marks marks′ h = on (eqb (getD marks (16 + getD l i 0) 0) 2) (eq
     on false true = omega (arith, h)
     on false false = omega (arith, h)
 
-alone-of : (l : List ℕ) (t : ℕ) {u r o : ℕ} → nextAt l t ≡ nextIs u r o → getD l (16 + t) 0 ≡ o
+alone-of : (l : List ℕ) (t : ℕ) {u r o : ℕ} → nextAt l t ≡ nextIs u r o → getD l (2 * numbers + t) 0 ≡ o
 unfolding nextAt
 alone-of l t e = ap (λ n. n .alone) e
 
 module _ (l : List ℕ) (i : ℕ) (s₀ : State) (rows : List Row) (spans : List ℕ) (x : Lines) (m : Cells) (tally : List ℕ)
-    (going : Running l i s₀ rows spans x m (tallyIn tally)) (here : i < length l) (small : getD l i 0 < 8) (wide : length tally ≡ 80) where
+    (going : Running l i s₀ rows spans x m (tallyIn tally)) (here : i < length l) (small : getD l i 0 < numbers) (wide : length tally ≡ tallyCells) where
   abbrev t : ℕ
   t = getD l i 0
 
   -- an idle item
-  pub turn-idle : (tally′ : List ℕ) → getD (x .marks) t 0 ≡ 255 → tally′ ≡ set tally (24 + t) (getD tally (24 + t) 0 + 1) → Running l (i + 1) s₀ rows spans x m (tallyIn tally′)
+  pub turn-idle : (tally′ : List ℕ) → getD (x .marks) t 0 ≡ noAttempt → tally′ ≡ set tally (3 * numbers + t) (getD tally (3 * numbers + t) 0 + 1) → Running l (i + 1) s₀ rows spans x m (tallyIn tally′)
   turn-idle tally′ up e =
       subst (Running l (i + 1) s₀ rows spans x m) (sym (ap tallyIn e ∙ idle-more tally t small wide))
       (idles-on l i s₀ rows spans x m (tallyIn tally) going here small up)
 
   -- an attempt
-  module _ (up : getD (x .marks) t 0 ≢ 255) where
+  module _ (up : getD (x .marks) t 0 ≢ noAttempt) where
     acts : Acting t (x .marks) (queuesOf x)
     acts = acting-now l i s₀ rows spans x m (tallyIn tally) going here small up
 
-    pub turn-head : getD (x .marks) t 0 < 64
+    pub turn-head : getD (x .marks) t 0 < ptCount
     turn-head = head-lt rows spans x m (going .numbers) t small acts
 
     module _ (k : Course) (ps : List ℕ) (n : Cells)
@@ -84,13 +86,13 @@ module _ (l : List ℕ) (i : ℕ) (s₀ : State) (rows : List Row) (spans : List
           (m .constants) (m .registers) (m .dataWords))) (getD (x .marks) t 0) 64 k (x .psws) ps (m .registers) (n .registers) (m .dataWords) (n .dataWords)
       performed = performs (rowIn (x .kinds) (x .stored) (acting-row rows spans x m (going .numbers) t small acts .row)) (acting-windows rows spans x m (going .numbers) t small acts)
 
-      untrapped : getD (x .kinds) t 0 ≡ 255
+      untrapped : getD (x .kinds) t 0 ≡ noTrap
       untrapped = untrapped-now l i s₀ rows spans x m (tallyIn tally) going here small up
 
       pub turn-ready : Ready t (getD (x .marks) t 0) k mid
       turn-ready = acting-ready rows spans x m (going .numbers) t small acts untrapped k ps n performed
 
-      module _ (r : ℕ) (y : Lines) (kinds : 8 ≤ length (x .kinds)) (stored : 8 ≤ length (x .stored))
+      module _ (r : ℕ) (y : Lines) (kinds : numbers ≤ length (x .kinds)) (stored : numbers ≤ length (x .stored))
           (settles : Settles t (getD (x .marks) t 0) k (getD ps (getD (x .marks) t 0) 0) r mid y) (constants : m .constants ≡ n .constants) (program : m .program ≡ n .program) where
         abbrev ending : Ending
         ending = resultBy t k (getD ps (getD (x .marks) t 0) 0) mid .ending
@@ -101,8 +103,8 @@ module _ (l : List ℕ) (i : ℕ) (s₀ : State) (rows : List Row) (spans : List
         done : Attempted (attemptOf t x) t ending rows spans x m y n
         done = attempted rows spans x m (going .numbers) t small acts untrapped k ps n performed r y kinds stored settles constants program
 
-        goes : goesOn (attemptOf t x) (hadIn t (x .lens)) ending ≡ leb 56 r
-        goes = sym (ap (leb 56) (settles .place) ∙ place-goes (attemptOf t x) (hadIn t (x .lens)) ending acts-so)
+        goes : goesOn (attemptOf t x) (hadIn t (x .lens)) ending ≡ leb thenPlaces r
+        goes = sym (ap (leb thenPlaces) (settles .place) ∙ place-goes (attemptOf t x) (hadIn t (x .lens)) ending acts-so)
 
         counts-so : (tally′ : List ℕ) → tally′ ≡ set tally (r + t) (getD tally (r + t) 0 + 1)
             → tallyIn tally′ ≡ added t (attemptCounts (attemptOf t x) (hadIn t (x .lens)) ending) (tallyIn tally)
@@ -111,34 +113,34 @@ module _ (l : List ℕ) (i : ℕ) (s₀ : State) (rows : List Row) (spans : List
             ∙ attempt-more tally t small wide (attemptOf t x) (hadIn t (x .lens)) ending acts-so
 
         -- the item is over
-        pub turn-over : (tally′ : List ℕ) → tally′ ≡ set tally (r + t) (getD tally (r + t) 0 + 1) → r < 56 → Running l (i + 1) s₀ rows spans y n (tallyIn tally′)
+        pub turn-over : (tally′ : List ℕ) → tally′ ≡ set tally (r + t) (getD tally (r + t) 0 + 1) → r < thenPlaces → Running l (i + 1) s₀ rows spans y n (tallyIn tally′)
         turn-over tally′ e h =
             subst (Running l (i + 1) s₀ rows spans y n) (sym (counts-so tally′ e))
             (attempts-on l i s₀ rows spans x m (tallyIn tally) going here small up (getD (x .marks) t 0) (getD ps (getD (x .marks) t 0) 0) r k ps y n kinds settles done
-            (goes ∙ lt-leb 56 r h))
+            (goes ∙ lt-leb thenPlaces r h))
 
         -- its step follows
-        pub turn-follows : (tally′ : List ℕ) → tally′ ≡ set tally (r + t) (getD tally (r + t) 0 + 1) → 56 ≤ r → Running l i s₀ rows spans y n (tallyIn tally′)
+        pub turn-follows : (tally′ : List ℕ) → tally′ ≡ set tally (r + t) (getD tally (r + t) 0 + 1) → thenPlaces ≤ r → Running l i s₀ rows spans y n (tallyIn tally′)
         turn-follows tally′ e h =
             subst (Running l i s₀ rows spans y n) (sym (counts-so tally′ e))
             (follows-on l i s₀ rows spans x m (tallyIn tally) going here small up (getD (x .marks) t 0) (getD ps (getD (x .marks) t 0) 0) r k ps y n kinds settles done
-            (goes ∙ le-leb 56 r h))
+            (goes ∙ le-leb thenPlaces r h))
 
         follows-less : goesOn (attemptOf t x) (hadIn t (x .lens)) ending ≡ true → Standing l i (y .kinds) (y .marks) (queuesOf y) true → leftOver l i (y .marks) < leftOver l i (x .marks)
         unfolding leftOver goesOn standing
         follows-less f (between j b) =
-            let after : getD (y .marks) (16 + t) 0 ≡ 2 = alone-of (y .marks) t (b .here) in
-            rw (eq-eqb (getD (y .marks) (16 + t) 0) 2 after, ne-eqb (getD (x .marks) (16 + t) 0) 2 (on acts)) (omega (arith, here))
+            let after : getD (y .marks) (2 * numbers + t) 0 ≡ 2 = alone-of (y .marks) t (b .here) in
+            rw (eq-eqb (getD (y .marks) (2 * numbers + t) 0) 2 after, ne-eqb (getD (x .marks) (2 * numbers + t) 0) 2 (on acts)) (omega (arith, here))
           where
             tried : attemptOf t x ≡ Step → ⊥
             tried e = true≢false (sym f ∙ ap (λ (a : Attempt). goesOn a (hadIn t (x .lens)) ending) e)
 
-            on : Acting t (x .marks) (queuesOf x) → getD (x .marks) (16 + t) 0 ≢ 2
+            on : Acting t (x .marks) (queuesOf x) → getD (x .marks) (2 * numbers + t) 0 ≢ 2
             on (alone e o s) q = absurd (omega (arith, q, alone-of (x .marks) t e))
             on (several e o s) q = absurd (omega (arith, q, alone-of (x .marks) t e))
             on (follows e o) q = absurd (tried (as-step t (x .marks) (ring-of (x .marks) t e)))
             on (tries e o) q = absurd (omega (arith, q, alone-of (x .marks) t e))
 
         -- less is left where a step follows
-        pub turn-less : 56 ≤ r → leftOver l i (y .marks) < leftOver l i (x .marks)
-        turn-less h = follows-less (goes ∙ le-leb 56 r h) (follows-stands l i s₀ rows spans x m (tallyIn tally) going here small up (getD (x .marks) t 0) (getD ps (getD (x .marks) t 0) 0) r k ps y n kinds settles done (goes ∙ le-leb 56 r h))
+        pub turn-less : thenPlaces ≤ r → leftOver l i (y .marks) < leftOver l i (x .marks)
+        turn-less h = follows-less (goes ∙ le-leb thenPlaces r h) (follows-stands l i s₀ rows spans x m (tallyIn tally) going here small up (getD (x .marks) t 0) (getD ps (getD (x .marks) t 0) 0) r k ps y n kinds settles done (goes ∙ le-leb thenPlaces r h))

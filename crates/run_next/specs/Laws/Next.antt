@@ -16,23 +16,23 @@ use Rattle.step.specs.declared.Motion.{Motion}
 use Rattle.step.specs.declared.Motion.the-variants.{Turns, Leaves, Passes, TurnsAndJoins, PassesAndJoins}
 use Rattle.step.specs.declared.Queue.{Queue}
 use Rattle.step.specs.Code.Parts.{movedQueues, executedMotion, wavedMotion, createdMotion, otherNumber}
-use Rattle.step.specs.Queues.{taskPlace, ownNumber, sfuNumber, actingNumber, tailIndex, afterHead, headOf, turned, shifted, joined}
+use Rattle.step.specs.Queues.{ptCount, numbers, taskPlace, ownNumber, sfuNumber, actingNumber, tailIndex, afterHead, headOf, turned, shifted, joined}
 use Rattle.step.specs.State.{noQueue, queueIn, withQueue}
 use Rattle.step.specs.Act.{turnedAt, leftAt, joinedAt, passedTo}
-use Rattle.run_rings.specs.Code.Rings.{queueAt, queuesIn, Moves}
-use Rattle.run_next.specs.Code.Next.{Next, nextIs, nextAt, only, itemNext, standing, Puts, Acting, alone, several, follows, tries, attemptAt, hadIn, followed, placeAfter, goingMotion, Goes}
+use Rattle.run_rings.specs.Code.Rings.{ringCount, queueAt, queuesIn, Moves}
+use Rattle.run_next.specs.Code.Next.{markCount, noAttempt, Next, nextIs, nextAt, only, itemNext, standing, Puts, Acting, alone, several, follows, tries, attemptAt, hadIn, followed, placeAfter, goingMotion, Goes}
 use Rattle.step.specs.Laws.Queues.{shifted-len, joined-len}
 use Rattle.run_rings.specs.Laws.Rings.{moves-len, in-ring, len-in, turned-in, left-in, joined-in, passed-in, length-in}
 
 pub next-eq : (u v r s a b : ℕ) → u ≡ v → r ≡ s → a ≡ b → nextIs u r a ≡ nextIs v s b
 next-eq u v r s a b p q o = ap (λ (x : ℕ). nextIs x r a) p ∙ ap (λ (x : ℕ). nextIs v x a) q ∙ ap (λ (x : ℕ). nextIs v s x) o
 
-module _ (l : List ℕ) (t u r a : ℕ) (small : t < 8) (wide : 24 ≤ length l) where
+module _ (l : List ℕ) (t u r a : ℕ) (small : t < numbers) (wide : markCount ≤ length l) where
   l₁ : List ℕ
   l₁ = set l t u
 
   l₂ : List ℕ
-  l₂ = set l₁ (8 + t) r
+  l₂ = set l₁ (numbers + t) r
 
   one : length l₁ ≡ length l
   unfolding l₁
@@ -40,46 +40,46 @@ module _ (l : List ℕ) (t u r a : ℕ) (small : t < 8) (wide : 24 ≤ length l)
 
   two : length l₂ ≡ length l
   unfolding l₂
-  two = length-set l₁ (8 + t) r ∙ one
+  two = length-set l₁ (numbers + t) r ∙ one
 
   -- all three numbers of a task
-  pub put-puts : Puts t (nextIs u r a) l (set (set (set l t u) (8 + t) r) (16 + t) a)
+  pub put-puts : Puts t (nextIs u r a) l (set (set (set l t u) (numbers + t) r) (2 * numbers + t) a)
   unfolding nextAt l₁ l₂
   put-puts = record {
     mine =
-        next-eq (getD (set l₂ (16 + t) a) t 0) u (getD (set l₂ (16 + t) a) (8 + t) 0) r (getD (set l₂ (16 + t) a) (16 + t) 0) a
-        (getD-set-other l₂ (16 + t) t a 0 (λ e. omega (arith, e)) ∙ getD-set-other l₁ (8 + t) t r 0 (λ e. omega (arith, e)) ∙ getD-set-same l t u 0 (omega (arith, small, wide)))
-        (getD-set-other l₂ (16 + t) (8 + t) a 0 (λ e. omega (arith, e)) ∙ getD-set-same l₁ (8 + t) r 0 (omega (arith, small, wide, one)))
-        (getD-set-same l₂ (16 + t) a 0 (omega (arith, small, wide, two)));
+        next-eq (getD (set l₂ (2 * numbers + t) a) t 0) u (getD (set l₂ (2 * numbers + t) a) (numbers + t) 0) r (getD (set l₂ (2 * numbers + t) a) (2 * numbers + t) 0) a
+        (getD-set-other l₂ (2 * numbers + t) t a 0 (λ e. omega (arith, e)) ∙ getD-set-other l₁ (numbers + t) t r 0 (λ e. omega (arith, e)) ∙ getD-set-same l t u 0 (omega (arith, small, wide)))
+        (getD-set-other l₂ (2 * numbers + t) (numbers + t) a 0 (λ e. omega (arith, e)) ∙ getD-set-same l₁ (numbers + t) r 0 (omega (arith, small, wide, one)))
+        (getD-set-same l₂ (2 * numbers + t) a 0 (omega (arith, small, wide, two)));
     others = λ v h n.
-        next-eq (getD (set l₂ (16 + t) a) v 0) (getD l v 0) (getD (set l₂ (16 + t) a) (8 + v) 0) (getD l (8 + v) 0) (getD (set l₂ (16 + t) a) (16 + v) 0) (getD l (16 + v) 0)
-        (getD-set-other l₂ (16 + t) v a 0 (λ e. omega (arith, e, h)) ∙ getD-set-other l₁ (8 + t) v r 0 (λ e. omega (arith, e, h)) ∙ getD-set-other l t v u 0 n)
-        (getD-set-other l₂ (16 + t) (8 + v) a 0 (λ e. omega (arith, e, h)) ∙ getD-set-other l₁ (8 + t) (8 + v) r 0 (λ e. omega (arith, e, n)) ∙ getD-set-other l t (8 + v) u 0 (λ e. omega (arith, e, small)))
-        (getD-set-other l₂ (16 + t) (16 + v) a 0 (λ e. omega (arith, e, n)) ∙ getD-set-other l₁ (8 + t) (16 + v) r 0 (λ e. omega (arith, e, small)) ∙ getD-set-other l t (16 + v) u 0 (λ e. omega (arith, e, small)));
+        next-eq (getD (set l₂ (2 * numbers + t) a) v 0) (getD l v 0) (getD (set l₂ (2 * numbers + t) a) (numbers + v) 0) (getD l (numbers + v) 0) (getD (set l₂ (2 * numbers + t) a) (2 * numbers + v) 0) (getD l (2 * numbers + v) 0)
+        (getD-set-other l₂ (2 * numbers + t) v a 0 (λ e. omega (arith, e, h)) ∙ getD-set-other l₁ (numbers + t) v r 0 (λ e. omega (arith, e, h)) ∙ getD-set-other l t v u 0 n)
+        (getD-set-other l₂ (2 * numbers + t) (numbers + v) a 0 (λ e. omega (arith, e, h)) ∙ getD-set-other l₁ (numbers + t) (numbers + v) r 0 (λ e. omega (arith, e, n)) ∙ getD-set-other l t (numbers + v) u 0 (λ e. omega (arith, e, small)))
+        (getD-set-other l₂ (2 * numbers + t) (2 * numbers + v) a 0 (λ e. omega (arith, e, n)) ∙ getD-set-other l₁ (numbers + t) (2 * numbers + v) r 0 (λ e. omega (arith, e, small)) ∙ getD-set-other l t (2 * numbers + v) u 0 (λ e. omega (arith, e, small)));
   }
 
 -- the PT alone
-pub up-puts : (l : List ℕ) (t u : ℕ) → t < 8 → 24 ≤ length l → Puts t (nextIs u (getD l (8 + t) 0) (getD l (16 + t) 0)) l (set l t u)
+pub up-puts : (l : List ℕ) (t u : ℕ) → t < numbers → markCount ≤ length l → Puts t (nextIs u (getD l (numbers + t) 0) (getD l (2 * numbers + t) 0)) l (set l t u)
 unfolding nextAt
 up-puts l t u small wide = record {
   mine =
-      next-eq (getD (set l t u) t 0) u (getD (set l t u) (8 + t) 0) (getD l (8 + t) 0) (getD (set l t u) (16 + t) 0) (getD l (16 + t) 0)
-      (getD-set-same l t u 0 (omega (arith, small, wide))) (getD-set-other l t (8 + t) u 0 (λ e. omega (arith, e))) (getD-set-other l t (16 + t) u 0 (λ e. omega (arith, e)));
+      next-eq (getD (set l t u) t 0) u (getD (set l t u) (numbers + t) 0) (getD l (numbers + t) 0) (getD (set l t u) (2 * numbers + t) 0) (getD l (2 * numbers + t) 0)
+      (getD-set-same l t u 0 (omega (arith, small, wide))) (getD-set-other l t (numbers + t) u 0 (λ e. omega (arith, e))) (getD-set-other l t (2 * numbers + t) u 0 (λ e. omega (arith, e)));
   others = λ v h n.
-      next-eq (getD (set l t u) v 0) (getD l v 0) (getD (set l t u) (8 + v) 0) (getD l (8 + v) 0) (getD (set l t u) (16 + v) 0) (getD l (16 + v) 0)
-      (getD-set-other l t v u 0 n) (getD-set-other l t (8 + v) u 0 (λ e. omega (arith, e, small))) (getD-set-other l t (16 + v) u 0 (λ e. omega (arith, e, small)));
+      next-eq (getD (set l t u) v 0) (getD l v 0) (getD (set l t u) (numbers + v) 0) (getD l (numbers + v) 0) (getD (set l t u) (2 * numbers + v) 0) (getD l (2 * numbers + v) 0)
+      (getD-set-other l t v u 0 n) (getD-set-other l t (numbers + v) u 0 (λ e. omega (arith, e, small))) (getD-set-other l t (2 * numbers + v) u 0 (λ e. omega (arith, e, small)));
 }
 
 -- the last number alone
-pub alone-puts : (l : List ℕ) (t a : ℕ) → t < 8 → 24 ≤ length l → Puts t (nextIs (getD l t 0) (getD l (8 + t) 0) a) l (set l (16 + t) a)
+pub alone-puts : (l : List ℕ) (t a : ℕ) → t < numbers → markCount ≤ length l → Puts t (nextIs (getD l t 0) (getD l (numbers + t) 0) a) l (set l (2 * numbers + t) a)
 unfolding nextAt
 alone-puts l t a small wide = record {
   mine =
-      next-eq (getD (set l (16 + t) a) t 0) (getD l t 0) (getD (set l (16 + t) a) (8 + t) 0) (getD l (8 + t) 0) (getD (set l (16 + t) a) (16 + t) 0) a
-      (getD-set-other l (16 + t) t a 0 (λ e. omega (arith, e))) (getD-set-other l (16 + t) (8 + t) a 0 (λ e. omega (arith, e))) (getD-set-same l (16 + t) a 0 (omega (arith, small, wide)));
+      next-eq (getD (set l (2 * numbers + t) a) t 0) (getD l t 0) (getD (set l (2 * numbers + t) a) (numbers + t) 0) (getD l (numbers + t) 0) (getD (set l (2 * numbers + t) a) (2 * numbers + t) 0) a
+      (getD-set-other l (2 * numbers + t) t a 0 (λ e. omega (arith, e))) (getD-set-other l (2 * numbers + t) (numbers + t) a 0 (λ e. omega (arith, e))) (getD-set-same l (2 * numbers + t) a 0 (omega (arith, small, wide)));
   others = λ v h n.
-      next-eq (getD (set l (16 + t) a) v 0) (getD l v 0) (getD (set l (16 + t) a) (8 + v) 0) (getD l (8 + v) 0) (getD (set l (16 + t) a) (16 + v) 0) (getD l (16 + v) 0)
-      (getD-set-other l (16 + t) v a 0 (λ e. omega (arith, e, h))) (getD-set-other l (16 + t) (8 + v) a 0 (λ e. omega (arith, e, h))) (getD-set-other l (16 + t) (16 + v) a 0 (λ e. omega (arith, e, n)));
+      next-eq (getD (set l (2 * numbers + t) a) v 0) (getD l v 0) (getD (set l (2 * numbers + t) a) (numbers + v) 0) (getD l (numbers + v) 0) (getD (set l (2 * numbers + t) a) (2 * numbers + v) 0) (getD l (2 * numbers + v) 0)
+      (getD-set-other l (2 * numbers + t) v a 0 (λ e. omega (arith, e, h))) (getD-set-other l (2 * numbers + t) (numbers + v) a 0 (λ e. omega (arith, e, h))) (getD-set-other l (2 * numbers + t) (2 * numbers + v) a 0 (λ e. omega (arith, e, n)));
 }
 
 -- nothing is put
@@ -97,9 +97,9 @@ module _ (t : ℕ) (qs : List Queue) where
 
   pub stands-sfu : s .len ≢ 0 → standing false t qs ≡ nextIs (headOf s) (2 * t + 1) 0
   unfolding standing itemNext
-  stands-sfu n = ap (λ (b : Bool). cond b (cond (eqb (q .len) 0) (nextIs 255 (2 * t) 0) (nextIs (headOf q) (2 * t) (only (q .len)))) (nextIs (headOf s) (2 * t + 1) 0)) (ne-eqb (s .len) 0 n)
+  stands-sfu n = ap (λ (b : Bool). cond b (cond (eqb (q .len) 0) (nextIs noAttempt (2 * t) 0) (nextIs (headOf q) (2 * t) (only (q .len)))) (nextIs (headOf s) (2 * t + 1) 0)) (ne-eqb (s .len) 0 n)
 
-  pub stands-none : s .len ≡ 0 → q .len ≡ 0 → standing false t qs ≡ nextIs 255 (2 * t) 0
+  pub stands-none : s .len ≡ 0 → q .len ≡ 0 → standing false t qs ≡ nextIs noAttempt (2 * t) 0
   unfolding standing itemNext
   stands-none e f = simp (e, f)
 
@@ -107,22 +107,22 @@ module _ (t : ℕ) (qs : List Queue) where
   unfolding standing itemNext
   stands-own e n = simp (e, ne-eqb (q .len) 0 n)
 
--- ---- own and SFU queue of a task below 8 by number
+-- ---- own and SFU queue of a task below `numbers` by number
 
-pub own-number : (t : ℕ) → t < 8 → ownNumber t ≡ 2 * t
+pub own-number : (t : ℕ) → t < numbers → ownNumber t ≡ 2 * t
 unfolding ownNumber taskPlace
-own-number t h = let e : t % 8 ≡ t = omega (arith, h) in ap (λ (x : ℕ). 2 * x) e
+own-number t h = let e : t % numbers ≡ t = omega (arith, h) in ap (λ (x : ℕ). 2 * x) e
 
-pub sfu-number : (t : ℕ) → t < 8 → sfuNumber t ≡ 2 * t + 1
+pub sfu-number : (t : ℕ) → t < numbers → sfuNumber t ≡ 2 * t + 1
 unfolding sfuNumber taskPlace
-sfu-number t h = let e : t % 8 ≡ t = omega (arith, h) in ap (λ (x : ℕ). 2 * x + 1) e
+sfu-number t h = let e : t % numbers ≡ t = omega (arith, h) in ap (λ (x : ℕ). 2 * x + 1) e
 
 -- ---- the next attempt worked out from the queues
 
 pub puts-as : (t : ℕ) (m n : Next) (l l′ : List ℕ) → n ≡ m → Puts t m l l′ → Puts t n l l′
 puts-as t m n l l′ e p = record { mine = p .mine ∙ sym e; others = p .others }
 
-module _ (t : ℕ) (a b c l l′ : List ℕ) (small : t < 8) where
+module _ (t : ℕ) (a b c l l′ : List ℕ) (small : t < numbers) where
   own-is : headOf (queueIn (queuesIn a b c) (2 * t)) ≡ headOf (queueAt a b c (2 * t))
   own-is = ap headOf (in-ring a b c (2 * t) (omega (arith, small)))
 
@@ -142,10 +142,10 @@ module _ (t : ℕ) (a b c l l′ : List ℕ) (small : t < 8) where
       (stands-sfu t (queuesIn a b c) (λ z. n (sym sfu-len ∙ z))
       ∙ next-eq (headOf (queueIn (queuesIn a b c) (2 * t + 1))) u (2 * t + 1) r 0 0 (sfu-is ∙ sym e) (sym f) refl) p
 
-  pub set-none : (r : ℕ) → Puts t (nextIs 255 r 0) l l′ → r ≡ 2 * t → getD c (2 * t + 1) 0 ≡ 0 → getD c (2 * t) 0 ≡ 0
+  pub set-none : (r : ℕ) → Puts t (nextIs noAttempt r 0) l l′ → r ≡ 2 * t → getD c (2 * t + 1) 0 ≡ 0 → getD c (2 * t) 0 ≡ 0
       → Puts t (standing false t (queuesIn a b c)) l l′
   set-none r p f m n =
-      puts-as t (nextIs 255 r 0) (standing false t (queuesIn a b c)) l l′
+      puts-as t (nextIs noAttempt r 0) (standing false t (queuesIn a b c)) l l′
       (stands-none t (queuesIn a b c) (sfu-len ∙ m) (own-len ∙ n) ∙ next-eq 255 255 (2 * t) r 0 0 refl (sym f) refl) p
 
   pub set-own : (u r o : ℕ) → Puts t (nextIs u r o) l l′ → u ≡ headOf (queueAt a b c (2 * t)) → r ≡ 2 * t → o ≡ only (getD c (2 * t) 0)
@@ -178,11 +178,11 @@ ups : (t : ℕ) (l : List ℕ) (u r o : ℕ) → nextAt l t ≡ nextIs u r o →
 unfolding nextAt
 ups t l u r o e = ap (λ (n : Next). n .up) e
 
-rings : (t : ℕ) (l : List ℕ) (u r o : ℕ) → nextAt l t ≡ nextIs u r o → getD l (8 + t) 0 ≡ r
+rings : (t : ℕ) (l : List ℕ) (u r o : ℕ) → nextAt l t ≡ nextIs u r o → getD l (numbers + t) 0 ≡ r
 unfolding nextAt
 rings t l u r o e = ap (λ (n : Next). n .ring) e
 
-alones : (t : ℕ) (l : List ℕ) (u r o : ℕ) → nextAt l t ≡ nextIs u r o → getD l (16 + t) 0 ≡ o
+alones : (t : ℕ) (l : List ℕ) (u r o : ℕ) → nextAt l t ≡ nextIs u r o → getD l (2 * numbers + t) 0 ≡ o
 unfolding nextAt
 alones t l u r o e = ap (λ (n : Next). n .alone) e
 
@@ -192,37 +192,37 @@ only-several n h = ap (λ (b : Bool). cond b 1 0) (ne-eqb n 1 (λ e. omega (arit
 
 -- the numbers of the task's queue where its head steps and none follows a try
 pub record Own (t : ℕ) (l lens : List ℕ) : Type 0 where
-  pub is : getD l (16 + t) 0 ≡ only (getD lens (2 * t) 0)
+  pub is : getD l (2 * numbers + t) 0 ≡ only (getD lens (2 * t) 0)
   pub empty : getD lens (2 * t + 1) 0 ≡ 0
   pub some : getD lens (2 * t) 0 ≢ 0
 
-module _ (t : ℕ) (l a b c : List ℕ) (small : t < 8) where
+module _ (t : ℕ) (l a b c : List ℕ) (small : t < numbers) where
   ownl : queueIn (queuesIn a b c) (2 * t) .len ≡ getD c (2 * t) 0
   ownl = len-in a b c (2 * t) (omega (arith, small))
 
   sful : queueIn (queuesIn a b c) (2 * t + 1) .len ≡ getD c (2 * t + 1) 0
   sful = len-in a b c (2 * t + 1) (omega (arith, small))
 
-  pub acts-own : Acting t l (queuesIn a b c) → getD l (8 + t) 0 ≡ 2 * t → 1 ≤ getD c (2 * t) 0
+  pub acts-own : Acting t l (queuesIn a b c) → getD l (numbers + t) 0 ≡ 2 * t → 1 ≤ getD c (2 * t) 0
   acts-own (alone e p q) r = omega (arith, p, ownl)
   acts-own (several e p q) r = omega (arith, p, ownl)
   acts-own (follows e p) r = omega (arith, p, ownl)
   acts-own (tries e p) r = absurd (omega (arith, r, rings t l _ _ _ e))
 
-  pub acts-sfu : Acting t l (queuesIn a b c) → getD l (8 + t) 0 ≢ 2 * t → 1 ≤ getD c (2 * t + 1) 0
+  pub acts-sfu : Acting t l (queuesIn a b c) → getD l (numbers + t) 0 ≢ 2 * t → 1 ≤ getD c (2 * t + 1) 0
   acts-sfu (alone e p q) r = absurd (r (rings t l _ _ _ e))
   acts-sfu (several e p q) r = absurd (r (rings t l _ _ _ e))
   acts-sfu (follows e p) r = absurd (r (rings t l _ _ _ e))
   acts-sfu (tries e p) r = omega (arith, p, sful)
 
   -- the number of the ring
-  pub acts-ring : Acting t l (queuesIn a b c) → getD l (8 + t) 0 ≤ 2 * t + 1
+  pub acts-ring : Acting t l (queuesIn a b c) → getD l (numbers + t) 0 ≤ 2 * t + 1
   acts-ring (alone e p q) = omega (arith, rings t l _ _ _ e)
   acts-ring (several e p q) = omega (arith, rings t l _ _ _ e)
   acts-ring (follows e p) = omega (arith, rings t l _ _ _ e)
   acts-ring (tries e p) = omega (arith, rings t l _ _ _ e)
 
-  pub acts-here : Acting t l (queuesIn a b c) → getD l (8 + t) 0 ≡ 2 * t → getD l (16 + t) 0 ≢ 2 → Own t l c
+  pub acts-here : Acting t l (queuesIn a b c) → getD l (numbers + t) 0 ≡ 2 * t → getD l (2 * numbers + t) 0 ≢ 2 → Own t l c
   unfolding only
   acts-here (alone e p q) r n = record { is = alones t l _ _ _ e ∙ ap only (sym p ∙ ownl); empty = sym sful ∙ q; some = λ z. omega (arith, z, p, ownl) }
   acts-here (several e p q) r n = record { is = alones t l _ _ _ e ∙ sym (only-several (getD c (2 * t) 0) (omega (arith, p, ownl))); empty = sym sful ∙ q; some = λ z. omega (arith, z, p, ownl) }
@@ -231,13 +231,13 @@ module _ (t : ℕ) (l a b c : List ℕ) (small : t < 8) where
 
   -- 1: the task's only process
   pub record Only : Type 0 where
-    pub ring : getD l (8 + t) 0 ≡ 2 * t
+    pub ring : getD l (numbers + t) 0 ≡ 2 * t
     pub up : getD l t 0 ≡ headOf (queueIn (queuesIn a b c) (2 * t))
     pub one : getD c (2 * t) 0 ≡ 1
     pub is : nextAt l t ≡ nextIs (headOf (queueIn (queuesIn a b c) (2 * t))) (2 * t) 1
     pub empty : getD c (2 * t + 1) 0 ≡ 0
 
-  pub acts-alone : Acting t l (queuesIn a b c) → getD l (16 + t) 0 ≡ 1 → Only
+  pub acts-alone : Acting t l (queuesIn a b c) → getD l (2 * numbers + t) 0 ≡ 1 → Only
   acts-alone (alone e p q) n = record { ring = rings t l _ _ _ e; up = ups t l _ _ _ e; one = sym ownl ∙ p; is = e; empty = sym sful ∙ q }
   acts-alone (several e p q) n = absurd (omega (arith, n, alones t l _ _ _ e))
   acts-alone (follows e p) n = absurd (omega (arith, n, alones t l _ _ _ e))
@@ -248,15 +248,15 @@ module _ (t : ℕ) (l a b c : List ℕ) (small : t < 8) where
     pub many : 2 ≤ getD c (2 * t) 0
     pub empty : getD c (2 * t + 1) 0 ≡ 0
 
-  pub acts-several : Acting t l (queuesIn a b c) → getD l (8 + t) 0 ≡ 2 * t → getD l (16 + t) 0 ≡ 0 → Several
+  pub acts-several : Acting t l (queuesIn a b c) → getD l (numbers + t) 0 ≡ 2 * t → getD l (2 * numbers + t) 0 ≡ 0 → Several
   acts-several (alone e p q) r n = absurd (omega (arith, n, alones t l _ _ _ e))
   acts-several (several e p q) r n = record { many = omega (arith, p, ownl); empty = sym sful ∙ q }
   acts-several (follows e p) r n = absurd (omega (arith, n, alones t l _ _ _ e))
   acts-several (tries e p) r n = absurd (omega (arith, r, rings t l _ _ _ e))
 
--- ---- the motions by number, for a task below 8
+-- ---- the motions by number, for a task below `numbers`
 
-module _ (t : ℕ) (qs : List Queue) (small : t < 8) where
+module _ (t : ℕ) (qs : List Queue) (small : t < numbers) where
   pub step-turns : movedQueues Turns Step t qs ≡ turnedAt qs (2 * t)
   unfolding movedQueues actingNumber
   step-turns = ap (turnedAt qs) (own-number t small)
@@ -293,33 +293,33 @@ module _ (t : ℕ) (qs : List Queue) (small : t < 8) where
 
 -- ---- a try's process that goes on or waits
 
-pub went-waits : (t place : ℕ) (a b c a′ b′ c′ : List ℕ) → t < 8 → place ≡ 8 → Moves (2 * t + 1) turned a b c a′ b′ c′
-    → queuesIn a′ b′ c′ ≡ movedQueues (goingMotion (eqb place 8) Try) Try t (queuesIn a b c)
+pub went-waits : (t place : ℕ) (a b c a′ b′ c′ : List ℕ) → t < numbers → place ≡ numbers → Moves (2 * t + 1) turned a b c a′ b′ c′
+    → queuesIn a′ b′ c′ ≡ movedQueues (goingMotion (eqb place numbers) Try) Try t (queuesIn a b c)
 unfolding goingMotion
 went-waits t place a b c a′ b′ c′ h e m =
     turned-in (2 * t + 1) a b c a′ b′ c′ (omega (arith, h)) m ∙ sym (try-turns t (queuesIn a b c) h)
-    ∙ ap (λ (n : ℕ). movedQueues (goingMotion (eqb n 8) Try) Try t (queuesIn a b c)) (sym e)
+    ∙ ap (λ (n : ℕ). movedQueues (goingMotion (eqb n numbers) Try) Try t (queuesIn a b c)) (sym e)
 
-pub went-on : (t place : ℕ) (a b c a′ b′ c′ : List ℕ) → t < 8 → place ≢ 8 → queuesIn a′ b′ c′ ≡ passedTo (queuesIn a b c) (2 * t + 1) (2 * t)
-    → queuesIn a′ b′ c′ ≡ movedQueues (goingMotion (eqb place 8) Try) Try t (queuesIn a b c)
+pub went-on : (t place : ℕ) (a b c a′ b′ c′ : List ℕ) → t < numbers → place ≢ 8 → queuesIn a′ b′ c′ ≡ passedTo (queuesIn a b c) (2 * t + 1) (2 * t)
+    → queuesIn a′ b′ c′ ≡ movedQueues (goingMotion (eqb place numbers) Try) Try t (queuesIn a b c)
 unfolding goingMotion executedMotion
 went-on t place a b c a′ b′ c′ h n m =
     m ∙ sym (try-passes t (queuesIn a b c) h)
-    ∙ ap (λ (x : Bool). movedQueues (goingMotion x Try) Try t (queuesIn a b c)) (sym (ne-eqb place 8 n))
+    ∙ ap (λ (x : Bool). movedQueues (goingMotion x Try) Try t (queuesIn a b c)) (sym (ne-eqb place numbers n))
 
 -- ---- an attempt is a step or a try by the ring that its process heads
 
-pub as-step : (t : ℕ) (l : List ℕ) → getD l (8 + t) 0 ≡ 2 * t → attemptAt t l ≡ Step
+pub as-step : (t : ℕ) (l : List ℕ) → getD l (numbers + t) 0 ≡ 2 * t → attemptAt t l ≡ Step
 unfolding attemptAt
-as-step t l e = ap (λ (b : Bool). cond {A = Attempt} b Step Try) (eq-eqb (getD l (8 + t) 0) (2 * t) e)
+as-step t l e = ap (λ (b : Bool). cond {A = Attempt} b Step Try) (eq-eqb (getD l (numbers + t) 0) (2 * t) e)
 
-pub as-try : (t : ℕ) (l : List ℕ) → getD l (8 + t) 0 ≢ 2 * t → attemptAt t l ≡ Try
+pub as-try : (t : ℕ) (l : List ℕ) → getD l (numbers + t) 0 ≢ 2 * t → attemptAt t l ≡ Try
 unfolding attemptAt
-as-try t l n = ap (λ (b : Bool). cond {A = Attempt} b Step Try) (ne-eqb (getD l (8 + t) 0) (2 * t) n)
+as-try t l n = ap (λ (b : Bool). cond {A = Attempt} b Step Try) (ne-eqb (getD l (numbers + t) 0) (2 * t) n)
 
 module _ (t place r : ℕ) (had : Bool) (m : Attempt → Motion) (a b c l a′ b′ c′ l′ : List ℕ) where
   -- a step: queues as its motion says, and the next attempt worked out from them
-  pub ends-step : getD l (8 + t) 0 ≡ 2 * t → r ≡ place → queuesIn a′ b′ c′ ≡ movedQueues (m Step) Step t (queuesIn a b c) → Puts t (standing false t (queuesIn a′ b′ c′)) l l′
+  pub ends-step : getD l (numbers + t) 0 ≡ 2 * t → r ≡ place → queuesIn a′ b′ c′ ≡ movedQueues (m Step) Step t (queuesIn a b c) → Puts t (standing false t (queuesIn a′ b′ c′)) l l′
       → (r ≡ placeAfter (attemptAt t l) had place) × Goes t had m a b c l a′ b′ c′ l′
   unfolding placeAfter followed
   ends-step e f q p = (
@@ -331,7 +331,7 @@ module _ (t place r : ℕ) (had : Bool) (m : Attempt → Motion) (a b c l a′ b
     },
   )
 
-  pub ends-try : getD l (8 + t) 0 ≢ 2 * t → r ≡ placeAfter Try had place → queuesIn a′ b′ c′ ≡ movedQueues (m Try) Try t (queuesIn a b c)
+  pub ends-try : getD l (numbers + t) 0 ≢ 2 * t → r ≡ placeAfter Try had place → queuesIn a′ b′ c′ ≡ movedQueues (m Try) Try t (queuesIn a b c)
       → Puts t (standing had t (queuesIn a′ b′ c′)) l l′ → (r ≡ placeAfter (attemptAt t l) had place) × Goes t had m a b c l a′ b′ c′ l′
   unfolding followed
   ends-try n f q p = (
@@ -343,7 +343,7 @@ module _ (t place r : ℕ) (had : Bool) (m : Attempt → Motion) (a b c l a′ b
     },
   )
 
-pub step-goes : (x : Bool) (t : ℕ) (qs : List Queue) → t < 8 → movedQueues (goingMotion x Step) Step t qs ≡ turnedAt qs (2 * t)
+pub step-goes : (x : Bool) (t : ℕ) (qs : List Queue) → t < numbers → movedQueues (goingMotion x Step) Step t qs ≡ turnedAt qs (2 * t)
 unfolding goingMotion executedMotion
 step-goes true t qs h = step-turns t qs h
 step-goes false t qs h = step-turns t qs h
@@ -354,7 +354,7 @@ pub left-len : (k : ℕ) (a b c a′ b′ c′ : List ℕ) → Moves k shifted a
 unfolding queueAt
 left-len k a b c a′ b′ c′ m = ap (λ (q : Queue). q .len) (m .mine) ∙ shifted-len (queueAt a b c k)
 
-pub joined-len-at : (k p : ℕ) (a b c a′ b′ c′ : List ℕ) → getD c k 0 < 64 → Moves k (λ q. joined q p) a b c a′ b′ c′ → getD c′ k 0 ≡ getD c k 0 + 1
+pub joined-len-at : (k p : ℕ) (a b c a′ b′ c′ : List ℕ) → getD c k 0 < ptCount → Moves k (λ q. joined q p) a b c a′ b′ c′ → getD c′ k 0 ≡ getD c k 0 + 1
 unfolding queueAt
 joined-len-at k p a b c a′ b′ c′ h m = ap (λ (q : Queue). q .len) (m .mine) ∙ joined-len (queueAt a b c k) p h
 
@@ -371,7 +371,7 @@ unfolding leftAt withQueue
 length-left qs k = length-set qs k (shifted (queueIn qs k))
 
 -- the queue that a process passes to
-pub passed-len : (j k : ℕ) (a b c a′ b′ c′ : List ℕ) → j < 16 → k < 16 → k ≢ j → getD c k 0 < 64 → queuesIn a′ b′ c′ ≡ passedTo (queuesIn a b c) j k
+pub passed-len : (j k : ℕ) (a b c a′ b′ c′ : List ℕ) → j < ringCount → k < ringCount → k ≢ j → getD c k 0 < ptCount → queuesIn a′ b′ c′ ≡ passedTo (queuesIn a b c) j k
     → getD c′ k 0 ≡ getD c k 0 + 1
 unfolding passedTo joinedAt leftAt
 passed-len j k a b c a′ b′ c′ h i n m e =
@@ -386,7 +386,7 @@ passed-len j k a b c a′ b′ c′ h i n m e =
     ∙ ap (λ (x : ℕ). x + 1) (len-in a b c k i)
 
 -- the head stays head where a PT joins
-joined-head : (q : Queue) (p : ℕ) → 1 ≤ q .len → q .len < 64 → headOf (joined q p) ≡ headOf q
+joined-head : (q : Queue) (p : ℕ) → 1 ≤ q .len → q .len < ptCount → headOf (joined q p) ≡ headOf q
 unfolding joined headOf tailIndex
 joined-head q p h i =
     ap (λ (b : Bool). headOf (cond b q (record { pts = set (q .pts) (tailIndex q) p; head = q .head; len = q .len + 1 }))) (lt-leb 64 (q .len) i)
@@ -403,7 +403,7 @@ turns-none qs k h = ap (set qs k) (turned-one (getD qs k noQueue) h) ∙ set-get
 
 -- ---- the short ways
 
-module _ (t : ℕ) (l l′ : List ℕ) (small : t < 8) where
+module _ (t : ℕ) (l l′ : List ℕ) (small : t < numbers) where
   -- the head of several leaves: the next one's head, and whether it is alone
   pub left-several : (a b c b′ c′ : List ℕ) (u r o : ℕ) → Several t l a b c small → Moves (2 * t) shifted a b c a b′ c′ → Puts t (nextIs u r o) l l′
       → u ≡ headOf (queueAt a b′ c′ (2 * t)) → r ≡ 2 * t → o ≡ only (getD c (2 * t) 0 - 1) → Puts t (standing false t (queuesIn a b′ c′)) l l′
@@ -415,11 +415,11 @@ module _ (t : ℕ) (l l′ : List ℕ) (small : t < 8) where
 
   -- a PT joins the task's only process: its head stays head
   pub joined-alone : (p : ℕ) (a b c a′ b′ c′ : List ℕ) → Only t l a b c small → Moves (2 * t) (λ q. joined q p) a b c a′ b′ c′
-      → Puts t (nextIs (getD l t 0) (getD l (8 + t) 0) 0) l l′ → Puts t (standing false t (queuesIn a′ b′ c′)) l l′
+      → Puts t (nextIs (getD l t 0) (getD l (numbers + t) 0) 0) l l′ → Puts t (standing false t (queuesIn a′ b′ c′)) l l′
   unfolding queueAt
   joined-alone p a b c a′ b′ c′ s m x =
       let n : getD c′ (2 * t) 0 ≡ getD c (2 * t) 0 + 1 = joined-len-at (2 * t) p a b c a′ b′ c′ (omega (arith, s .one)) m in
-      set-own t a′ b′ c′ l l′ small (getD l t 0) (getD l (8 + t) 0) 0 x
+      set-own t a′ b′ c′ l l′ small (getD l t 0) (getD l (numbers + t) 0) 0 x
       (s .up ∙ ap headOf (in-ring a b c (2 * t) (omega (arith, small)))
       ∙ sym (joined-head (queueAt a b c (2 * t)) p (omega (arith, s .one)) (omega (arith, s .one)))
       ∙ sym (ap headOf (m .mine)))

@@ -31,13 +31,14 @@ use Rattle.step.specs.declared.Attempt.the-variants.{Step, Try}
 use Rattle.step.specs.declared.Decided.the-variants.{Decides}
 use Rattle.step.specs.declared.Queue.{Queue}
 use Rattle.step.specs.declared.StepResult.{StepResult}
-use Rattle.step.specs.Queues.{ownNumber, sfuNumber, taskPlace, actingNumber, belowTotal, headOf, livePts, liveTotal}
+use Rattle.step.specs.Queues.{ptCount, numbers, ownNumber, sfuNumber, taskPlace, actingNumber, belowTotal, headOf, livePts, liveTotal}
 use Rattle.step.specs.State.{State, state, findRow, putRow, queueIn, processesAt, processesActing, environment}
 use Rattle.step.specs.Act.{Stepped, tableOf}
 use Rattle.step.specs.Step.{noTrap, rowDecides, attemptBy}
 use Rattle.step.specs.Code.Parts.{decidedAs, rowAfter, fatePsws, decisionPsws, Acts}
 use Rattle.step.specs.Code.Performs.{trapCourse, fateCourse, courseOf, Performs, courseResult}
 use Rattle.step.specs.Soundness.{totalSound, sound}
+use Rattle.step.specs.Laws.Act.{acting-inside}
 use Rattle.step.specs.Laws.Motions.{Tidy}
 use Rattle.step.specs.Laws.Rows.{find-task}
 use Rattle.step.specs.Laws.Sound.{Sound, sound-parts, found-hasRow, listed-holds, tidy-of}
@@ -56,7 +57,7 @@ use Rattle.run_next.specs.Code.Next.{nextAt, Acting, alone, several, fol
 use Rattle.run_next.specs.Code.Settled.{Lines, lines, queuesOf, attemptOf, resultBy, pswsBy, Ready, Settles}
 use Rattle.run_next.specs.Code.Numbers.{Cells, cells, stateFrom, Numbers, Attempted}
 use Rattle.run_next.specs.Laws.Next.{own-number, sfu-number, as-step, as-try}
-use Rattle.run_next.specs.Laws.Frees.{acting-small, Fit, course-fits}
+use Rattle.run_next.specs.Laws.Frees.{Fit, course-fits}
 use Rattle.run_next.specs.Laws.Fits.{both-fit}
 use Rattle.run_next.specs.Laws.Psws.{psws-kept}
 
@@ -86,11 +87,11 @@ flag-down fl (decision.Waits wait.Create) h e = let q : true ≡ false = cc in a
 flag-down fl (decision.Traps k p) h e = absurd (no-trap k e)
 flag-down fl (decision.Executes x) h e = fate-down fl (x .fate) (h .fate) e
 
-room-down : (live fl : ℕ) → totalSound live fl ≡ true → fl ≡ 0 → live < 64
+room-down : (live fl : ℕ) → totalSound live fl ≡ true → fl ≡ 0 → live < ptCount
 unfolding totalSound
 room-down live fl e z = on (leb 64 live) (le? 64 live) (ap (λ (b : Bool). not (leb 64 live && b)) (sym (eq-eqb fl 0 z)) ∙ e)
   where
-    on : (b : Bool) → Le? 64 live b → not (b && true) ≡ true → live < 64
+    on : (b : Bool) → Le? 64 live b → not (b && true) ≡ true → live < ptCount
     on true (below k) p = absurd (false≢true p)
     on false (above k) p = k
 
@@ -144,29 +145,29 @@ decided-length pt f (decision.Executes e) w = on (e .fate)
 
 -- ---- the process that acts
 
-acts-head : (t : ℕ) (l : List ℕ) (qs : List Queue) → t < 8 → Acting t l qs → getD l t 0 ≡ headOf (queueIn qs (actingNumber (attemptAt t l) t))
+acts-head : (t : ℕ) (l : List ℕ) (qs : List Queue) → t < numbers → Acting t l qs → getD l t 0 ≡ headOf (queueIn qs (actingNumber (attemptAt t l) t))
 unfolding nextAt actingNumber
 acts-head t l qs h (alone e o s) = rw (as-step t l (ap (λ n. n .ring) e), own-number t h) (ap (λ n. n .up) e)
 acts-head t l qs h (several e o s) = rw (as-step t l (ap (λ n. n .ring) e), own-number t h) (ap (λ n. n .up) e)
 acts-head t l qs h (follows e o) = rw (as-step t l (ap (λ n. n .ring) e), own-number t h) (ap (λ n. n .up) e)
 acts-head t l qs h (tries e o) = let r = ap (λ n. n .ring) e in rw (as-try t l (λ q. omega (arith, q, r)), sfu-number t h) (ap (λ n. n .up) e)
 
-acts-some : (t : ℕ) (l : List ℕ) (qs : List Queue) → t < 8 → Acting t l qs → queueIn qs (actingNumber (attemptAt t l) t) .len ≢ 0
+acts-some : (t : ℕ) (l : List ℕ) (qs : List Queue) → t < numbers → Acting t l qs → queueIn qs (actingNumber (attemptAt t l) t) .len ≢ 0
 unfolding nextAt actingNumber
 acts-some t l qs h (alone e o s) = rw (as-step t l (ap (λ n. n .ring) e), own-number t h) (λ z. absurd (omega (arith, o, z)))
 acts-some t l qs h (several e o s) = rw (as-step t l (ap (λ n. n .ring) e), own-number t h) (λ z. absurd (omega (arith, o, z)))
 acts-some t l qs h (follows e o) = rw (as-step t l (ap (λ n. n .ring) e), own-number t h) (λ z. absurd (omega (arith, o, z)))
 acts-some t l qs h (tries e o) = let r = ap (λ n. n .ring) e in rw (as-try t l (λ q. omega (arith, q, r)), sfu-number t h) (λ z. absurd (omega (arith, o, z)))
 
-acting-task : (a : Attempt) (t : ℕ) → t < 8 → actingNumber a t / 2 ≡ t
+acting-task : (a : Attempt) (t : ℕ) → t < numbers → actingNumber a t / 2 ≡ t
 unfolding actingNumber ownNumber sfuNumber taskPlace
-acting-task Step t h = let m : t % 8 ≡ t = omega (arith, h) in omega (arith, m)
-acting-task Try t h = let m : t % 8 ≡ t = omega (arith, h) in omega (arith, m)
+acting-task Step t h = let m : t % numbers ≡ t = omega (arith, h) in omega (arith, m)
+acting-task Try t h = let m : t % numbers ≡ t = omega (arith, h) in omega (arith, m)
 
-module _ (rs : List Row) (sp : List ℕ) (x : Lines) (m : Cells) (h : Numbers rs sp x m) (t : ℕ) (low : t < 8) (acting : Acting t (x .marks) (queuesOf x)) where
+module _ (rs : List Row) (sp : List ℕ) (x : Lines) (m : Cells) (h : Numbers rs sp x m) (t : ℕ) (low : t < numbers) (acting : Acting t (x .marks) (queuesOf x)) where
   abbrev now : State
   now =
-      state (rowsIn (x .kinds) (x .stored) rs) (tableOf (take 64 (x .psws)) (queuesOf x) (x .flag)) (m .constants) (m .registers) (m .program) (m .dataWords)
+      state (rowsIn (x .kinds) (x .stored) rs) (tableOf (take ptCount (x .psws)) (queuesOf x) (x .flag)) (m .constants) (m .registers) (m .program) (m .dataWords)
 
   abbrev which : Attempt
   which = attemptOf t x
@@ -178,7 +179,7 @@ module _ (rs : List Row) (sp : List ℕ) (x : Lines) (m : Cells) (h : Numbers rs
   unfolding stateFrom
   parts = sound-parts now (h .sound)
 
-  tidy : Tidy (take 64 (x .psws)) (queuesOf x)
+  tidy : Tidy (take ptCount (x .psws)) (queuesOf x)
   tidy = tidy-of (rowsIn (x .kinds) (x .stored) rs) (now .table .users) (parts .table)
 
   live : queueIn (queuesOf x) (actingNumber which t) .len ≢ 0
@@ -187,14 +188,14 @@ module _ (rs : List Row) (sp : List ℕ) (x : Lines) (m : Cells) (h : Numbers rs
   head-is : pt ≡ headOf (queueIn (queuesOf x) (actingNumber which t))
   head-is = acts-head t (x .marks) (queuesOf x) low acting
 
-  pub head-lt : getD (x .marks) t 0 < 64
-  head-lt = omega (arith, head-is, live-laws.head-lt (queuesOf x) tidy (actingNumber which t) (acting-small which t) live)
+  pub head-lt : getD (x .marks) t 0 < ptCount
+  head-lt = omega (arith, head-is, live-laws.head-lt (queuesOf x) tidy (actingNumber which t) (acting-inside which t) live)
 
   -- the task is listed
   pub acting-row : Row-of t rs
   acting-row =
       let r = live-row (rowsIn (x .kinds) (x .stored) rs) t (actingNumber which t) (queuesOf x) (parts .table .queues)
-      (omega (arith, acting-small which t, parts .table .sixteen)) (acting-task which t low) live in
+      (omega (arith, acting-inside which t, parts .table .sixteen)) (acting-task which t low) live in
       let y = listed (x .kinds) (x .stored) t rs (r .row) (r .finds) in
       record { row = y .row; finds = y .finds }
 
@@ -211,7 +212,7 @@ module _ (rs : List Row) (sp : List ℕ) (x : Lines) (m : Cells) (h : Numbers rs
   decision-now = decide (environmentOf the-row (getD (x .psws) pt 0) (x .flag) (m .program) (m .constants) (m .registers) (m .dataWords))
 
   -- what its process decides, and that it is done
-  module _ (untrapped : getD (x .kinds) t 0 ≡ 255) (c : Course) (ps : List ℕ) (n : Cells)
+  module _ (untrapped : getD (x .kinds) t 0 ≡ noTrap) (c : Course) (ps : List ℕ) (n : Cells)
       (p : Performs (rowIn (x .kinds) (x .stored) (acting-row .row))
       (decide (environmentOf (rowIn (x .kinds) (x .stored) (acting-row .row)) (getD (x .psws) (getD (x .marks) t 0) 0) (x .flag) (m .program) (m .constants) (m .registers) (m .dataWords)))
       (getD (x .marks) t 0) 64 c (x .psws) ps (m .registers) (n .registers) (m .dataWords) (n .dataWords)) where
@@ -229,8 +230,8 @@ module _ (rs : List Row) (sp : List ℕ) (x : Lines) (m : Cells) (h : Numbers rs
     decides : Decides decision-now ≡ decidedAs (rowDecides decide now the-row (processesActing (now .table .users) which t))
     unfolding decision-now environment processesAt
     decides =
-        head-decides now the-row (take 64 (x .psws)) (queueIn (queuesOf x) (actingNumber which t)) pt (getD (x .psws) pt 0) decision-now no-trap-yet live head-is
-        (sym (getD-take 64 (x .psws) pt 0 head-lt)) refl
+        head-decides now the-row (take ptCount (x .psws)) (queueIn (queuesOf x) (actingNumber which t)) pt (getD (x .psws) pt 0) decision-now no-trap-yet live head-is
+        (sym (getD-take ptCount (x .psws) pt 0 head-lt)) refl
 
     decided-now : SoundDecision (x .flag) decision-now
     decided-now =
@@ -239,14 +240,14 @@ module _ (rs : List Row) (sp : List ℕ) (x : Lines) (m : Cells) (h : Numbers rs
         (own-sound {rows = rowsIn (x .kinds) (x .stored) rs} {table = now .table .users} {a = which} {t = t} (record { sound = parts .table; listed = held .0; waits = held .1; nonempty = live }))
         (decides-some (rowDecides decide now the-row (processesActing (now .table .users) which t)) decision-now decides)
 
-    room : c ≡ go.Creates → liveTotal (queuesOf x) < 64
+    room : c ≡ go.Creates → liveTotal (queuesOf x) < ptCount
     unfolding the-row decision-now liveTotal
     room k = room-down (length (livePts (queuesOf x))) (x .flag) (parts .table .room) (flag-down (x .flag) decision-now decided-now (sym (p .course) ∙ k))
 
-    fresh-lt : liveTotal (queuesOf x) < 64 → trailingZeros 64 (x .free) < 64
-    fresh-lt k = subst (λ (z : ℕ). trailingZeros 64 z < 64) (sym (h .frees)) (lowest-lt (queuesOf x) k)
+    fresh-lt : liveTotal (queuesOf x) < ptCount → trailingZeros 64 (x .free) < ptCount
+    fresh-lt k = subst (λ (z : ℕ). trailingZeros 64 z < ptCount) (sym (h .frees)) (lowest-lt (queuesOf x) k)
 
-    both-few : getD (x .lens) (2 * t) 0 + getD (x .lens) (2 * t + 1) 0 ≤ 64
+    both-few : getD (x .lens) (2 * t) 0 + getD (x .lens) (2 * t + 1) 0 ≤ ptCount
     both-few = omega (arith, both-fit t (x .pts) (x .heads) (x .lens) low, total-le (queuesOf x) tidy)
 
     pub acting-ready : Ready t (getD (x .marks) t 0) c mid
@@ -257,8 +258,8 @@ module _ (rs : List Row) (sp : List ℕ) (x : Lines) (m : Cells) (h : Numbers rs
       given =
           λ k. (
             head-lt,
-            subst₂ (λ (z i : ℕ). z + 2 ^ i < 2 ^ 64) (sym (h .frees)) (sym head-is) (head-fits (queuesOf x) tidy (actingNumber which t) (acting-small which t) live),
-            omega (arith, h .counted, some-live (queuesOf x) tidy (actingNumber which t) (acting-small which t) live),
+            subst₂ (λ (z i : ℕ). z + 2 ^ i < 2 ^ 64) (sym (h .frees)) (sym head-is) (head-fits (queuesOf x) tidy (actingNumber which t) (acting-inside which t) live),
+            omega (arith, h .counted, some-live (queuesOf x) tidy (actingNumber which t) (acting-inside which t) live),
           );
       taken =
           λ k. (
@@ -270,7 +271,7 @@ module _ (rs : List Row) (sp : List ℕ) (x : Lines) (m : Cells) (h : Numbers rs
     }
 
     -- the attempt
-    module _ (r : ℕ) (y : Lines) (wide : 8 ≤ length (x .kinds)) (long : 8 ≤ length (x .stored)) (s : Settles t (getD (x .marks) t 0) c (getD ps (getD (x .marks) t 0) 0) r mid y)
+    module _ (r : ℕ) (y : Lines) (wide : numbers ≤ length (x .kinds)) (long : numbers ≤ length (x .stored)) (s : Settles t (getD (x .marks) t 0) c (getD ps (getD (x .marks) t 0) 0) r mid y)
         (constants : m .constants ≡ n .constants) (program : m .program ≡ n .program) where
       abbrev result-now : StepResult
       result-now = resultBy t c (getD ps pt 0) mid
@@ -278,25 +279,25 @@ module _ (rs : List Row) (sp : List ℕ) (x : Lines) (m : Cells) (h : Numbers rs
       -- its PT is live, and so it is not the lowest free one
       not-fresh : pt ≢ trailingZeros 64 (x .free)
       not-fresh e =
-          head-not-lowest (queuesOf x) tidy (actingNumber which t) (acting-small which t) live (sym head-is ∙ e ∙ ap (trailingZeros 64) (h .frees))
+          head-not-lowest (queuesOf x) tidy (actingNumber which t) (acting-inside which t) live (sym head-is ∙ e ∙ ap (trailingZeros 64) (h .frees))
 
-      psw-kept : getD (take 64 (y .psws)) pt 0 ≡ getD ps pt 0
+      psw-kept : getD (take ptCount (y .psws)) pt 0 ≡ getD ps pt 0
       psw-kept =
-          getD-take 64 (y .psws) pt 0 head-lt ∙ ap (λ (l : List ℕ). getD l pt 0) (s .moved .psws) ∙ by-other c (x .free) pt ps (λ _. not-fresh)
+          getD-take ptCount (y .psws) pt 0 head-lt ∙ ap (λ (l : List ℕ). getD l pt 0) (s .moved .psws) ∙ by-other c (x .free) pt ps (λ _. not-fresh)
 
-      performed : Performs the-row decision-now pt (trailingZeros 64 (x .free)) c (take 64 (x .psws)) (take 64 (y .psws)) (m .registers) (n .registers) (m .dataWords) (n .dataWords)
+      performed : Performs the-row decision-now pt (trailingZeros 64 (x .free)) c (take ptCount (x .psws)) (take ptCount (y .psws)) (m .registers) (n .registers) (m .dataWords) (n .dataWords)
       unfolding the-row decision-now
       performed = record {
         course = p .course;
         psws =
-            ap (take 64) (s .moved .psws)
-            ∙ ap₂ (λ (k : Course) (l : List ℕ). take 64 (pswsBy k (x .free) l)) (p .course) (p .psws)
+            ap (take ptCount) (s .moved .psws)
+            ∙ ap₂ (λ (k : Course) (l : List ℕ). take ptCount (pswsBy k (x .free) l)) (p .course) (p .psws)
             ∙ psws-kept pt (x .free) (x .psws) head-lt (h .wide) decision-now (λ k. fresh-lt (room (p .course ∙ k)));
         registers = p .registers;
         dataWords = p .dataWords;
       }
 
-      parts-made : Parts which t now the-row (Decides decision-now) result-now (take 64 (y .psws)) (n .registers) (n .dataWords)
+      parts-made : Parts which t now the-row (Decides decision-now) result-now (take ptCount (y .psws)) (n .registers) (n .dataWords)
       unfolding resultBy
       parts-made = record {
         head = pt;
@@ -310,10 +311,10 @@ module _ (rs : List Row) (sp : List ℕ) (x : Lines) (m : Cells) (h : Numbers rs
         places = λ _. ap belowTotal (h .counted);
         acts =
             subst (λ (q : ℕ). Acts which the-row (Decides decision-now) pt (trailingZeros 64 (x .free)) (belowTotal (x .count))
-            (courseResult which (trailingZeros 64 (x .free)) (belowTotal (x .count)) q c) (take 64 (x .psws)) (take 64 (y .psws)) (m .registers) (n .registers) (m .dataWords) (n .dataWords))
+            (courseResult which (trailingZeros 64 (x .free)) (belowTotal (x .count)) q c) (take ptCount (x .psws)) (take ptCount (y .psws)) (m .registers) (n .registers) (m .dataWords) (n .dataWords))
             psw-kept
-            (performs-acts which pt (trailingZeros 64 (x .free)) (belowTotal (x .count)) (take 64 (x .psws)) (omega (arith, head-lt, tidy .wide)) not-fresh
-            the-row decision-now c (take 64 (y .psws)) (m .registers) (n .registers) (m .dataWords) (n .dataWords) performed);
+            (performs-acts which pt (trailingZeros 64 (x .free)) (belowTotal (x .count)) (take ptCount (x .psws)) (omega (arith, head-lt, tidy .wide)) not-fresh
+            the-row decision-now c (take ptCount (y .psws)) (m .registers) (n .registers) (m .dataWords) (n .dataWords) performed);
       }
 
       rows-made : rowsIn (y .kinds) (y .stored) rs ≡ putRow t (rowAfter (result-now .ending) the-row) (rowsIn (x .kinds) (x .stored) rs)
@@ -326,7 +327,7 @@ module _ (rs : List Row) (sp : List ℕ) (x : Lines) (m : Cells) (h : Numbers rs
       attempt-is : attemptBy decide which t now ≡ record { state = stateFrom rs y n; ending = result-now .ending }
       unfolding stateFrom
       attempt-is =
-          attempt-made which t now the-row (rowAfter (result-now .ending) the-row) (Decides decision-now) result-now (take 64 (y .psws)) (n .registers) (n .dataWords) (queuesOf y) (y .flag)
+          attempt-made which t now the-row (rowAfter (result-now .ending) the-row) (Decides decision-now) result-now (take ptCount (y .psws)) (n .registers) (n .dataWords) (queuesOf y) (y .flag)
           parts-made refl (s .moved .queues) (s .moved .flag)
           ∙ rw (← rows-made, constants, program) refl
 

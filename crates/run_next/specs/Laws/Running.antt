@@ -19,7 +19,7 @@ use Rattle.step.specs.declared.Attempt.the-variants.{Step, Try}
 use Rattle.step.specs.declared.Ending.{Ending}
 use Rattle.step.specs.declared.Ending.the-variants.{Executed, Waved, Trapped, Idle}
 use Rattle.step.specs.declared.Queue.{Queue}
-use Rattle.step.specs.Queues.{ownNumber, sfuNumber, actingNumber, headOf}
+use Rattle.step.specs.Queues.{numbers, ownNumber, sfuNumber, actingNumber, headOf}
 use Rattle.step.specs.State.{State, findRow, queueIn, taskQueue}
 use Rattle.step.specs.Act.{Stepped}
 use Rattle.step.specs.Step.{noTrap, attemptBy, hasProcess, stepFollows, triesOf}
@@ -32,7 +32,7 @@ use Rattle.run.specs.Laws.Run.{sum-counted, tries-counted}
 use Rattle.run_rings.specs.Code.Records.{rowsIn}
 use Rattle.run_rings.specs.Laws.Rings.{len-in}
 use Rattle.run_rings.specs.Laws.Rows.{listed, listed-kind}
-use Rattle.run_next.specs.Code.Next.{Next, nextIs, nextAt, only, standing, Acting, alone, several, tries, hadIn, goesOn}
+use Rattle.run_next.specs.Code.Next.{noAttempt, Next, nextIs, nextAt, only, standing, Acting, alone, several, tries, hadIn, goesOn}
 use Rattle.run_next.specs.Code.Settled.{Lines, lines, queuesOf, attemptOf, resultBy, placeOf, Settles}
 use Rattle.run_next.specs.Code.Stands.{StandsAt, Stands, Between}
 use Rattle.run_next.specs.Code.Numbers.{Cells, stateFrom, Numbers, Attempted}
@@ -149,12 +149,12 @@ step-try : Step ≡ Try → ⊥
 unfolding step?
 step-try e = true≢false (ap step? e)
 
-pub ring-of : (l : List ℕ) (t : ℕ) {u r o : ℕ} → nextAt l t ≡ nextIs u r o → getD l (8 + t) 0 ≡ r
+pub ring-of : (l : List ℕ) (t : ℕ) {u r o : ℕ} → nextAt l t ≡ nextIs u r o → getD l (numbers + t) 0 ≡ r
 unfolding nextAt
 ring-of l t e = ap (λ n. n .ring) e
 
 module _ (l : List ℕ) (i : ℕ) (s₀ : State) (rows : List Row) (spans : List ℕ) (x : Lines) (m : Cells) (c : Tally) (going : Running l i s₀ rows spans x m c) (here : i < length l)
-    (small : getD l i 0 < 8) where
+    (small : getD l i 0 < numbers) where
   abbrev task : ℕ
   task = getD l i 0
 
@@ -173,7 +173,7 @@ module _ (l : List ℕ) (i : ℕ) (s₀ : State) (rows : List Row) (spans : List
   empty-sfu = ap (queueIn queues) (sfu-number task small)
 
   -- an active task without an attempt has no process
-  module _ (up : getD (x .marks) task 0 ≡ 255) (stands : nextAt (x .marks) task ≡ standing false task queues) where
+  module _ (up : getD (x .marks) task 0 ≡ noAttempt) (stands : nextAt (x .marks) task ≡ standing false task queues) where
     not-acting : Acting task (x .marks) queues → ⊥
     not-acting a = absurd (omega (arith, up, head-lt rows spans x m (going .numbers) task small a))
 
@@ -207,7 +207,7 @@ module _ (l : List ℕ) (i : ℕ) (s₀ : State) (rows : List Row) (spans : List
     active-idle a = idle-empty decide a task now (acting-none a)
 
   -- a task that has trapped, or is unlisted
-  trapped-idle : getD (x .kinds) task 0 ≢ 255 → (a : Attempt) → attemptBy decide a task now ≡ record { state = now; ending = Idle }
+  trapped-idle : getD (x .kinds) task 0 ≢ noTrap → (a : Attempt) → attemptBy decide a task now ≡ record { state = now; ending = Idle }
   unfolding stateFrom
   trapped-idle n a = on (findRow task (rowsIn (x .kinds) (x .stored) rows)) refl
     where
@@ -216,15 +216,15 @@ module _ (l : List ℕ) (i : ℕ) (s₀ : State) (rows : List Row) (spans : List
       on (some r) e =
           idle-trapped decide a task now r e (λ q. n (sym (listed-kind (x .kinds) (x .stored) task rows r (listed (x .kinds) (x .stored) task rows r e)) ∙ q))
 
-  no-attempt : getD (x .marks) task 0 ≡ 255 → StandsAt (x .kinds) (x .marks) queues task → (a : Attempt) → attemptBy decide a task now ≡ record { state = now; ending = Idle }
-  no-attempt up s a = on (eqb (getD (x .kinds) task 0) 255) (eq? (getD (x .kinds) task 0) 255)
+  no-attempt : getD (x .marks) task 0 ≡ noAttempt → StandsAt (x .kinds) (x .marks) queues task → (a : Attempt) → attemptBy decide a task now ≡ record { state = now; ending = Idle }
+  no-attempt up s a = on (eqb (getD (x .kinds) task 0) noTrap) (eq? (getD (x .kinds) task 0) noTrap)
     where
-      on : (b : Bool) → Eq? (getD (x .kinds) task 0) 255 b → attemptBy decide a task now ≡ record { state = now; ending = Idle }
+      on : (b : Bool) → Eq? (getD (x .kinds) task 0) noTrap b → attemptBy decide a task now ≡ record { state = now; ending = Idle }
       on true (same e) = active-idle up (s .active e) a
       on false (differ n) = trapped-idle n a
 
   -- an idle item
-  pub idles-on : getD (x .marks) task 0 ≡ 255 → Running l (i + 1) s₀ rows spans x m (added task (countsOf Idle 0) c)
+  pub idles-on : getD (x .marks) task 0 ≡ noAttempt → Running l (i + 1) s₀ rows spans x m (added task (countsOf Idle 0) c)
   idles-on up = on (going .tried) (going .runs) (going .stands)
     where
       on : (b : Bool) → Runs l i b s₀ now c → Standing l i (x .kinds) (x .marks) queues b → Running l (i + 1) s₀ rows spans x m (added task (countsOf Idle 0) c)
@@ -237,7 +237,7 @@ module _ (l : List ℕ) (i : ℕ) (s₀ : State) (rows : List Row) (spans : List
       }
 
   -- an attempt
-  module _ (up : getD (x .marks) task 0 ≢ 255) where
+  module _ (up : getD (x .marks) task 0 ≢ noAttempt) where
     pub acting-now : Acting task (x .marks) (queuesOf x)
     acting-now = on (going .tried) (going .stands)
       where
@@ -245,21 +245,21 @@ module _ (l : List ℕ) (i : ℕ) (s₀ : State) (rows : List Row) (spans : List
         on true (between k b) = between-acting (x .kinds) (x .marks) queues task b
         on false (before s) = stands-acting (x .kinds) (x .marks) queues task (s .stands task small) up
 
-    pub untrapped-now : getD (x .kinds) task 0 ≡ 255
+    pub untrapped-now : getD (x .kinds) task 0 ≡ noTrap
     untrapped-now = on (going .tried) (going .stands)
       where
-        by : (b : Bool) → Eq? (getD (x .kinds) task 0) 255 b → StandsAt (x .kinds) (x .marks) queues task → getD (x .kinds) task 0 ≡ 255
+        by : (b : Bool) → Eq? (getD (x .kinds) task 0) noTrap b → StandsAt (x .kinds) (x .marks) queues task → getD (x .kinds) task 0 ≡ noTrap
         by true (same e) s = e
         by false (differ n) s = absurd (up (s .idle n))
 
-        on : (b : Bool) → Standing l i (x .kinds) (x .marks) queues b → getD (x .kinds) task 0 ≡ 255
+        on : (b : Bool) → Standing l i (x .kinds) (x .marks) queues b → getD (x .kinds) task 0 ≡ noTrap
         on true (between k b) = b .active
-        on false (before s) = by (eqb (getD (x .kinds) task 0) 255) (eq? (getD (x .kinds) task 0) 255) (s .stands task small)
+        on false (before s) = by (eqb (getD (x .kinds) task 0) noTrap) (eq? (getD (x .kinds) task 0) noTrap) (s .stands task small)
 
-    others-now : (u : ℕ) → u < 8 → u ≢ task → StandsAt (x .kinds) (x .marks) queues u
+    others-now : (u : ℕ) → u < numbers → u ≢ task → StandsAt (x .kinds) (x .marks) queues u
     others-now = on (going .tried) (going .stands)
       where
-        on : (b : Bool) → Standing l i (x .kinds) (x .marks) queues b → (u : ℕ) → u < 8 → u ≢ task → StandsAt (x .kinds) (x .marks) queues u
+        on : (b : Bool) → Standing l i (x .kinds) (x .marks) queues b → (u : ℕ) → u < numbers → u ≢ task → StandsAt (x .kinds) (x .marks) queues u
         on true (between k b) = b .stands
         on false (before s) = λ u h n. s .stands u h
 
@@ -283,7 +283,7 @@ module _ (l : List ℕ) (i : ℕ) (s₀ : State) (rows : List Row) (spans : List
     has-now = ap (λ (n : ℕ). not (eqb n 0)) (ap (λ (q : Queue). q .len) empty-own ∙ len-in (x .pts) (x .heads) (x .lens) (2 * task) (omega (arith, small)))
 
     -- performed and settled
-    module _ (pt p r : ℕ) (k : Course) (ps : List ℕ) (y : Lines) (n : Cells) (wide : 8 ≤ length (x .kinds))
+    module _ (pt p r : ℕ) (k : Course) (ps : List ℕ) (y : Lines) (n : Cells) (wide : numbers ≤ length (x .kinds))
         (settles : Settles task pt k p r (lines (x .marks) (x .pts) (x .heads) (x .lens) (x .kinds) (x .stored) ps (x .flag) (x .free) (x .count)) y)
         (attempted : Attempted (attemptOf task x) task (resultBy task k p (lines (x .marks) (x .pts) (x .heads) (x .lens) (x .kinds) (x .stored) ps (x .flag) (x .free) (x .count)) .ending) rows spans x m y n) where
       abbrev mid : Lines

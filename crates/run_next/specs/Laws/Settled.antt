@@ -21,13 +21,13 @@ use Rattle.step.specs.declared.Motion.{Motion}
 use Rattle.step.specs.declared.Motion.the-variants.{Stays, Turns, Leaves, Joins}
 use Rattle.step.specs.declared.Queue.{Queue}
 use Rattle.step.specs.declared.StepResult.{StepResult}
-use Rattle.step.specs.Queues.{ownNumber, belowTotal}
+use Rattle.step.specs.Queues.{numbers, ownNumber, belowTotal}
 use Rattle.step.specs.Act.{joinedAt}
 use Rattle.step.specs.Code.Parts.{result, movedQueues, flagAfter, executedMotion, wavedMotion, createdMotion}
 use Rattle.step.specs.Code.Performs.{courseResult}
 use Rattle.run_rings.specs.Code.Rings.{queuesIn}
 use Rattle.run_rings.specs.Code.Records.{kindsAfter, storedAfter}
-use Rattle.run_next.specs.Code.Next.{Next, nextIs, standing, Puts, attemptAt, hadIn, followed, placeAfter, goingMotion, Goes}
+use Rattle.run_next.specs.Code.Next.{noPlace, noAttempt, Next, nextIs, standing, Puts, attemptAt, hadIn, followed, placeAfter, goingMotion, Goes}
 use Rattle.run_next.specs.Code.Settled.{Lines, lines, queuesOf, attemptOf, resultBy, placeOf, nextBy, freeBy, countBy, pswsBy, Ready, Makes, Moved, Settles, goingPlace, trapBy, Others}
 use Rattle.run_next.specs.Laws.Next.{own-number, puts-as, as-step, as-try, acts-ring}
 
@@ -51,7 +51,7 @@ unfolding flagAfter wavedMotion
 flag-parked Step f = refl
 flag-parked Try f = refl
 
-place-lt : (a : Attempt) (had : Bool) (p : ℕ) → p < 16 → placeAfter a had p < 72
+place-lt : (a : Attempt) (had : Bool) (p : ℕ) → p < 2 * numbers → placeAfter a had p < noPlace
 unfolding placeAfter
 place-lt Step had p h = omega (arith, h)
 place-lt Try true p h = omega (arith, h)
@@ -114,7 +114,7 @@ module _ (t pt p r : ℕ) (c : Course) (x y : Lines) where
       next e place i = next-stands t (attemptOf t x) (hadIn t (x .lens)) e place (queuesOf y) (x .marks) i
 
 -- the process goes on, or waits though not for a data word
-pub going-settles : (t pt p r : ℕ) (c : Course) (x y : Lines) → goingPlace c ≢ 72 → r ≡ placeAfter (attemptOf t x) (hadIn t (x .lens)) (goingPlace c)
+pub going-settles : (t pt p r : ℕ) (c : Course) (x y : Lines) → goingPlace c ≢ noPlace → r ≡ placeAfter (attemptOf t x) (hadIn t (x .lens)) (goingPlace c)
     → Goes t (hadIn t (x .lens)) (goingMotion (eqb (goingPlace c) 8)) (x .pts) (x .heads) (x .lens) (x .marks) (y .pts) (y .heads) (y .lens) (y .marks)
     → y .kinds ≡ x .kinds → y .stored ≡ x .stored → y .flag ≡ x .flag → y .free ≡ x .free → y .count ≡ x .count → y .psws ≡ x .psws → Settles t pt c p r x y
 unfolding goingPlace goingMotion resultBy courseResult freeBy countBy pswsBy flagAfter
@@ -134,7 +134,7 @@ going-settles t pt p r go.DataException x y n o g k s f z m w = absurd (n refl)
 
 -- ---- the other courses
 
-settled-others : (t pt p r : ℕ) (c : Course) (x y : Lines) → r < 72 → Settles t pt c p r x y → Others t pt c p r x y
+settled-others : (t pt p r : ℕ) (c : Course) (x y : Lines) → r < noPlace → Settles t pt c p r x y → Others t pt c p r x y
 settled-others t pt p r c x y h s = record { moved = s .moved; settled = λ n. s; traps = λ e. absurd (omega (arith, h, e)) }
 
 pub parks-others : (t pt p r : ℕ) (c : Course) (x y : Lines) → c ≡ go.WaitsForData → r ≡ placeAfter (attemptOf t x) (hadIn t (x .lens)) 8
@@ -155,7 +155,7 @@ quits-others t pt p r c x y e o g k s f z m w =
     (settled-others t pt p r go.Quits x y (omega (arith, o, place-lt (attemptOf t x) (hadIn t (x .lens)) 0 (omega arith)))
     (settle-goes t pt p r go.Quits x y (λ a. Leaves) Executed 0 executed refl refl o g k s f z m w))
 
-module _ (t pt p r : ℕ) (x y : Lines) (small : t < 8) (k : y .kinds ≡ x .kinds) (s : y .stored ≡ x .stored) (z : y .free ≡ x .free - 2 ^ trailingZeros 64 (x .free)) (m : y .count ≡ x .count + 1)
+module _ (t pt p r : ℕ) (x y : Lines) (small : t < numbers) (k : y .kinds ≡ x .kinds) (s : y .stored ≡ x .stored) (z : y .free ≡ x .free - 2 ^ trailingZeros 64 (x .free)) (m : y .count ≡ x .count + 1)
     (w : y .psws ≡ set (x .psws) (trailingZeros 64 (x .free)) (getD (x .psws) 64 0)) where
   new : ℕ
   new = trailingZeros 64 (x .free)
@@ -194,7 +194,7 @@ module _ (t pt p r : ℕ) (x y : Lines) (small : t < 8) (k : y .kinds ≡ x .kin
 
 -- a course that traps and changes no queue
 pub traps-others : (t pt p : ℕ) (c : Course) (x : Lines) → ((y : Lines) → resultBy t c p y ≡ result (Trapped (trapBy c) p) Stays) → freeBy c pt (x .free) ≡ x .free → countBy c (x .count) ≡ x .count
-    → pswsBy c (x .free) (x .psws) ≡ x .psws → Others t pt c p 72 x x
+    → pswsBy c (x .free) (x .psws) ≡ x .psws → Others t pt c p noPlace x x
 unfolding movedQueues flagAfter
 traps-others t pt p c x i z m w = record {
   moved = record {
@@ -209,8 +209,8 @@ traps-others t pt p c x i z m w = record {
 }
 
 -- the trap behind it
-pub trap-settles : (t pt p r r₀ k₀ : ℕ) (c : Course) (x y z : Lines) → Others t pt c p r₀ x y → r₀ ≡ 72 → k₀ ≡ kindOf (trapBy c) → r ≡ placeAfter (attemptOf t y) false 16 → z .kinds ≡ set (y .kinds) t k₀
-    → z .stored ≡ set (y .stored) t p → Puts t (nextIs 255 (getD (y .marks) (8 + t) 0) (getD (y .marks) (16 + t) 0)) (y .marks) (z .marks)
+pub trap-settles : (t pt p r r₀ k₀ : ℕ) (c : Course) (x y z : Lines) → Others t pt c p r₀ x y → r₀ ≡ noPlace → k₀ ≡ kindOf (trapBy c) → r ≡ placeAfter (attemptOf t y) false 16 → z .kinds ≡ set (y .kinds) t k₀
+    → z .stored ≡ set (y .stored) t p → Puts t (nextIs noAttempt (getD (y .marks) (numbers + t) 0) (getD (y .marks) (2 * numbers + t) 0)) (y .marks) (z .marks)
     → y .kinds ≡ x .kinds → y .stored ≡ x .stored → z .pts ≡ y .pts → z .heads ≡ y .heads → z .lens ≡ y .lens → z .flag ≡ y .flag → z .free ≡ y .free → z .count ≡ y .count → z .psws ≡ y .psws
     → Settles t pt c p r x z
 unfolding placeOf kindsAfter storedAfter nextBy
@@ -226,26 +226,26 @@ trap-settles t pt p r r₀ k₀ c x y z o same j₀ q k s u f g a b d v w n h =
         psws = h ∙ o .moved .psws;
       };
       place =
-          q ∙ ap (λ (l : List ℕ). placeAfter (attemptAt t l) false 16) (e .1)
+          q ∙ ap (λ (l : List ℕ). placeAfter (attemptAt t l) false (2 * numbers)) (e .1)
           ∙ sym (ap (λ (j : Ending). placeOf (attemptOf t x) (hadIn t (x .lens)) j) (e .0));
       kinds = k ∙ ap (λ (l : List ℕ). set l t k₀) f ∙ ap (set (x .kinds) t) j₀ ∙ sym (ap (λ (j : Ending). kindsAfter j t (x .kinds)) (e .0));
       stored = s ∙ ap (λ (l : List ℕ). set l t p) g ∙ sym (ap (λ (j : Ending). storedAfter j t (x .stored)) (e .0));
       marks =
-          puts-as t (nextIs 255 (getD (x .marks) (8 + t) 0) (getD (x .marks) (16 + t) 0)) (nextBy t (attemptOf t x) (hadIn t (x .lens)) (resultBy t c p x .ending) (queuesOf z) (x .marks)) (x .marks) (z .marks)
+          puts-as t (nextIs noAttempt (getD (x .marks) (numbers + t) 0) (getD (x .marks) (2 * numbers + t) 0)) (nextBy t (attemptOf t x) (hadIn t (x .lens)) (resultBy t c p x .ending) (queuesOf z) (x .marks)) (x .marks) (z .marks)
           (ap (λ (j : Ending). nextBy t (attemptOf t x) (hadIn t (x .lens)) j (queuesOf z) (x .marks)) (e .0))
-          (subst (λ (l : List ℕ). Puts t (nextIs 255 (getD l (8 + t) 0) (getD l (16 + t) 0)) l (z .marks)) (e .1) u);
+          (subst (λ (l : List ℕ). Puts t (nextIs noAttempt (getD l (numbers + t) 0) (getD l (2 * numbers + t) 0)) l (z .marks)) (e .1) u);
     }
 
 -- ---- what the functions need
 
-pub going-by : (t pt p r place : ℕ) (c : Course) (x y : Lines) → place ≡ goingPlace c → place ≢ 72 → r ≡ placeAfter (attemptOf t x) (hadIn t (x .lens)) place
-    → Goes t (hadIn t (x .lens)) (goingMotion (eqb place 8)) (x .pts) (x .heads) (x .lens) (x .marks) (y .pts) (y .heads) (y .lens) (y .marks)
+pub going-by : (t pt p r place : ℕ) (c : Course) (x y : Lines) → place ≡ goingPlace c → place ≢ noPlace → r ≡ placeAfter (attemptOf t x) (hadIn t (x .lens)) place
+    → Goes t (hadIn t (x .lens)) (goingMotion (eqb place numbers)) (x .pts) (x .heads) (x .lens) (x .marks) (y .pts) (y .heads) (y .lens) (y .marks)
     → y .kinds ≡ x .kinds → y .stored ≡ x .stored → y .flag ≡ x .flag → y .free ≡ x .free → y .count ≡ x .count → y .psws ≡ x .psws → Settles t pt c p r x y
 going-by t pt p r place c x y e n o g =
     going-settles t pt p r c x y (λ z. n (e ∙ z)) (o ∙ ap (placeAfter (attemptOf t x) (hadIn t (x .lens))) e)
-    (subst (λ (i : ℕ). Goes t (hadIn t (x .lens)) (goingMotion (eqb i 8)) (x .pts) (x .heads) (x .lens) (x .marks) (y .pts) (y .heads) (y .lens) (y .marks)) e g)
+    (subst (λ (i : ℕ). Goes t (hadIn t (x .lens)) (goingMotion (eqb i numbers)) (x .pts) (x .heads) (x .lens) (x .marks) (y .pts) (y .heads) (y .lens) (y .marks)) e g)
 
-pub going-lt : (c : Course) (place : ℕ) → place ≡ goingPlace c → place ≢ 72 → place < 32
+pub going-lt : (c : Course) (place : ℕ) → place ≡ goingPlace c → place ≢ noPlace → place < 32
 unfolding goingPlace
 going-lt go.Continues place e n = omega (arith, e)
 going-lt go.Waits place e n = omega (arith, e)
@@ -260,35 +260,35 @@ going-lt go.SupervisorCall place e n = absurd (n e)
 going-lt go.SimulatedInstruction place e n = absurd (n e)
 going-lt go.DataException place e n = absurd (n e)
 
-pub traps-create-fault : (t pt p : ℕ) (c : Course) (x : Lines) → c ≡ go.CreateFault → Others t pt c p 72 x x
+pub traps-create-fault : (t pt p : ℕ) (c : Course) (x : Lines) → c ≡ go.CreateFault → Others t pt c p noPlace x x
 unfolding resultBy courseResult freeBy countBy pswsBy trapBy
-traps-create-fault t pt p c x e = subst (λ (c : Course). Others t pt c p 72 x x) (sym e) (traps-others t pt p go.CreateFault x (λ y. refl) refl refl refl)
+traps-create-fault t pt p c x e = subst (λ (c : Course). Others t pt c p noPlace x x) (sym e) (traps-others t pt p go.CreateFault x (λ y. refl) refl refl refl)
 
-pub traps-illegal-instruction : (t pt p : ℕ) (c : Course) (x : Lines) → c ≡ go.IllegalInstruction → Others t pt c p 72 x x
+pub traps-illegal-instruction : (t pt p : ℕ) (c : Course) (x : Lines) → c ≡ go.IllegalInstruction → Others t pt c p noPlace x x
 unfolding resultBy courseResult freeBy countBy pswsBy trapBy
-traps-illegal-instruction t pt p c x e = subst (λ (c : Course). Others t pt c p 72 x x) (sym e) (traps-others t pt p go.IllegalInstruction x (λ y. refl) refl refl refl)
+traps-illegal-instruction t pt p c x e = subst (λ (c : Course). Others t pt c p noPlace x x) (sym e) (traps-others t pt p go.IllegalInstruction x (λ y. refl) refl refl refl)
 
-pub traps-protection-violation : (t pt p : ℕ) (c : Course) (x : Lines) → c ≡ go.ProtectionViolation → Others t pt c p 72 x x
+pub traps-protection-violation : (t pt p : ℕ) (c : Course) (x : Lines) → c ≡ go.ProtectionViolation → Others t pt c p noPlace x x
 unfolding resultBy courseResult freeBy countBy pswsBy trapBy
-traps-protection-violation t pt p c x e = subst (λ (c : Course). Others t pt c p 72 x x) (sym e) (traps-others t pt p go.ProtectionViolation x (λ y. refl) refl refl refl)
+traps-protection-violation t pt p c x e = subst (λ (c : Course). Others t pt c p noPlace x x) (sym e) (traps-others t pt p go.ProtectionViolation x (λ y. refl) refl refl refl)
 
-pub traps-privileged-instruction : (t pt p : ℕ) (c : Course) (x : Lines) → c ≡ go.PrivilegedInstruction → Others t pt c p 72 x x
+pub traps-privileged-instruction : (t pt p : ℕ) (c : Course) (x : Lines) → c ≡ go.PrivilegedInstruction → Others t pt c p noPlace x x
 unfolding resultBy courseResult freeBy countBy pswsBy trapBy
-traps-privileged-instruction t pt p c x e = subst (λ (c : Course). Others t pt c p 72 x x) (sym e) (traps-others t pt p go.PrivilegedInstruction x (λ y. refl) refl refl refl)
+traps-privileged-instruction t pt p c x e = subst (λ (c : Course). Others t pt c p noPlace x x) (sym e) (traps-others t pt p go.PrivilegedInstruction x (λ y. refl) refl refl refl)
 
-pub traps-supervisor-call : (t pt p : ℕ) (c : Course) (x : Lines) → c ≡ go.SupervisorCall → Others t pt c p 72 x x
+pub traps-supervisor-call : (t pt p : ℕ) (c : Course) (x : Lines) → c ≡ go.SupervisorCall → Others t pt c p noPlace x x
 unfolding resultBy courseResult freeBy countBy pswsBy trapBy
-traps-supervisor-call t pt p c x e = subst (λ (c : Course). Others t pt c p 72 x x) (sym e) (traps-others t pt p go.SupervisorCall x (λ y. refl) refl refl refl)
+traps-supervisor-call t pt p c x e = subst (λ (c : Course). Others t pt c p noPlace x x) (sym e) (traps-others t pt p go.SupervisorCall x (λ y. refl) refl refl refl)
 
-pub traps-simulated-instruction : (t pt p : ℕ) (c : Course) (x : Lines) → c ≡ go.SimulatedInstruction → Others t pt c p 72 x x
+pub traps-simulated-instruction : (t pt p : ℕ) (c : Course) (x : Lines) → c ≡ go.SimulatedInstruction → Others t pt c p noPlace x x
 unfolding resultBy courseResult freeBy countBy pswsBy trapBy
-traps-simulated-instruction t pt p c x e = subst (λ (c : Course). Others t pt c p 72 x x) (sym e) (traps-others t pt p go.SimulatedInstruction x (λ y. refl) refl refl refl)
+traps-simulated-instruction t pt p c x e = subst (λ (c : Course). Others t pt c p noPlace x x) (sym e) (traps-others t pt p go.SimulatedInstruction x (λ y. refl) refl refl refl)
 
-pub traps-data-exception : (t pt p : ℕ) (c : Course) (x : Lines) → c ≡ go.DataException → Others t pt c p 72 x x
+pub traps-data-exception : (t pt p : ℕ) (c : Course) (x : Lines) → c ≡ go.DataException → Others t pt c p noPlace x x
 unfolding resultBy courseResult freeBy countBy pswsBy trapBy
-traps-data-exception t pt p c x e = subst (λ (c : Course). Others t pt c p 72 x x) (sym e) (traps-others t pt p go.DataException x (λ y. refl) refl refl refl)
+traps-data-exception t pt p c x e = subst (λ (c : Course). Others t pt c p noPlace x x) (sym e) (traps-others t pt p go.DataException x (λ y. refl) refl refl refl)
 
-pub makes-faults : (t p q r : ℕ) (below : Bool) (l a b c : List ℕ) (f : ℕ) (a′ b′ c′ : List ℕ) → below ≡ false → q ≡ p → queuesIn a′ b′ c′ ≡ joinedAt (queuesIn a b c) (2 * t) q → r ≡ 72
+pub makes-faults : (t p q r : ℕ) (below : Bool) (l a b c : List ℕ) (f : ℕ) (a′ b′ c′ : List ℕ) → below ≡ false → q ≡ p → queuesIn a′ b′ c′ ≡ joinedAt (queuesIn a b c) (2 * t) q → r ≡ noPlace
     → Makes t p below r l a b c f l a′ b′ c′ 1
 makes-faults t p q r below l a b c f a′ b′ c′ e i j o =
     record { goes = λ z. absurd (true≢false (sym z ∙ e)); faults = λ z. (o, j ∙ ap (joinedAt (queuesIn a b c) (2 * t)) i, refl, refl) }
@@ -299,18 +299,18 @@ makes-goes t p q r below l a b c f l′ a′ b′ c′ e i o g =
     record { goes = λ z. (o, subst (λ (n : ℕ). Goes t (hadIn t c) (λ d. createdMotion d n) a b c l a′ b′ c′ l′) i g, refl); faults = λ z. absurd (true≢false (sym e ∙ z)) }
 
 -- the place of a trap
-pub trap-step : (t : ℕ) (l : List ℕ) → getD l (8 + t) 0 ≡ 2 * t → 16 ≡ placeAfter (attemptAt t l) false 16
+pub trap-step : (t : ℕ) (l : List ℕ) → getD l (numbers + t) 0 ≡ 2 * t → 16 ≡ placeAfter (attemptAt t l) false (2 * numbers)
 unfolding placeAfter
-trap-step t l e = ap (λ (a : Attempt). placeAfter a false 16) (sym (as-step t l e))
+trap-step t l e = ap (λ (a : Attempt). placeAfter a false (2 * numbers)) (sym (as-step t l e))
 
-pub trap-try : (t : ℕ) (l : List ℕ) → getD l (8 + t) 0 ≢ 2 * t → 48 ≡ placeAfter (attemptAt t l) false 16
+pub trap-try : (t : ℕ) (l : List ℕ) → getD l (numbers + t) 0 ≢ 2 * t → 48 ≡ placeAfter (attemptAt t l) false (2 * numbers)
 unfolding placeAfter
-trap-try t l n = ap (λ (a : Attempt). placeAfter a false 16) (sym (as-try t l n))
+trap-try t l n = ap (λ (a : Attempt). placeAfter a false (2 * numbers)) (sym (as-try t l n))
 
 -- trap records are no matter of what is ready
 pub ready-any : (t pt : ℕ) (c : Course) (l a b d k s w : List ℕ) (f z n : ℕ) → Ready t pt c (lines l a b d k s w f z n) → (k′ s′ : List ℕ) → Ready t pt c (lines l a b d k′ s′ w f z n)
 ready-any t pt c l a b d k s w f z n r k′ s′ = record { small = r .small; acting = r .acting; fits = r .fits; given = r .given; taken = r .taken }
 
-pub trap-ring : (t pt p r : ℕ) (c : Course) (x y : Lines) → Others t pt c p r x y → r ≡ 72 → Ready t pt c x → getD (y .marks) (8 + t) 0 ≤ 2 * t + 1
+pub trap-ring : (t pt p r : ℕ) (c : Course) (x y : Lines) → Others t pt c p r x y → r ≡ noPlace → Ready t pt c x → getD (y .marks) (numbers + t) 0 ≤ 2 * t + 1
 trap-ring t pt p r c x y o e d =
-    subst (λ (l : List ℕ). getD l (8 + t) 0 ≤ 2 * t + 1) (sym (o .traps e .1)) (acts-ring t (x .marks) (x .pts) (x .heads) (x .lens) (d .small) (d .acting))
+    subst (λ (l : List ℕ). getD l (numbers + t) 0 ≤ 2 * t + 1) (sym (o .traps e .1)) (acts-ring t (x .marks) (x .pts) (x .heads) (x .lens) (d .small) (d .acting))

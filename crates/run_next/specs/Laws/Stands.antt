@@ -9,6 +9,7 @@ use lib.Dec.{eqb, leb}
 use lib.ListN.{length, getD, set, length-set}
 use lib.Seq.{getD-set-same, getD-set-other}
 use borrow.Author.Tests.{eqb-false, not-true}
+use Rattle.run_rings.specs.Code.Rings.{ringCount}
 use Rattle.run_rings.specs.Laws.Rings.{len-in, length-in}
 use Rattle.word.specs.Laws.Bools.{Eq?, same, differ, eq?}
 use Rattle.operation.specs.declared.Course.{Course}
@@ -18,7 +19,7 @@ use Rattle.operation.specs.declared.Trap.the-variants as trap
 use Rattle.operation.specs.Environment.{kindOf}
 use Rattle.step.specs.declared.Ending.{Ending}
 use Rattle.step.specs.declared.Ending.the-variants.{Executed, Waved, Trapped, Idle}
-use Rattle.step.specs.Queues.{belowTotal}
+use Rattle.step.specs.Queues.{numbers, belowTotal}
 use Rattle.step.specs.Code.Performs.{courseResult}
 use lib.Count.{trailingZeros}
 use Rattle.run_rings.specs.Code.Records.{kindsAfter}
@@ -31,9 +32,9 @@ use Rattle.step.specs.declared.Queue.{Queue}
 use Rattle.step.specs.Queues.{ownNumber, sfuNumber, actingNumber, tailIndex, headOf, turned, shifted, joined}
 use Rattle.step.specs.State.{noQueue, queueIn, withQueue}
 use Rattle.step.specs.Act.{turnedAt, leftAt, joinedAt, passedTo}
-use Rattle.step.specs.Step.{stepFollows}
+use Rattle.step.specs.Step.{noTrap, stepFollows}
 use Rattle.step.specs.Code.Parts.{movedQueues, otherNumber}
-use Rattle.run_next.specs.Code.Next.{nextIs, nextAt, only, itemNext, standing, Puts, Acting, alone, several, follows, tries, hadIn, followed, goesOn, placeAfter}
+use Rattle.run_next.specs.Code.Next.{thenPlaces, noAttempt, nextIs, nextAt, only, itemNext, standing, Puts, Acting, alone, several, follows, tries, hadIn, followed, goesOn, placeAfter}
 use Rattle.run_next.specs.Code.Stands.{StandsAt, Stands, Between, Laid}
 use Rattle.run_next.specs.Laws.Next.{own-number, sfu-number, stands-sfu, stands-none, stands-own}
 
@@ -48,7 +49,7 @@ up-same l l′ u e = ap (λ n. n .up) e
 -- ---- the attempt that is made
 
 module _ (kinds l : List ℕ) (qs : List Queue) (t : ℕ) where
-  acts : nextAt l t ≡ standing false t qs → getD l t 0 ≢ 255 → Acting t l qs
+  acts : nextAt l t ≡ standing false t qs → getD l t 0 ≢ noAttempt → Acting t l qs
   unfolding only
   acts e n = on (eqb (queueIn qs (2 * t + 1) .len) 0) (eq? (queueIn qs (2 * t + 1) .len) 0)
     where
@@ -64,10 +65,10 @@ module _ (kinds l : List ℕ) (qs : List Queue) (t : ℕ) where
       on true (same f) = own (eqb (queueIn qs (2 * t) .len) 0) (eq? (queueIn qs (2 * t) .len) 0) f
       on false (differ f) = tries (e ∙ stands-sfu t qs f) (omega (arith, f))
 
-  pub stands-acting : StandsAt kinds l qs t → getD l t 0 ≢ 255 → Acting t l qs
-  stands-acting s n = on (eqb (getD kinds t 0) 255) (eq? (getD kinds t 0) 255)
+  pub stands-acting : StandsAt kinds l qs t → getD l t 0 ≢ noAttempt → Acting t l qs
+  stands-acting s n = on (eqb (getD kinds t 0) noTrap) (eq? (getD kinds t 0) noTrap)
     where
-      on : (b : Bool) → Eq? (getD kinds t 0) 255 b → Acting t l qs
+      on : (b : Bool) → Eq? (getD kinds t 0) noTrap b → Acting t l qs
       on true (same f) = acts (s .active f) n
       on false (differ f) = absurd (n (s .idle f))
 
@@ -113,7 +114,7 @@ module _ (t j : ℕ) (own : j ≢ ownNumber t) (sfu : j ≢ sfuNumber t) where
       join-keeps (passedTo qs (actingNumber a t) (otherNumber a t)) (ownNumber t) p own ∙ pass-keeps qs (actingNumber a t) (otherNumber a t) (not-acting a) (not-other a)
   moved-other (Joins p) a qs = join-keeps qs (ownNumber t) p own
 
-module _ (t u : ℕ) (tl : t < 8) (ul : u < 8) (apart : u ≢ t) where
+module _ (t u : ℕ) (tl : t < numbers) (ul : u < numbers) (apart : u ≢ t) where
   -- what stands of another task
   pub standing-other : (m : Motion) (a : Attempt) (qs : List Queue) → standing false u (movedQueues m a t qs) ≡ standing false u qs
   unfolding standing
@@ -158,7 +159,7 @@ kinds-other Waved t u l n = refl
 kinds-other (Trapped k p) t u l n = getD-set-other l t u (kindOf k) 0 n
 kinds-other Idle t u l n = refl
 
-kind-lt : (k : Trap) → kindOf k < 255
+kind-lt : (k : Trap) → kindOf k < noTrap
 unfolding kindOf
 kind-lt trap.CreateFault = omega arith
 kind-lt trap.IllegalInstruction = omega arith
@@ -198,15 +199,15 @@ unfolding followed goesOn stepFollows
 waved-goes Step had = refl
 waved-goes Try had = refl
 
-module _ (t pt p r : ℕ) (c : Course) (x y : Lines) (tl : t < 8) (wide : 8 ≤ length (x .kinds)) (settles : Settles t pt c p r x y) where
+module _ (t pt p r : ℕ) (c : Course) (x y : Lines) (tl : t < numbers) (wide : numbers ≤ length (x .kinds)) (settles : Settles t pt c p r x y) where
   -- of the other tasks
-  pub kept-other : (u : ℕ) → u < 8 → u ≢ t → StandsAt (x .kinds) (x .marks) (queuesOf x) u → StandsAt (y .kinds) (y .marks) (queuesOf y) u
+  pub kept-other : (u : ℕ) → u < numbers → u ≢ t → StandsAt (x .kinds) (x .marks) (queuesOf x) u → StandsAt (y .kinds) (y .marks) (queuesOf y) u
   kept-other u ul n s =
       subst (λ (qs : List Queue). StandsAt (y .kinds) (y .marks) qs u) (sym (settles .moved .queues))
       (stands-other t u tl ul n (resultBy t c p x .motion) (attemptOf t x) (queuesOf x) (x .kinds) (y .kinds) (x .marks) (y .marks)
       (ap (λ (l : List ℕ). getD l u 0) (settles .kinds) ∙ kinds-other (resultBy t c p x .ending) t u (x .kinds) n) (settles .marks .others u ul n) s)
 
-  here : (e : Ending) → resultBy t c p x .ending ≡ e → getD (x .kinds) t 0 ≡ 255 → goesOn (attemptOf t x) (hadIn t (x .lens)) e ≡ false → StandsAt (y .kinds) (y .marks) (queuesOf y) t
+  here : (e : Ending) → resultBy t c p x .ending ≡ e → getD (x .kinds) t 0 ≡ noTrap → goesOn (attemptOf t x) (hadIn t (x .lens)) e ≡ false → StandsAt (y .kinds) (y .marks) (queuesOf y) t
   unfolding nextBy kindsAfter
   here Executed i k f = record {
     idle = λ n. absurd (n (ap (λ (l : List ℕ). getD l t 0) (settles .kinds ∙ ap (λ (e : Ending). kindsAfter e t (x .kinds)) i) ∙ k));
@@ -224,7 +225,7 @@ module _ (t pt p r : ℕ) (c : Course) (x y : Lines) (tl : t < 8) (wide : 8 ≤ 
     where
       trapped : (d : Trap) (q : ℕ) → resultBy t c p x .ending ≡ Trapped d q → StandsAt (y .kinds) (y .marks) (queuesOf y) t
       trapped d q i = record {
-        idle = λ n. up-of (y .marks) t 255 (getD (x .marks) (8 + t) 0) (getD (x .marks) (16 + t) 0)
+        idle = λ n. up-of (y .marks) t noAttempt (getD (x .marks) (numbers + t) 0) (getD (x .marks) (2 * numbers + t) 0)
             (settles .marks .mine ∙ ap (λ (e : Ending). nextBy t (attemptOf t x) (hadIn t (x .lens)) e (queuesOf y) (x .marks)) i);
         active = λ z.
             let v : getD (y .kinds) t 0 ≡ kindOf d =
@@ -237,15 +238,15 @@ module _ (t pt p r : ℕ) (c : Course) (x y : Lines) (tl : t < 8) (wide : 8 ≤ 
       never i = not-idle t c p x i
 
   -- of the task itself, where no step follows
-  pub kept-here : getD (x .kinds) t 0 ≡ 255 → goesOn (attemptOf t x) (hadIn t (x .lens)) (resultBy t c p x .ending) ≡ false → StandsAt (y .kinds) (y .marks) (queuesOf y) t
+  pub kept-here : getD (x .kinds) t 0 ≡ noTrap → goesOn (attemptOf t x) (hadIn t (x .lens)) (resultBy t c p x .ending) ≡ false → StandsAt (y .kinds) (y .marks) (queuesOf y) t
   kept-here = here (resultBy t c p x .ending) refl
 
   -- a step, or a try that no step follows, keeps the invariant
-  pub stands-kept : getD (x .kinds) t 0 ≡ 255 → goesOn (attemptOf t x) (hadIn t (x .lens)) (resultBy t c p x .ending) ≡ false → ((u : ℕ) → u < 8 → u ≢ t → StandsAt (x .kinds) (x .marks) (queuesOf x) u)
+  pub stands-kept : getD (x .kinds) t 0 ≡ noTrap → goesOn (attemptOf t x) (hadIn t (x .lens)) (resultBy t c p x .ending) ≡ false → ((u : ℕ) → u < numbers → u ≢ t → StandsAt (x .kinds) (x .marks) (queuesOf x) u)
       → Stands (y .kinds) (y .marks) (queuesOf y)
   stands-kept k f s = record { stands = λ u ul. on u ul (eqb u t) (eq? u t) }
     where
-      on : (u : ℕ) → u < 8 → (b : Bool) → Eq? u t b → StandsAt (y .kinds) (y .marks) (queuesOf y) u
+      on : (u : ℕ) → u < numbers → (b : Bool) → Eq? u t b → StandsAt (y .kinds) (y .marks) (queuesOf y) u
       on u ul true (same e) = subst (λ (u : ℕ). StandsAt (y .kinds) (y .marks) (queuesOf y) u) (sym e) (kept-here k f)
       on u ul false (differ n) = kept-other u ul n (s u ul n)
 
@@ -268,7 +269,7 @@ unfolding withQueue
 length-at qs k q = length-set qs k q
 
 -- the task's queue loses none by a try
-module _ (t : ℕ) (qs : List Queue) (wide : length qs ≡ 16) (tl : t < 8) where
+module _ (t : ℕ) (qs : List Queue) (wide : length qs ≡ ringCount) (tl : t < numbers) where
   in-own : ownNumber t < length qs
   in-own = omega (arith, wide, tl, own-number t tl)
 
@@ -307,7 +308,7 @@ module _ (t : ℕ) (qs : List Queue) (wide : length qs ≡ 16) (tl : t < 8) wher
 
 -- ---- the place tells whether the step follows
 
-place-try : (had : Bool) (e : Ending) → e ≢ Idle → leb 56 (placeOf Try had e) ≡ stepFollows had e
+place-try : (had : Bool) (e : Ending) → e ≢ Idle → leb thenPlaces (placeOf Try had e) ≡ stepFollows had e
 unfolding placeOf placeAfter stepFollows
 place-try true Executed n = refl
 place-try false Executed n = refl
@@ -316,20 +317,20 @@ place-try false Waved n = refl
 place-try had (Trapped k p) n = refl
 place-try had Idle n = absurd (n refl)
 
-place-step : (had : Bool) (e : Ending) → leb 56 (placeOf Step had e) ≡ false
+place-step : (had : Bool) (e : Ending) → leb thenPlaces (placeOf Step had e) ≡ false
 unfolding placeOf placeAfter
 place-step had Executed = refl
 place-step had Waved = refl
 place-step had (Trapped k p) = refl
 place-step had Idle = refl
 
-pub place-goes : (a : Attempt) (had : Bool) (e : Ending) → e ≢ Idle → leb 56 (placeOf a had e) ≡ goesOn a had e
+pub place-goes : (a : Attempt) (had : Bool) (e : Ending) → e ≢ Idle → leb thenPlaces (placeOf a had e) ≡ goesOn a had e
 unfolding goesOn
 place-goes Step had e n = place-step had e
 place-goes Try had e n = place-try had e n
 
 -- a try that a step follows: what stands between them
-module _ (t pt p r : ℕ) (c : Course) (x y : Lines) (tl : t < 8) (wide : 8 ≤ length (x .kinds)) (settles : Settles t pt c p r x y) (k : getD (x .kinds) t 0 ≡ 255)
+module _ (t pt p r : ℕ) (c : Course) (x y : Lines) (tl : t < numbers) (wide : numbers ≤ length (x .kinds)) (settles : Settles t pt c p r x y) (k : getD (x .kinds) t 0 ≡ noTrap)
     (tries : attemptOf t x ≡ Try) (had : hadIn t (x .lens) ≡ true) where
   some-left : 1 ≤ queueIn (queuesOf y) (2 * t) .len
   unfolding hadIn
@@ -345,7 +346,7 @@ module _ (t pt p r : ℕ) (c : Course) (x y : Lines) (tl : t < 8) (wide : 8 ≤ 
       omega (arith, g, n, h, m, try-keeps t qs (length-in (x .pts) (x .heads) (x .lens)) tl (resultBy t c p x .motion))
 
   waits-here : (e : Ending) → resultBy t c p x .ending ≡ e → stepFollows true e ≡ true
-      → (nextAt (y .marks) t ≡ standing true t (queuesOf y)) × (getD (y .kinds) t 0 ≡ 255)
+      → (nextAt (y .marks) t ≡ standing true t (queuesOf y)) × (getD (y .kinds) t 0 ≡ noTrap)
   unfolding nextBy kindsAfter followed stepFollows
   waits-here Executed i f = (
     settles .marks .mine ∙ ap (λ (e : Ending). nextBy t (attemptOf t x) (hadIn t (x .lens)) e (queuesOf y) (x .marks)) i
@@ -360,7 +361,7 @@ module _ (t pt p r : ℕ) (c : Course) (x y : Lines) (tl : t < 8) (wide : 8 ≤ 
   waits-here (Trapped d q) i f = absurd (true≢false (sym f))
   waits-here Idle i f = absurd (not-idle t c p x i)
 
-  pub between-kept : stepFollows true (resultBy t c p x .ending) ≡ true → ((u : ℕ) → u < 8 → u ≢ t → StandsAt (x .kinds) (x .marks) (queuesOf x) u)
+  pub between-kept : stepFollows true (resultBy t c p x .ending) ≡ true → ((u : ℕ) → u < numbers → u ≢ t → StandsAt (x .kinds) (x .marks) (queuesOf x) u)
       → Between t (y .kinds) (y .marks) (queuesOf y)
   between-kept f s =
       let w = waits-here (resultBy t c p x .ending) refl f in
@@ -368,20 +369,20 @@ module _ (t pt p r : ℕ) (c : Course) (x y : Lines) (tl : t < 8) (wide : 8 ≤ 
 
 -- ---- the next attempts of all tasks laid
 
-pub laid-idle : (n : ℕ) (kinds l : List ℕ) (qs : List Queue) → getD kinds n 0 ≢ 255 → Laid n kinds l qs → Laid (n + 1) kinds l qs
+pub laid-idle : (n : ℕ) (kinds l : List ℕ) (qs : List Queue) → getD kinds n 0 ≢ noTrap → Laid n kinds l qs → Laid (n + 1) kinds l qs
 laid-idle n kinds l qs f d = record { stands = λ t h i. on t h i (eqb t n) (eq? t n); none = λ t h i. d .none t (omega (arith, h)) i }
   where
-    on : (t : ℕ) → t < n + 1 → t < 8 → (b : Bool) → Eq? t n b → StandsAt kinds l qs t
+    on : (t : ℕ) → t < n + 1 → t < numbers → (b : Bool) → Eq? t n b → StandsAt kinds l qs t
     on t h i true (same e) = record { idle = λ z. d .none t (omega (arith, e)) i; active = λ z. absurd (f (ap (λ (u : ℕ). getD kinds u 0) (sym e) ∙ z)) }
     on t h i false (differ m) = d .stands t (omega (arith, h, m)) i
 
-pub laid-active : (n : ℕ) (kinds l l′ : List ℕ) (qs : List Queue) → getD kinds n 0 ≡ 255 → Puts n (standing false n qs) l l′ → Laid n kinds l qs → Laid (n + 1) kinds l′ qs
+pub laid-active : (n : ℕ) (kinds l l′ : List ℕ) (qs : List Queue) → getD kinds n 0 ≡ noTrap → Puts n (standing false n qs) l l′ → Laid n kinds l qs → Laid (n + 1) kinds l′ qs
 laid-active n kinds l l′ qs f p d = record {
   stands = λ t h i. on t h i (eqb t n) (eq? t n);
   none = λ t h i. up-same l l′ t (p .others t i (λ e. omega (arith, e, h))) ∙ d .none t (omega (arith, h)) i;
 }
   where
-    on : (t : ℕ) → t < n + 1 → t < 8 → (b : Bool) → Eq? t n b → StandsAt kinds l′ qs t
+    on : (t : ℕ) → t < n + 1 → t < numbers → (b : Bool) → Eq? t n b → StandsAt kinds l′ qs t
     on t h i true (same e) =
         subst (λ (t : ℕ). StandsAt kinds l′ qs t) (sym e) (record { idle = λ z. absurd (z f); active = λ z. p .mine })
     on t h i false (differ m) =

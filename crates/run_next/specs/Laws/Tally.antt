@@ -129,8 +129,8 @@ module _ (l : List ℕ) (wide : length l ≡ tallyCells) (t : ℕ) (small : t < 
 
 -- ---- an item without an attempt, and an attempt
 
-module _ (l : List ℕ) (t : ℕ) (small : t < 8) (wide : length l ≡ 80) where
-  pub idle-more : tallyIn (set l (24 + t) (getD l (24 + t) 0 + 1)) ≡ added t (countsOf Idle 0) (tallyIn l)
+module _ (l : List ℕ) (t : ℕ) (small : t < numbers) (wide : length l ≡ tallyCells) where
+  pub idle-more : tallyIn (set l (3 * numbers + t) (getD l (3 * numbers + t) 0 + 1)) ≡ added t (countsOf Idle 0) (tallyIn l)
   unfolding countsOf share one
   idle-more = tally-more l wide t small 3 (omega arith)
 

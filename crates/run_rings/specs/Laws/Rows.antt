@@ -10,6 +10,7 @@ use lib.Dec.{eqb, leb, ltb}
 use lib.ListN.{length, getD, set, take, drop, drop-of-length-le}
 use lib.Seq.{length-take-le, take-all, take-suc, drop-cons, append-snoc, set-at, take-at, drop-at}
 use borrow.Author.Tests.{leb-true, ltb-true}
+use Rattle.window.specs.Limits.{mostData}
 use Rattle.word.specs.Laws.Bools.{and-left, and-right}
 use Rattle.window.specs.declared.Row.{Row}
 use Rattle.window.specs.declared.Window.{Window}
@@ -114,7 +115,7 @@ end-small w h = go (leb (w .first) (w .last)) refl
     go true e = omega (arith, h (leb-true (w .first) (w .last) e))
     go false e = omega arith
 
-narrow : (b nr np nd : ℕ) (r : Row) → rowSound b r ≡ true → rowEndsIn nr np nd r ≡ true → nd ≤ 2 ^ 20 → Narrow r
+narrow : (b nr np nd : ℕ) (r : Row) → rowSound b r ≡ true → rowEndsIn nr np nd r ≡ true → nd ≤ mostData → Narrow r
 unfolding rowSound basesSound rowEndsIn endsIn registerWindow programWindow dataWindow dataWordWindow windowOf bits
 narrow b nr np nd r e w h =
     let x : basesSound r ≡ true = and-left (basesSound r) _ (and-right (taskSound b (r .task)) _ e) in
@@ -132,7 +133,7 @@ narrow b nr np nd r e w h =
     go true q l p = absurd (omega (arith, ltb-true (r .dl * 32 + 31) (r .db * 32) q, l))
     go false q l p = omega (arith, ltb-true (r .dl * 32 + 31) nd p, h)
 
-pub narrow-row : (b nr np nd t : ℕ) (rs : List Row) (r : Row) → rowsSound b rs ≡ true → windowsSound nr np nd rs ≡ true → nd ≤ 2 ^ 20 → findRow t rs ≡ some r → Narrow r
+pub narrow-row : (b nr np nd t : ℕ) (rs : List Row) (r : Row) → rowsSound b rs ≡ true → windowsSound nr np nd rs ≡ true → nd ≤ mostData → findRow t rs ≡ some r → Narrow r
 unfolding rowsSound windowsSound
 narrow-row b nr np nd t [] r e w h f = absurd (none-some r (unfold findRow in f))
 narrow-row b nr np nd t (y ∷ rs) r e w h f =

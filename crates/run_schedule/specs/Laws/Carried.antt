@@ -11,6 +11,9 @@ use lib.Dec.{eqb, ltb}
 use lib.ListN.{length, getD, set, take, drop, replicate, getD-replicate, length-set, drop-of-length-le, List·getD-eq-default}
 use lib.Seq.{take-all, take-suc, take-set-le, getD-set-same, drop-cons}
 use borrow.Author.Tests.{leb-true, ltb-true, ltb-false}
+use Rattle.window.specs.Limits.{mostRegisters, mostData}
+use Rattle.run_rings.specs.Code.Rings.{ringCount}
+use Rattle.run.specs.Schedule.{mostItems}
 use Rattle.word.specs.Laws.Bools.{Eq?, same, differ, eq?}
 use Rattle.window.specs.declared.Row.{Row}
 use Rattle.window.specs.Memories.{Memory}
@@ -20,7 +23,7 @@ use Rattle.step.specs.declared.Attempt.{Attempt}
 use Rattle.step.specs.declared.Attempt.the-variants.{Step, Try}
 use Rattle.step.specs.declared.Ending.{Ending}
 use Rattle.step.specs.declared.Ending.the-variants.{Executed, Waved, Trapped, Idle}
-use Rattle.step.specs.Queues.{liveCounts, liveTotal, places}
+use Rattle.step.specs.Queues.{ptCount, numbers, liveCounts, liveTotal, places}
 use Rattle.step.specs.State.{State, state, findRow, noQueue, queueIn}
 use Rattle.step.specs.Act.{tableOf}
 use Rattle.step.specs.Soundness.{sound}
@@ -40,11 +43,11 @@ use Rattle.run_rings.specs.Code.Laid.{noTasks, tasksLaid}
 use Rattle.run_rings.specs.Laws.Spans.{told-none}
 use Rattle.run_rings.specs.Laws.Laid.{tasks-told}
 use Rattle.run_rings.specs.Laws.Rows.{rows-start, narrow-row}
-use Rattle.run_next.specs.Code.Next.{placeAfter}
+use Rattle.run_next.specs.Code.Next.{markCount, noAttempt, placeAfter}
 use Rattle.run_next.specs.Code.Settled.{Lines, queuesOf, placeOf}
 use Rattle.run_next.specs.Code.Numbers.{Cells, stateFrom, Numbers}
 use Rattle.run_next.specs.Code.Stands.{Laid}
-use Rattle.run_next.specs.Code.Tally.{ownIn, ownFrom, allOwn, tallyIn}
+use Rattle.run_next.specs.Code.Tally.{tallyCells, ownIn, ownFrom, allOwn, tallyIn}
 use Rattle.run_next.specs.Code.Running.{Running}
 use Rattle.run_next.specs.Laws.Tally.{length-from, at-from}
 use Rattle.run_next.specs.Laws.Running.{ends}
@@ -73,7 +76,7 @@ module _ (rows : List Row) (users : Processes) (tasks : Tasks) (m : Cells) (r : 
   unfolding stateFrom openState
   state-same = rw (rows-same, b .psws, b .queues, b .flag) refl
 
-  pub numbers-begin : length (r .psws) ≡ 65 → Numbers rows (tasks .spans) (linesOf r) m
+  pub numbers-begin : length (r .psws) ≡ suc ptCount → Numbers rows (tasks .spans) (linesOf r) m
   numbers-begin wide = record {
     windows = λ t x f. tells t x f .windows;
     frees = b .free ∙ ap freeWord (sym (b .queues));
@@ -86,8 +89,8 @@ module _ (rows : List Row) (users : Processes) (tasks : Tasks) (m : Cells) (r : 
   pub even : (length (m .registers .tags) ≡ length (m .registers .words)) × (length (m .dataWords .tags) ≡ length (m .dataWords .words))
   unfolding openState
   even = (
-    memory-parts 2048 tagSound (m .registers) (parts .memories .registers) .even,
-    memory-parts (2 ^ 20) stateSound (m .dataWords) (parts .memories .dataWords) .even,
+    memory-parts mostRegisters tagSound (m .registers) (parts .memories .registers) .even,
+    memory-parts mostData stateSound (m .dataWords) (parts .memories .dataWords) .even,
   )
 
 -- ---- the counts
@@ -114,10 +117,10 @@ own-within (c ∷ l) (suc t) =
       tries = omega (arith, w .tries);
     }
 
-own-at : (l : List ℕ) (t : ℕ) → t < 8 → getD (allOwn l) t noCounts ≡ ownIn l t
-own-at l t h = at-from l 0 8 t h ∙ ap (ownIn l) (omega arith)
+own-at : (l : List ℕ) (t : ℕ) → t < numbers → getD (allOwn l) t noCounts ≡ ownIn l t
+own-at l t h = at-from l 0 numbers t h ∙ ap (ownIn l) (omega arith)
 
-own-in : (l : List ℕ) (t : ℕ) → t < 8 → Within (ownIn l t) (tallyIn l .counts)
+own-in : (l : List ℕ) (t : ℕ) → t < numbers → Within (ownIn l t) (tallyIn l .counts)
 unfolding tallyIn
 own-in l t h = subst (λ (c : Counts). Within c (summed (allOwn l))) (own-at l t h) (own-within (allOwn l) t)
 
@@ -134,7 +137,7 @@ cell-place l t Try false Waved = omega arith
 cell-place l t Try had (Trapped k p) = omega arith
 cell-place l t a had Idle = omega arith
 
-pub place-lt : (a : Attempt) (had : Bool) (e : Ending) → placeOf a had e ≤ 64
+pub place-lt : (a : Attempt) (had : Bool) (e : Ending) → placeOf a had e ≤ ptCount
 unfolding placeOf placeAfter
 place-lt Step had Executed = omega arith
 place-lt Step had Waved = omega arith
@@ -147,13 +150,13 @@ place-lt Try had (Trapped k p) = omega arith
 place-lt a had Idle = omega arith
 
 -- of a whole run each has 32 bits, and each of a task
-pub small-counts : (l : List ℕ) (s : State) (n : Tally) → length l ≤ 65535 → n ≡ run l s .notes → Small (n .counts)
+pub small-counts : (l : List ℕ) (s : State) (n : Tally) → length l ≤ mostItems → n ≡ run l s .notes → Small (n .counts)
 small-counts l s n h e =
     let a : sum (n .counts) ≡ length l = ap (λ (x : Tally). sum (x .counts)) e ∙ run-counts l s in
     let b : n .counts .tries ≤ length l = subst (λ (x : Tally). x .counts .tries ≤ length l) (sym e) (run-tries l s) in
     record { executed = omega (arith, a, h); waved = omega (arith, a, h); trapped = omega (arith, a, h); idle = omega (arith, a, h); tries = omega (arith, b, h) }
 
-pub small-own : (l : List ℕ) (t : ℕ) → Small (tallyIn l .counts) → t < 8 → Small (ownIn l t)
+pub small-own : (l : List ℕ) (t : ℕ) → Small (tallyIn l .counts) → t < numbers → Small (ownIn l t)
 small-own l t s h =
     let w = own-in l t h in
     record {
@@ -166,7 +169,7 @@ small-own l t s h =
 
 -- a cell of a count has room for one more
 pub cell-room : (l : List ℕ) (i : ℕ) (s₀ : State) (rows : List Row) (spans : List ℕ) (x : Lines) (m : Cells) (tally : List ℕ) (t r : ℕ) (a : Attempt) (had : Bool) (e : Ending)
-    → r ≡ placeOf a had e → length l ≤ 65535 → Running l i s₀ rows spans x m (tallyIn tally) → t < 8 → getD tally (r + t) 0 < 4294967295
+    → r ≡ placeOf a had e → length l ≤ mostItems → Running l i s₀ rows spans x m (tallyIn tally) → t < numbers → getD tally (r + t) 0 < 4294967295
 cell-room l i s₀ rows spans x m tally t p a had e q h g k =
     let r = g .runs in
     let w = own-in tally t k in
@@ -187,19 +190,19 @@ run-ends l i s s′ rows spans r m h e g = record {
 
 -- the processes at the end are those of the state
 pub users-end : (rows : List Row) (spans : List ℕ) (r : Carried) (m : Cells) → Numbers rows spans (linesOf r) m
-    → record { users = usersOf r } ≡ tableOf (take 64 (r .psws)) (queuesOf (linesOf r)) (r .flag)
+    → record { users = usersOf r } ≡ tableOf (take ptCount (r .psws)) (queuesOf (linesOf r)) (r .flag)
 unfolding usersOf
 users-end rows spans r m h =
     ap (λ (n : ℕ). record {
-      users = record { psw = take 64 (r .psws); queues = queuesOf (linesOf r); flag = r .flag; live = liveCounts (queuesOf (linesOf r)); count = n };
+      users = record { psw = take ptCount (r .psws); queues = queuesOf (linesOf r); flag = r .flag; live = liveCounts (queuesOf (linesOf r)); count = n };
     }) (h .counted)
 
 -- no queue is longer than its array
 pub lens-end : (rows : List Row) (spans : List ℕ) (r : Carried) (m : Cells) → Numbers rows spans (linesOf r) m → (k : ℕ) → getD (queuesOf (linesOf r)) k noQueue .len ≤ places
 unfolding stateFrom queueIn
-lens-end rows spans r m h k = on (ltb k 16) refl (tidy-of _ _ (sound-parts _ (h .sound) .table))
+lens-end rows spans r m h k = on (ltb k ringCount) refl (tidy-of _ _ (sound-parts _ (h .sound) .table))
   where
-    on : (b : Bool) → ltb k 16 ≡ b → Tidy (take 64 (r .psws)) (queuesOf (linesOf r)) → getD (queuesOf (linesOf r)) k noQueue .len ≤ places
+    on : (b : Bool) → ltb k ringCount ≡ b → Tidy (take ptCount (r .psws)) (queuesOf (linesOf r)) → getD (queuesOf (linesOf r)) k noQueue .len ≤ places
     on true e tidy = tidy .shaped k (ltb-true k 16 e) .fits
     on false e tidy = omega (arith, ap (λ (q : Queue). q .len) (List·getD-eq-default (queuesOf (linesOf r)) noQueue {n = k} (omega (arith, tidy .sixteen, ltb-false k 16 e))))
 
@@ -214,7 +217,7 @@ module _ (rows : List Row) (users : Processes) (m : Cells) (h : sound (openState
   narrow-rows : (t : ℕ) (r : Row) → findRow t rows ≡ some r → Narrow r
   narrow-rows t r f =
       narrow-row 0 _ _ (length (m .dataWords .words)) t rows r (sound-open .rows) (sound-open .windows)
-      (leb-true (length (m .dataWords .words)) (2 ^ 20) (memory-parts (2 ^ 20) stateSound (m .dataWords) (sound-open .memories .dataWords) .few)) f
+      (leb-true (length (m .dataWords .words)) mostData (memory-parts mostData stateSound (m .dataWords) (sound-open .memories .dataWords) .few)) f
 
   pub opens : (x : Tasks) → x ≡ tasksLaid 7 1 rows noTasks → users .count ≡ liveTotal (users .queues) → Opens rows users x m
   opens x e k = record {
@@ -236,13 +239,13 @@ copies {A} z s d k h l e =
 
 -- ---- the counts of all task numbers, one by one
 
-pub copies-own : (l : List ℕ) (d : List Counts) (t : ℕ) → t < 8 → t < length d → take t d ≡ take t (allOwn l) → take (t + 1) (set d t (ownIn l t)) ≡ take (t + 1) (allOwn l)
+pub copies-own : (l : List ℕ) (d : List Counts) (t : ℕ) → t < numbers → t < length d → take t d ≡ take t (allOwn l) → take (t + 1) (set d t (ownIn l t)) ≡ take (t + 1) (allOwn l)
 copies-own l d t h k e =
-    ap (λ (c : Counts). take (t + 1) (set d t c)) (sym (own-at l t h)) ∙ copies noCounts (allOwn l) d t (omega (arith, h, length-from l 0 8)) k e
+    ap (λ (c : Counts). take (t + 1) (set d t c)) (sym (own-at l t h)) ∙ copies noCounts (allOwn l) d t (omega (arith, h, length-from l 0 numbers)) k e
 
-pub all-copied : (l : List ℕ) (d : List Counts) (t : ℕ) → t ≡ 8 → length d ≡ 8 → take t d ≡ take t (allOwn l) → d ≡ allOwn l
+pub all-copied : (l : List ℕ) (d : List Counts) (t : ℕ) → t ≡ numbers → length d ≡ numbers → take t d ≡ take t (allOwn l) → d ≡ allOwn l
 all-copied l d t q h e =
-    sym (take-all t d (omega (arith, q, h))) ∙ e ∙ take-all t (allOwn l) (omega (arith, q, length-from l 0 8))
+    sym (take-all t d (omega (arith, q, h))) ∙ e ∙ take-all t (allOwn l) (omega (arith, q, length-from l 0 numbers))
 
 pub sums : (own : List Counts) (t : ℕ) (c : Counts) → t < length own → plus (plus c (getD own t noCounts)) (summed (drop (t + 1) own)) ≡ plus c (summed (drop t own))
 unfolding summed
@@ -273,12 +276,12 @@ small-part c d e q s = record {
 
 -- ---- no next attempt yet, and nothing counted
 
-pub laid-none : (kinds : List ℕ) (qs : List Queue) → Laid 0 kinds (replicate 24 255) qs
-laid-none kinds qs = record { stands = λ t a b. absurd (omega (arith, a)); none = λ t a b. getD-replicate 24 t 255 0 (omega (arith, b)) }
+pub laid-none : (kinds : List ℕ) (qs : List Queue) → Laid 0 kinds (replicate markCount noAttempt) qs
+laid-none kinds qs = record { stands = λ t a b. absurd (omega (arith, a)); none = λ t a b. getD-replicate markCount t noAttempt 0 (omega (arith, b)) }
 
-pub none-counted : tallyIn (replicate 80 0) ≡ noTally
+pub none-counted : tallyIn (replicate tallyCells 0) ≡ noTally
 unfolding tallyIn ownIn ownFrom summed plus
 none-counted = refl
 
-pub place-le : (r : ℕ) (a : Attempt) (had : Bool) (e : Ending) → r ≡ placeOf a had e → r ≤ 64
+pub place-le : (r : ℕ) (a : Attempt) (had : Bool) (e : Ending) → r ≡ placeOf a had e → r ≤ ptCount
 place-le r a had e q = omega (arith, q, place-lt a had e)

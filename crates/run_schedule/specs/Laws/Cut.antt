@@ -12,7 +12,7 @@ use Rattle.window.specs.Memories.{memory}
 use Rattle.window.specs.declared.Row.{Row}
 use Rattle.step.specs.declared.Processes.{Processes}
 use Rattle.step.specs.declared.ProcessTable.{ProcessTable}
-use Rattle.step.specs.Queues.{liveTotal}
+use Rattle.step.specs.Queues.{numbers, liveTotal}
 use Rattle.step.specs.State.{State}
 use Rattle.step.specs.Act.{tableOf}
 use Rattle.step.specs.Soundness as soundness
@@ -20,7 +20,7 @@ use Rattle.step.specs.Soundness.{every, liveSound}
 use Rattle.step.specs.Laws.Counted.{live-counted, live-made}
 use Rattle.run.specs.Run.{Tally, Ran, run}
 use Rattle.run.specs.Laws.Run.{run-lengths}
-use Rattle.run.specs.Schedule.{itemSound}
+use Rattle.run.specs.Schedule.{mostItems, itemSound}
 use Rattle.step_soundness.specs.Code.Held.{stateIn, soundIn}
 use Rattle.library.specs.declared.Sizes.{Sizes}
 use Rattle.library.specs.declared.Rows.{Rows}
@@ -164,7 +164,7 @@ module _ (v : Rows) (table : ProcessTable) (constantTags constantWords tags word
           )
 
       -- what the items leave of the cut slices is what a run leaves of the buffers
-      pub run-cuts : length l ≤ 65535 → every itemSound l ≡ true → record { state = cutAfter; notes = tally } ≡ run l given → drop (n .rows) rows′ ≡ drop (n .rows) (v .at)
+      pub run-cuts : length l ≤ mostItems → every itemSound l ≡ true → record { state = cutAfter; notes = tally } ≡ run l given → drop (n .rows) rows′ ≡ drop (n .rows) (v .at)
           → RunPromise n held l (runAnswered (answers tally)) after
       run-cuts m i s d =
           let h : n .rows ≤ min (v .n) 7 = sizes-fit .rows in

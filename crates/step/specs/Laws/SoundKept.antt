@@ -6,6 +6,7 @@ use mathlib.Core.Bool.{Bool, true, false, cond}
 use mathlib.Core.Option.{none, some}
 use mathlib.Core.List.{List, [], _∷_}
 use lib.Dec.{eqb}
+use Rattle.window.specs.Limits.{mostConstants, mostRegisters, mostData}
 use Rattle.window.specs.Laws.Sound.{quality-tag}
 use Rattle.word.specs.Fields.{pswSound}
 use Rattle.window.specs.declared.Row.{Row}
@@ -50,9 +51,9 @@ zero-quality = refl
 environment-sound : (s : State) (r : Row) (psw : ℕ) → SoundMemories s → pswSound psw ≡ true → SoundEnvironment (environment s r psw)
 unfolding environment environmentOf visibleCell cellIn constantAt
 environment-sound s r psw m h =
-    let constants = memory-parts 4096 qualitySound (s .constants) (m .constants) in
-    let registers = memory-parts 2048 tagSound (s .registers) (m .registers) in
-    let dataWords = memory-parts (2 ^ 20) stateSound (s .dataWords) (m .dataWords) in
+    let constants = memory-parts mostConstants qualitySound (s .constants) (m .constants) in
+    let registers = memory-parts mostRegisters tagSound (s .registers) (m .registers) in
+    let dataWords = memory-parts mostData stateSound (s .dataWords) (m .dataWords) in
     record {
       psw = h;
       tags = λ o. elim o [
@@ -119,11 +120,11 @@ module _ (s : State) (a : Attempt) (t : ℕ) (r : Row) (before : Sound s) (at : 
         memories = record {
           constants = before .memories .constants;
           registers =
-              written-sound 2048 tagSound (registerWindow r) (registerWrites d) (s .registers)
+              written-sound mostRegisters tagSound (registerWindow r) (registerWrites d) (s .registers)
               (register-writes (s .table .users .flag) d h) (before .memories .registers);
           program = before .memories .program;
           dataWords =
-              written-sound (2 ^ 20) stateSound (dataWordWindow r) (dataWrites d) (s .dataWords)
+              written-sound mostData stateSound (dataWordWindow r) (dataWrites d) (s .dataWords)
               (data-writes (s .table .users .flag) d h) (before .memories .dataWords);
         };
         windows = windows-put r _ (c .row) put _ _ _ ∙ simp length-storedAll (before .windows);
