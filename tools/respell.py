@@ -27,10 +27,12 @@ STRING = re.compile(r'b?"(?:[^"\\\n]|\\.)*"')
 # Lemmas that still have a dash, whose plain spelling a definition of the repository has.
 APART = """add-fits all-free attempt-by byte-below cell-bytes cell-length cells-length course-result create-waits created-psws data-writes
 destination-below fate-result fixed-of free-from full-tag head-decides image-bytes item-sound line-of longest-report longest-row lowest-free masked-in
-mul-fits no-attempt no-trap output-scheduled own-counts own-number perform-load perform-store place-below process-length
+mul-fits no-attempt no-trap ones-in output-scheduled own-counts own-number perform-load perform-store place-below process-length
 processes-bytes processes-length psw-sound psws-of put-at put-row quality-sound register-writes row-length row-sound run-leaves run-number
 sfu-number source-below step-leaves step-number store-from sub-fits tag-sound tags-left trapped-row window-of word-length write-leaves
 write-number""".split()
+# Names of Rattle's library, at the head of a line that reads as a declaration.
+KEPT = ["add-one", "append-nil", "suc-add"]
 # Modules under a short name.
 OTHERS = {"run-answer": "RunAnswers", "step-answer": "StepAnswers", "live-laws": "LiveLaws"}
 # Lemmas that port.py spelled as a definition, in these files.
@@ -102,7 +104,7 @@ def declared(root):
         for m in DECLARED.finditer(text):
             if not re.match(r"\s*(tie|goal)\.", m[2]):
                 for name in m[1].split():
-                    if name[:1].islower():
+                    if name[:1].islower() and name not in KEPT:
                         found[name].add(path)
         if not path.endswith("/Proof.antt"):
             for m in GIVEN.finditer(text):

@@ -1,4 +1,6 @@
 // The batch program as a function: from the bytes of its input to the bytes of its output.
+#![tactic(auto)]
+
 ghost use Rattle.std.specs.Prelude.{◌≡◌, ◌≤◌, length, replicate};
 ghost use Rattle.run.specs.Run.{run};
 ghost use Rattle.image.specs.Image.{decode};

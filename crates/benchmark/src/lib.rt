@@ -1,4 +1,6 @@
 // Reading and writing of images for programs in other languages, of the memories alone: hep-bench of hep-trials measures them.
+#![tactic(auto)]
+
 ghost use Rattle.std.specs.Prelude.{◌≡◌, length};
 ghost use Rattle.library.specs.Buffers.{room_of};
 ghost use Rattle.library.specs.Calls.{read_answer, read_leaves, write_answer, write_leaves};

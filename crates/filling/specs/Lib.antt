@@ -1,5 +1,1 @@
 pub mod Filling
-pub mod Best
-pub mod Sets
-pub mod Trials
-pub mod Laws

@@ -1,4 +1,6 @@
 // Which jobs go into a module together: every choice tried in turn.
+#![tactic(auto)]
+
 ghost use Rattle.std.specs.Prelude.{◌≡◌, true, ◌^◌, min, ◌≤◌};
 ghost use Rattle.window.specs.Limits.{most_registers};
 ghost use Rattle.filling.specs.Filling.{most_jobs, need_sound, needs_sound, jobs_sound, better_of, best_of, total, ceiling_of, fill_answer};
@@ -14,7 +16,7 @@ const CHOSEN: u64 = MOST_CHOSEN as u64;
 const REGISTERS: u64 = MOST_REGISTERS as u64;
 
 // A choice that was tried: it keeps the rules and has a sum, or it breaks them.
-#[derive(Drop)]
+#[derive(Clone, Copy)]
 enum Tried {
     Kept(u64),
     Broken,

@@ -1,5 +1,7 @@
 // The public library: reading, running, stepping and writing a state that lies in lent buffers, and the same for a caller that owns its
 // rows and its process table.
+#![tactic(auto)]
+
 ghost use Rattle.std.specs.Prelude.{◌≡◌};
 ghost use Rattle.library.specs.Code.RowPlace.{place_of};
 ghost use Rattle.library.specs.Empty.{empty_row, no_rows, no_processes};
@@ -320,7 +322,7 @@ pub fn read_owned(
 }
 
 fn after_run(at: [Row; TASKS], table: ProcessTable, res: RunResult) -> AfterRun
-    ensures* { λ r. ⌜ r ≡ record { rows = record { at = at; n = tasks }; table = table; result = res } ⌝ }
+    ensures { result ≡ record { rows = record { at = at; n = tasks }; table = table; result = res } }
 {
     AfterRun {
         rows: Rows { at, n: TASKS },

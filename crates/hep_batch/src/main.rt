@@ -1,4 +1,6 @@
 // The batch program: a schedule and an image from standard input, the report or the line of a refusal to standard output.
+#![tactic(auto)]
+
 use libc::{STDIN_FILENO, STDOUT_FILENO};
 
 fn main() {

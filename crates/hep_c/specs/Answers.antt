@@ -12,7 +12,7 @@ use Rattle.run.specs.Schedule.{schedule_refusal}
 use Rattle.run.specs.Run.{Tally, Ran, no_counts, run}
 use Rattle.library.specs.declared.RunAnswer.{RunAnswer}
 use Rattle.library.specs.declared.RunAnswer.TheVariants.{Refused, Counted}
-use Rattle.image.specs.Image.{Image, state_of, Decoded, bad, good, decode, encode, process_length}
+use Rattle.image.specs.Image.{state_of, Decoded, bad, good, decode, encode, process_length}
 use Rattle.image.specs.Fields.{over}
 use Rattle.library.specs.declared.Sizes.{Sizes}
 use Rattle.library.specs.Buffers.{Room, fits, sizes_of}

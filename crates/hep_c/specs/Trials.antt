@@ -1,13 +1,13 @@
 -- The calls on an image of one task, and the filling of three jobs: refusals at both sides of their boundaries, and what a call leaves.
 use Rattle.std.specs.Prelude.{◌≡◌, refl, List, [], ◌∷◌, ◌++◌, ℕ, ◌-◌, take, replicate}
 use Rattle.image.specs.Image.{decode}
-use Rattle.report.specs.Laws.Opened.{opened}
+use Rattle.report.proofs.Laws.Opened.{opened}
 use Rattle.refusal.specs.Numbers.{number_of}
 use Rattle.run.specs.Run.{counts as counted}
 use Rattle.library.specs.Calls.{unless, check_answer}
-use Rattle.library.specs.Trials.{trial_bytes, trialled}
+use Rattle.library.proofs.Trials.{trial_bytes, trialled}
 use Rattle.filling.specs.Filling.{fill_answer}
-use Rattle.filling.specs.Laws.Opened.{opened as filling}
+use Rattle.filling.proofs.Laws.Opened.{opened as filling}
 use Rattle.hep_c.specs.Answers.{number_answered, listed_answer, listed_left, sizes_listed, sizes_answer, filling_listed, filling_answer, Slices, slices, results_fit, lengths_refusal, image_run_refusal, image_run_answer, kinds_listed, own_listed, counts_listed, image_run_left}
 use Rattle.report_text.specs.Texts.{report_room, tally}
 

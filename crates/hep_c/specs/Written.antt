@@ -2,13 +2,13 @@
 use Rattle.std.specs.Prelude.{ℕ, ◌≡◌, List, length}
 use Rattle.std.proofs.Math.Option.{none}
 use Rattle.run.specs.Run.{run}
-use Rattle.run.specs.Kept.{run_keeps_sound}
+use Rattle.run.proofs.Kept.{run_keeps_sound}
 use Rattle.image.specs.Codec.{Bytes}
 use Rattle.image.specs.Image.{Image, state_of, good, decode, encode}
-use Rattle.image.specs.RoundTrips.{reads_only_sound}
+use Rattle.image.proofs.RoundTrips.{reads_only_sound}
 use Rattle.library.specs.Buffers.{sizes_of}
 use Rattle.library.specs.Calls.{unless}
-use Rattle.library.specs.InTurn.{HoldsImage, holds_image}
+use Rattle.library.proofs.InTurn.{HoldsImage, holds_image}
 use Rattle.hep_c.specs.Answers.{Slices, image_run_refusal, image_run_answer, image_run_left}
 
 -- it is accepted and reads as the state after the run

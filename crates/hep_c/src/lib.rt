@@ -1,4 +1,6 @@
 // The library for programs in other languages: numbers and slices alone. include/hep.h says what each function promises.
+#![tactic(auto)]
+
 ghost use Rattle.std.specs.Prelude.{◌≡◌, ◌*◌, ◌≤◌, length, drop};
 ghost use Rattle.std.proofs.Math.Option.{none};
 ghost use Rattle.image.specs.Image.{decode};
@@ -7,7 +9,7 @@ ghost use Rattle.run.specs.Schedule.{schedule_refusal};
 ghost use Rattle.library.specs.declared.ReadAnswer.TheVariants.{Read};
 ghost use Rattle.library.specs.Calls.{check_answer};
 ghost use Rattle.library.specs.Promises.{read_answered};
-ghost use Rattle.library.specs.Trials.{numbered};
+ghost use Rattle.library.specs.Numbers.{numbered};
 ghost use Rattle.library.specs.Held.{room_from};
 ghost use Rattle.report.specs.Report.{output_of};
 ghost use Rattle.report_text.specs.Texts.{tally};

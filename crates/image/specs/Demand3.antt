@@ -1,14 +1,11 @@
--- Demand 3: isolation, one claim about two whole runs.
+-- Demand 3: what a whole run is, and two that agree on a task.
 use Rattle.std.specs.Prelude.{◌≡◌, true, List, ℕ}
 use Rattle.step.specs.Queues.{occ}
-use Rattle.step.specs.Laws.Sound.{inv_of}
 use Rattle.run.specs.Schedule.{schedule_sound}
-use Rattle.run.specs.Run.{own_counts, run}
+use Rattle.run.specs.Run.{run}
 use Rattle.run.specs.Compared.{Compared, SameProgram, SameConstants, Alone}
-use Rattle.run.specs.Laws.Isolation.{isolation, own_isolation}
 use Rattle.image.specs.Codec.{Bytes}
 use Rattle.image.specs.Image.{Image, state_of, good, decode}
-use Rattle.image.specs.Laws.DecodeSound.{decode_sound}
 
 -- an accepted image, read, and run over its own accepted schedule, with the flag down at the end
 pub record WholeRun (bytes schedule : List ℕ) (i : Image) : Type 0 where
@@ -35,21 +32,3 @@ pub record Agreed (t : ℕ) (schedule schedule' : List ℕ) (i i' : Image) : Typ
   -- its register and data windows meet no other task's in either image
   pub alone : Alone t (state_of i)
   pub alone' : Alone t (state_of i')
-
--- then that task's registers, data, processes in queue order (numbers aside, the SFU queue too) and trap record are equal after both
-pub demand_3 : (t : ℕ) (bytes bytes' schedule schedule' : List ℕ) (i i' : Image)
-    → WholeRun bytes schedule i → WholeRun bytes' schedule' i' → Agreed t schedule schedule' i i'
-    → Compared t (run schedule (state_of i)).state (run schedule' (state_of i')).state
-demand_3 t b b' ts us i i' r r' a =
-    isolation t ts us (state_of i) (state_of i')
-    (inv_of (state_of i) (decode_sound b r.string i r.accepted)) (inv_of (state_of i') (decode_sound b' r'.string i' r'.accepted))
-    a.alone a.alone' a.task a.program a.constants a.items r.down r'.down
-
--- and so are its own counts
-pub demand_3_counts : (t : ℕ) (bytes bytes' schedule schedule' : List ℕ) (i i' : Image)
-    → WholeRun bytes schedule i → WholeRun bytes' schedule' i' → Agreed t schedule schedule' i i'
-    → own_counts t (run schedule (state_of i)).notes ≡ own_counts t (run schedule' (state_of i')).notes
-demand_3_counts t b b' ts us i i' r r' a =
-    own_isolation t ts us (state_of i) (state_of i')
-    (inv_of (state_of i) (decode_sound b r.string i r.accepted)) (inv_of (state_of i') (decode_sound b' r'.string i' r'.accepted))
-    a.alone a.alone' a.task a.program a.constants a.items r.down r'.down

@@ -3,9 +3,3 @@ pub mod Image
 pub mod Sections
 pub mod Fields
 pub mod Demand3
-pub mod RoundTrips
-pub mod LiveCounts
-pub mod SectionNumbers
-pub mod Trials
-pub mod ImageInstances
-pub mod Laws

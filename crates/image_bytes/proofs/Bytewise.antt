@@ -3,7 +3,7 @@ use Prim.Native.Nat.{ℕ, suc, ◌+◌, ◌-◌, ◌*◌, ◌^◌, ◌≤◌, �
 use mathlib.Core.Path.{◌≡◌}
 use mathlib.Core.List.{List}
 use native.Mathlib.Nat.{pow-suc, pow-le-pow_right}
-use native.Mathlib.Numerals.{add_one}
+use native.Mathlib.Numerals.{add-one}
 use native.Mathlib.Omega.{arith}
 use lib.ListN.{length, get_or, take, drop}
 use lib.Seq.{drop-cons}
@@ -23,7 +23,7 @@ unfolding number
 number_end v w i b h = let e : w - i ≡ 0 = omega arith in rw e
 
 pub pow_step : (v x i : ℕ) → v < 256 ^ i → x < 256 → v * 256 + x < 256 ^ (i + 1)
-pow_step v x i h k = rw (add_one, pow-suc) (omega arith)
+pow_step v x i h k = rw (add-one, pow-suc) (omega arith)
 
 -- a number of fewer bytes is one of more
 pub below : (v i j : ℕ) → v < 256 ^ i → i ≤ j → v < 256 ^ j

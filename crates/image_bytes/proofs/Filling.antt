@@ -1,9 +1,9 @@
 -- The loop that fills a slice with values at every so many bytes: its invariant, and a turn.
 use Prim.Native.Nat.{ℕ, suc, ◌+◌, ◌-◌, ◌*◌, ◌≤◌, ◌<◌}
 use mathlib.Core.Path.{◌≡◌, sym, ap₂, ◌∙◌}
-use mathlib.Core.List.{List, ◌++◌, append_assoc, append_nil}
+use mathlib.Core.List.{List, ◌++◌, append_assoc, append-nil}
 use native.Mathlib.Nat.{sub-zero, mul-suc, mul-add, add-sub_cancel_left}
-use native.Mathlib.Numerals.{add_one}
+use native.Mathlib.Numerals.{add-one}
 use native.Mathlib.Omega.{arith}
 use lib.ListN.{length, take, drop, set, length-set, length-drop, length-append}
 use lib.Seq.{take-suc-set, take_all, take_at, length-take-le}
@@ -41,9 +41,9 @@ module _ (stride : ℕ) (f : ℕ → ℕ) (long at n : ℕ) (l : List ℕ) where
         let m : stride * (n - i) ≡ stride * (n - suc i) + stride = rw (e, mul-suc) in
         record {
           most = omega arith;
-          inside = rw add_one (omega (arith, z.inside));
+          inside = rw add-one (omega (arith, z.inside));
           size = length-set l i _ ∙ z.size;
-          all = rw (hv, add_one i, take-suc-set l i (f p) (omega (arith, z.size)), append_assoc) (rw e at z.all);
+          all = rw (hv, add-one i, take-suc-set l i (f p) (omega (arith, z.size)), append_assoc) (rw e at z.all);
         }
 
     -- a block of k more, put where the next k places of l were
@@ -73,7 +73,7 @@ module _ (stride : ℕ) (f : ℕ → ℕ) (long at n : ℕ) (l : List ℕ) where
     done h =
         let e : n - i ≡ 0 = omega arith in
         let t : take i l ≡ l = take_all i l (omega (arith, z.size)) in
-        sym t ∙ sym (append_nil (take i l)) ∙ rw e at z.all
+        sym t ∙ sym (append-nil (take i l)) ∙ rw e at z.all
 
 -- ---- what is filled, and what stays
 

@@ -4,7 +4,7 @@ use mathlib.Core.Path.{◌≡◌, refl, sym, ap, ◌∙◌}
 use mathlib.Core.Bool.{true}
 use mathlib.Core.List.{List, [], ◌∷◌, ◌++◌}
 use native.Mathlib.Nat.{sub-zero, mul-suc}
-use native.Mathlib.Numerals.{add_one}
+use native.Mathlib.Numerals.{add-one}
 use native.Mathlib.Omega.{arith}
 use lib.ListN.{length, get_or, drop, set, drop_of_length-le}
 use borrow.Author.Tests.{eq-eqb, ne_eqb}
@@ -12,7 +12,7 @@ use Rattle.refusal.specs.declared.Refusal.TheVariants.{CellField}
 use Rattle.window.specs.Memories.{cell}
 use Rattle.image.specs.Codec.{Codec, digits, num, seq, via, enc_many, no_state}
 use Rattle.image.specs.Image.{word_codec, cell_codec, cells_of, cell_length, word_length}
-use Rattle.image.specs.Laws.Numbers.{length_digits}
+use Rattle.image.proofs.Laws.Numbers.{length_digits}
 use Rattle.image_bytes.specs.Code.Writing.{laid, put_at, cell_bytes, put_cells}
 use Rattle.image_bytes.specs.Laws.Laid.{put_fits, put_not, laid_nil, laid_snoc, length_laid, laid_append}
 use Rattle.image_bytes.specs.Laws.Bytes.{uniform_length, cell_length_lem, cells_length_lem, cells_cons, cell_bytes_length}
@@ -63,7 +63,7 @@ module _ {A : Type 0} (c : Codec A) (size : ℕ) (long : (a : A) → length (c.e
           most = omega arith;
           inside = omega (arith, z.inside);
           same = rw e1 (length_laid p (c.enc a) l r) ∙ z.same;
-          all = rw (e1, add_one i) (rw (long a) at o) ∙ rw d at z.all;
+          all = rw (e1, add-one i) (rw (long a) at o) ∙ rw d at z.all;
         }
 
     pub done : length xs ≤ i → at + size * length xs ≤ length l₀ → l ≡ put_at at (enc_many (λ _. c) no_state tt xs) l₀

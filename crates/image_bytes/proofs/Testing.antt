@@ -6,9 +6,9 @@ use mathlib.Core.List.{List, ◌∷◌}
 use native.Mathlib.Omega.{arith}
 use lib.ListN.{get_or}
 use Rattle.image.specs.Image.{cell_length}
-use Rattle.word.specs.Laws.Conjunctions.{and_assoc}
+use Rattle.word.proofs.Laws.Conjunctions.{and_assoc}
 use Rattle.step.specs.Soundness.{every}
-use Rattle.image.specs.Laws.Conjoined.{and_true}
+use Rattle.image.proofs.Laws.Conjoined.{and_true}
 use Rattle.image_bytes.specs.Code.Reading.{listed, tags_at}
 use Rattle.image_bytes.specs.Laws.Fields.{byte_at}
 

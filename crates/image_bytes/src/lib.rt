@@ -1,4 +1,6 @@
 // Numbers, words and cells of an image: read from bytes, written to bytes, and checked.
+#![tactic(auto)]
+
 ghost use Rattle.std.specs.Prelude.{◌≡◌, ◌&&◌, ◌+◌, ◌-◌, ◌*◌, ◌^◌, ◌≤◌, ◌<◌, min, length};
 ghost use Rattle.window.specs.Memories.{memory};
 ghost use Rattle.step.specs.Soundness.{every};
@@ -12,7 +14,7 @@ use image::{CELL_BYTES, WORD_BYTES};
 use refusal::Refusal;
 
 // Whose tags they are: the qualities of constants, the tags of registers or the states of data words.
-#[derive(Drop)]
+#[derive(Clone, Copy)]
 pub enum CellKind {
     Constant,
     Register,
@@ -20,7 +22,7 @@ pub enum CellKind {
 }
 
 // A check of an image under way: refused, or at the place of the next field.
-#[derive(Drop)]
+#[derive(Clone, Copy)]
 pub enum Scan {
     Refused(Refusal),
     At(usize),

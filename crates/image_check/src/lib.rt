@@ -1,4 +1,6 @@
 // The check of a whole image: one pass over its bytes, writing nothing.
+#![tactic(auto)]
+
 ghost use Rattle.std.specs.Prelude.{◌≡◌, not, ◌&&◌, ◌+◌, ◌*◌, ◌≤◌, ◌<◌, ltb, leb, eqb, drop};
 ghost use Rattle.step.specs.Queues.{occ};
 ghost use Rattle.step.specs.Soundness.{has_row, windows_sound, distinct, total_sound};

@@ -1,9 +1,9 @@
 -- The loop that takes the rows: its invariant, and a turn.
-use Prim.Native.Nat.{ℕ, suc, ◌+◌, ◌-◌, ◌*◌, ◌≤◌, ◌<◌}
+use Prim.Native.Nat.{ℕ, suc, ◌+◌, ◌-◌, ◌≤◌, ◌<◌}
 use mathlib.Core.Path.{◌≡◌, sym, ◌∙◌}
 use mathlib.Core.List.{List, ◌++◌, append_assoc}
 use native.Mathlib.Nat.{sub-zero}
-use native.Mathlib.Numerals.{add_one}
+use native.Mathlib.Numerals.{add-one}
 use native.Mathlib.Omega.{arith}
 use lib.ListN.{length, take, drop, set, length-set, take-append-drop}
 use lib.Seq.{take-suc-set, drop-set-lt}
@@ -35,7 +35,7 @@ module _ (s : List ℕ) (n : ℕ) (old l : List Row) where
           most = omega arith;
           place = omega (arith, z.place);
           size = length-set l i v ∙ z.size;
-          all = rw (e, add_one i, take-suc-set l i (row_at p s) (omega (arith, z.size)), drop-set-lt n l i (row_at p s) h, append_assoc) (rw m at z.all);
+          all = rw (e, add-one i, take-suc-set l i (row_at p s) (omega (arith, z.size)), drop-set-lt n l i (row_at p s) h, append_assoc) (rw m at z.all);
         }
 
     pub done : n ≤ i → l ≡ over (rows_at n s) old

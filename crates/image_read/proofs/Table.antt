@@ -2,8 +2,8 @@
 use Prim.Native.Nat.{ℕ, zero, suc, ◌+◌, ◌-◌, ◌*◌, ◌≤◌, ◌<◌}
 use mathlib.Core.Path.{◌≡◌, refl, sym, ap, ap₂, ◌∙◌}
 use mathlib.Core.Bool.{cond}
-use mathlib.Core.List.{List, [], ◌∷◌, ◌++◌, append_assoc, append_nil}
-use native.Mathlib.Numerals.{add_one}
+use mathlib.Core.List.{List, [], ◌∷◌, ◌++◌, append_assoc, append-nil}
+use native.Mathlib.Numerals.{add-one}
 use native.Mathlib.Omega.{arith}
 use borrow.Author.Tests.{eq-eqb, ne_eqb}
 use lib.Dec.{eqb}
@@ -13,7 +13,7 @@ use Rattle.step.specs.declared.Queue.{Queue}
 use Rattle.step.specs.State.{no_queue}
 use Rattle.image.specs.declared.Process.{Process}
 use Rattle.image.specs.Image.{queue_of_byte, pts_of, queue_of, queues_of, psw_table, process_length}
-use Rattle.image.specs.Laws.Table.{length_pts_of, length_psw_table}
+use Rattle.image.proofs.Laws.Table.{length_pts_of, length_psw_table}
 use Rattle.image_bytes.specs.Code.Reading.{field_at, listed}
 use Rattle.image_bytes.specs.Laws.Listed.{listed_cons, listed_none, length_listed}
 use Rattle.image_check.specs.Code.Places.{process_at, processes_at}
@@ -86,13 +86,13 @@ module _ (s : List ℕ) (at m t : ℕ) where
       queue_taken {v} e f =
           let n = rw (eq-eqb (queue_of_byte (field_at 1 (p + 1) s)) t e) at next in
           let c : 64 - len - 1 ≡ 64 - suc len = omega arith in
-          let d : drop (suc len) pts ≡ replicate (64 - suc len) 0 = rw add_one at (sym (drop-drop 1 len pts)) ∙ ap (drop 1) q.zeros ∙ drop_replicate 1 (64 - len) 0 ∙ rw c in
+          let d : drop (suc len) pts ≡ replicate (64 - suc len) 0 = rw add-one at (sym (drop-drop 1 len pts)) ∙ ap (drop 1) q.zeros ∙ drop_replicate 1 (64 - len) 0 ∙ rw c in
           record {
             inside = omega (arith, q.inside);
             room = omega (arith, q.room);
             size = length-set pts len v ∙ q.size;
-            zeros = rw (add_one len, drop-set-lt (suc len) pts len v (omega arith)) d;
-            all = rw (f, add_one len, take-suc-set pts len (field_at 1 p s) (omega (arith, q.size, q.room)), append_assoc) (rw n at q.all);
+            zeros = rw (add-one len, drop-set-lt (suc len) pts len v (omega arith)) d;
+            all = rw (f, add-one len, take-suc-set pts len (field_at 1 p s) (omega (arith, q.size, q.room)), append_assoc) (rw n at q.all);
           }
 
       pub queue_skipped : (queue_of_byte (field_at 1 (p + 1) s) ≡ t → ⊥) → Queueing s at m t pts len (p + process_length) (k - 1)
@@ -104,7 +104,7 @@ module _ (s : List ℕ) (at m t : ℕ) where
     unfolding queue_of processes_at pts_of
     queue_done h =
         let none : pts_of t (processes_at k p s) ≡ [] = ap (pts_of t) (listed_none process_length (λ q. process_at q s) k p h) in
-        let e : take len pts ≡ pts_of t (processes_at m at s) = sym (append_nil (take len pts)) ∙ rw none at q.all in
+        let e : take len pts ≡ pts_of t (processes_at m at s) = sym (append-nil (take len pts)) ∙ rw none at q.all in
         let n : len ≡ length (pts_of t (processes_at m at s)) = sym (length-take-le len pts (omega (arith, q.size, q.room))) ∙ ap length e in
         let l : pts ≡ pts_of t (processes_at m at s) ++ replicate (64 - len) 0 = sym (take-append-drop len pts) ∙ rw (e, q.zeros) in
         rw (← n) (ap (λ (x : List ℕ). record { pts = x; head = 0; len = len }) l)
@@ -122,7 +122,7 @@ pub queues_go : (qs : List Queue) (k : ℕ) (ps : List Process) (x : Queue) → 
     → take (k + 1) (set qs k x) ≡ queues_of (k + 1) 0 ps
 queues_go qs k ps x h e i =
     let z : 0 + k ≡ k = omega arith in
-    rw (add_one k)
+    rw (add-one k)
     (take-suc-set qs k x h ∙ ap₂ {C = List Queue} (λ l q. l ++ (q ∷ [])) i (e ∙ ap (λ (j : ℕ). queue_of (pts_of j ps)) (sym z)) ∙ sym (queues_snoc k 0 ps))
 
 -- no queue is longer than there are processes

@@ -1,13 +1,13 @@
 -- The buffers, filled section by section, hold the state that is read.
-use Prim.Native.Nat.{ℕ, ◌+◌, ◌*◌}
+use Prim.Native.Nat.{ℕ, ◌+◌}
 use mathlib.Core.Path.{◌≡◌, sym, ap₂, ◌∙◌}
 use mathlib.Core.List.{List}
 use Rattle.window.specs.declared.Row.{Row}
 use Rattle.step.specs.declared.ProcessTable.{ProcessTable}
 use Rattle.step.specs.Queues.{live_counts, live_total}
 use Rattle.image.specs.Codec.{Bytes}
-use Rattle.image.specs.Laws.Accepted.{decode_accepted}
-use Rattle.image.specs.Laws.LiveCounts.{accepted_total}
+use Rattle.image.proofs.Laws.Accepted.{decode_accepted}
+use Rattle.image.proofs.Laws.LiveCounts.{accepted_total}
 use Rattle.image.specs.Image.{queues_of, psw_table, memory_of, state_of, process_length, tasks_length, constants_begin, registers_begin, program_begin, data_begin}
 use Rattle.image.specs.Fields.{over}
 use Rattle.image_bytes.specs.Code.Reading.{field_at, words_at, cells_at}

@@ -1,4 +1,6 @@
 // Reading an image: rows and process table by value, words and cells into lent buffers. All is checked before anything is filled.
+#![tactic(auto)]
+
 ghost use Rattle.std.specs.Prelude.{◌≡◌, List, true, min, ◌+◌, ◌-◌, ◌*◌, ◌≤◌, length};
 ghost use Rattle.window.specs.declared.Row.{Row};
 ghost use Rattle.step.specs.declared.ProcessTable.{ProcessTable};

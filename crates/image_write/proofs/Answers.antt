@@ -1,5 +1,5 @@
 -- What the sizes of a sound state are, how long its image is, and the three answers of a write.
-use Prim.Native.Nat.{ℕ, min, ◌+◌, ◌*◌, ◌^◌, ◌≤◌, ◌<◌}
+use Prim.Native.Nat.{ℕ, min, ◌+◌, ◌≤◌, ◌<◌}
 use mathlib.Core.Path.{◌≡◌, sym, ap, ◌∙◌}
 use mathlib.Core.Bool.{Bool, true, false}
 use mathlib.Core.List.{List, ◌++◌}
@@ -10,17 +10,17 @@ use lib.Seq.{length-take-le}
 use lib.Dec.{eqb}
 use borrow.Author.Tests.{eqb-true, leb-true, ltb-true, lt-ltb, le-ltb}
 use Rattle.window.specs.Limits.{most_constants, most_registers, most_program, most_data}
-use Rattle.word.specs.Laws.Bools.{and_left, and_right}
+use Rattle.word.proofs.Laws.Bools.{and_left, and_right}
 use Rattle.window.specs.Memories.{Memory}
 use Rattle.refusal.specs.declared.Refusal.TheVariants.{ShortBuffer, UnsoundState}
 use Rattle.step.specs.declared.ProcessTable.{ProcessTable}
 use Rattle.step.specs.Queues.{occ, live_pts, live_total}
 use Rattle.step.specs.State.{State}
 use Rattle.step.specs.Soundness.{every, distinct, pt_sound, words_sound, memory_sound}
-use Rattle.step.specs.Laws.Occurrences.{length_once}
-use Rattle.step.specs.Laws.Every.{once_of, every_at}
-use Rattle.step.specs.Laws.Sound.{sound_parts}
-use Rattle.step.specs.Laws.Counted.{live_counted}
+use Rattle.step.proofs.Laws.Occurrences.{length_once}
+use Rattle.step.proofs.Laws.Every.{once_of, every_at}
+use Rattle.step.proofs.Laws.Sound.{sound_parts}
+use Rattle.step.proofs.Laws.Counted.{live_counted}
 use Rattle.image.specs.Image.{encode, image_length}
 use Rattle.image_bytes.specs.Code.Writing.{laid, put_at}
 use Rattle.image_bytes.specs.Laws.Laid.{put_fits}
@@ -32,10 +32,10 @@ use Rattle.library.specs.declared.WriteAnswer.TheVariants.{Refused, Wrote}
 use Rattle.library.specs.Buffers.{Buffers, fields_in}
 use Rattle.library.specs.Calls.{unless, leaving, or_else, state_refused, state_refusal, output_refusal, write_refusal, write_answer, write_leaves}
 use Rattle.library.specs.Promises.{write_answered, WritePromise}
-use Rattle.library.specs.Laws.InPlace.{fields_sized}
-use Rattle.library.specs.Laws.Places.{Fitting, fitting}
-use Rattle.library.specs.Laws.Held.{before, lengths, room_held, accepted, accepted_live}
-use Rattle.library.specs.Laws.Numbers.{write_promise}
+use Rattle.library.proofs.Laws.InPlace.{fields_sized}
+use Rattle.library.proofs.Laws.Places.{Fitting, fitting}
+use Rattle.library.proofs.Laws.Held.{before, lengths, room_held, accepted, accepted_live}
+use Rattle.library.proofs.Laws.Numbers.{write_promise}
 use Rattle.library_state.specs.Laws.Cut.{cut, cut_fields}
 use Rattle.image_write.specs.Code.Bytes.{image_bytes}
 use Rattle.image_write.proofs.Whole.{image_bytes_lem}

@@ -5,7 +5,7 @@ use mathlib.Core.List.{List, [], ◌++◌}
 use native.Mathlib.Omega.{arith}
 use lib.ListN.{length, length-append}
 use Rattle.image.specs.Codec.{digits}
-use Rattle.image.specs.Laws.Numbers.{length_digits}
+use Rattle.image.proofs.Laws.Numbers.{length_digits}
 use Rattle.image_bytes.specs.Code.Writing.{laid, put_at}
 use Rattle.image_bytes.specs.Laws.Laid.{put_fits, laid_nil, length_laid, laid_append}
 

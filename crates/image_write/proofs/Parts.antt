@@ -9,11 +9,11 @@ use Rattle.window.specs.declared.Row.{Row}
 use Rattle.step.specs.declared.Queue.{Queue}
 use Rattle.step.specs.Queues.{ring, list_of, live_pts}
 use Rattle.step.specs.State.{no_queue}
-use Rattle.step.specs.Laws.Queues.{ring_same, ring_first, length_list}
+use Rattle.step.proofs.Laws.Queues.{ring_same, ring_first, length_list}
 use Rattle.image.specs.declared.Process.{Process}
 use Rattle.image.specs.Codec.{num, seq, via, enc_many}
 use Rattle.image.specs.Image.{byte_of_queue, row_codec, process_codec, to_process, processes_in, processes_from, row_length, process_length}
-use Rattle.image.specs.Laws.Numbers.{length_digits}
+use Rattle.image.proofs.Laws.Numbers.{length_digits}
 use Rattle.image_bytes.specs.Laws.Bytes.{uniform_length}
 use Rattle.image_bytes.specs.Code.Writing.{put_at}
 use Rattle.step_soundness.proofs.Loops.{next_of_lem, none_of, next_in, past_count}

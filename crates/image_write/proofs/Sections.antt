@@ -8,13 +8,13 @@ use lib.ListN.{length, take, length-append}
 use lib.Seq.{length-take-le}
 use lib.Dec.{leb}
 use borrow.Author.Tests.{eq-eqb}
-use Rattle.word.specs.Laws.Bools.{Le?, below, above, le?}
+use Rattle.word.proofs.Laws.Bools.{Le?, below, above, le?}
 use Rattle.window.specs.declared.Row.{Row}
 use Rattle.step.specs.declared.Queue.{Queue}
 use Rattle.step.specs.Queues.{live_pts}
 use Rattle.image.specs.Codec.{digits}
 use Rattle.image.specs.Image.{processes_from, process_length, tasks_length, processes_length, cells_length, words_length}
-use Rattle.image.specs.Laws.Numbers.{length_digits}
+use Rattle.image.proofs.Laws.Numbers.{length_digits}
 use Rattle.image_bytes.specs.Code.Writing.{laid, put_at, word_bytes, cell_bytes, put_cells}
 use Rattle.image_bytes.specs.Laws.Bytes.{word_bytes_length, cell_bytes_length}
 use Rattle.image_bytes.specs.Laws.Laid.{length_laid}

@@ -1,4 +1,6 @@
 // Writing an image: a sound state's fields, section by section.
+#![tactic(auto)]
+
 ghost use Rattle.std.specs.Prelude.{◌≡◌, false, ◌+◌, ◌*◌, ◌^◌, ◌≤◌, length, take, get_or};
 ghost use Rattle.window.specs.Memories.{memory};
 ghost use Rattle.step.specs.Queues.{list_of, live_pts};
@@ -219,8 +221,8 @@ fn put_image(
     n: usize,
     m: usize,
 ) -> usize
-    requires n_le_tasks { (n ≤ tasks) × ((m ≡ length (live_pts table.users.queues)) × ((length constant_tags.now ≡ length constant_words.now) × ((length register_tags.now ≡ length register_words.now) × (length data_tags.now ≡ length data_words.now)))) }
-    requires data_words_in_bounds { length (image_bytes (state_in rows n table (memory constant_tags.now constant_words.now) register_tags.now register_words.now program.now data_tags.now data_words.now)) ≤ length output.old }
+    requires counted { (n ≤ tasks) × ((m ≡ length (live_pts table.users.queues)) × ((length constant_tags.now ≡ length constant_words.now) × ((length register_tags.now ≡ length register_words.now) × (length data_tags.now ≡ length data_words.now)))) }
+    requires room { length (image_bytes (state_in rows n table (memory constant_tags.now constant_words.now) register_tags.now register_words.now program.now data_tags.now data_words.now)) ≤ length output.old }
     ensures value { result ≡ length (image_bytes (state_in rows n table (memory constant_tags.now constant_words.now) register_tags.now register_words.now program.now data_tags.now data_words.now)) }
     ensures output_after { output.new ≡ put_at 0 (image_bytes (state_in rows n table (memory constant_tags.now constant_words.now) register_tags.now register_words.now program.now data_tags.now data_words.now)) output.old }
 {

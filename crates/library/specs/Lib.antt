@@ -1,16 +1,8 @@
 pub mod Buffers
 pub mod Calls
 pub mod Numbers
-pub mod InPlace
-pub mod Confined
 pub mod Held
 pub mod HeldTrials
 pub mod Empty
 pub mod Promises
-pub mod InTurn
-pub mod Isolation
-pub mod Accepted
-pub mod OfCalls
-pub mod Trials
 pub mod Code
-pub mod Laws

@@ -1,5 +1,7 @@
 -- Document 01's numbers in the answers of the calls: the number of the refusal, 0 where there is none.
 use Rattle.std.specs.Prelude.{ℕ}
+use Rattle.std.proofs.Math.Option.{Option, none, some}
+use Rattle.refusal.specs.declared.Refusal.{Refusal}
 use Rattle.refusal.specs.Numbers.{number_of}
 use Rattle.library.specs.Calls.{Answer, refuses, answers}
 
@@ -7,3 +9,8 @@ use Rattle.library.specs.Calls.{Answer, refuses, answers}
 unfoldable pub number_answered : {A : Type 0} → Answer A → ℕ
 number_answered (refuses e) = number_of e
 number_answered (answers a) = 0
+
+-- the number of a refusal, 0 where there is none
+unfoldable pub numbered : Option Refusal → ℕ
+numbered none = 0
+numbered (some e) = number_of e

@@ -1,4 +1,6 @@
 // Refusal 8 of a state in lent buffers: sizes that do not fit, or a state that isn't sound.
+#![tactic(auto)]
+
 ghost use Rattle.std.specs.Prelude.{◌≡◌, true, min, length};
 ghost use Rattle.library.specs.Buffers.{fits};
 ghost use Rattle.library.specs.Calls.{state_refused};

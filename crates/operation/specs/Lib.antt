@@ -5,11 +5,4 @@ pub mod Specified
 pub mod Environment
 pub mod Perform
 pub mod Decide
-pub mod Exclusions
-pub mod ConstantInstances
-pub mod PartInstances
-pub mod OperationInstances
-pub mod CheckInstances
-pub mod Filling
 pub mod Code
-pub mod Laws

@@ -1,4 +1,6 @@
 // Operations: what a code stands for, the checks of an instruction, and what it decides.
+#![tactic(auto)]
+
 ghost use Rattle.std.specs.Prelude.{◌≡◌};
 ghost use Rattle.operation.specs.Environment.{kind_of};
 
@@ -7,7 +9,7 @@ use window::{Cell, Write};
 use word::Part;
 
 // An operation, with the test, the action list or the access bits that its code holds; of B also the left digit of its address.
-#[derive(Drop)]
+#[derive(Clone, Copy)]
 pub enum Operation {
     Nop,
     Three(Three),
@@ -24,7 +26,7 @@ pub enum Operation {
 }
 
 // The operations on registers, by their operands; each gives D a result. D, S1, S2.
-#[derive(Drop)]
+#[derive(Clone, Copy)]
 pub enum Three {
     Eor,
     Eqv,
@@ -39,7 +41,7 @@ pub enum Three {
 }
 
 // D, S1.
-#[derive(Drop)]
+#[derive(Clone, Copy)]
 pub enum Two {
     Mov,
     Not,
@@ -50,14 +52,14 @@ pub enum Two {
 }
 
 // D: CLR, and ONE, which gives all ones.
-#[derive(Drop)]
+#[derive(Clone, Copy)]
 pub enum One {
     Clr,
     Ones,
 }
 
 // What a 16-bit code stands for.
-#[derive(Drop)]
+#[derive(Clone, Copy)]
 pub enum Code {
     Privileged,
     Simulated,
@@ -67,7 +69,7 @@ pub enum Code {
 }
 
 // The roles of the three fields after the code.
-#[derive(Drop)]
+#[derive(Clone, Copy)]
 pub struct Roles {
     pub first: Role,
     pub second: Role,
@@ -75,7 +77,7 @@ pub struct Roles {
 }
 
 // A field that was looked up: its role, access code and place, and the cell there before the step.
-#[derive(Drop)]
+#[derive(Clone, Copy)]
 pub struct FoundOperand {
     pub role: Role,
     pub access: u8,
@@ -83,7 +85,7 @@ pub struct FoundOperand {
     pub cell: Cell,
 }
 
-#[derive(Drop)]
+#[derive(Clone, Copy)]
 pub struct FoundOperands {
     pub first: FoundOperand,
     pub second: FoundOperand,
@@ -91,7 +93,7 @@ pub struct FoundOperands {
 }
 
 // Why a step traps.
-#[derive(Drop)]
+#[derive(Clone, Copy)]
 pub enum Trap {
     CreateFault,
     IllegalInstruction,
@@ -103,7 +105,7 @@ pub enum Trap {
 }
 
 // What a step waits for.
-#[derive(Drop)]
+#[derive(Clone, Copy)]
 pub enum Wait {
     Access,
     Data,
@@ -111,21 +113,21 @@ pub enum Wait {
 }
 
 // The part of a data word that B and the low three address bits specify, if they specify one.
-#[derive(Drop)]
+#[derive(Clone, Copy)]
 pub enum Specified {
     Part(Part),
     Illegal,
 }
 
 // The part of a data word that may be reached, by the word's real address, or why the step traps.
-#[derive(Drop)]
+#[derive(Clone, Copy)]
 pub enum Reach {
     Reaches(usize, Part),
     Stops(Trap),
 }
 
 // What becomes of the process: it goes on with a PSW, it leaves, or it goes on and a process with the second PSW joins.
-#[derive(Drop)]
+#[derive(Clone, Copy)]
 pub enum Fate {
     Continues(u64),
     Quits,
@@ -133,7 +135,7 @@ pub enum Fate {
 }
 
 // What an executed step writes, in order: the sources of the three fields, the destination, the data word; and the process's fate.
-#[derive(Drop)]
+#[derive(Clone, Copy)]
 pub struct Effects {
     pub first: Write,
     pub second: Write,
@@ -143,7 +145,7 @@ pub struct Effects {
     pub fate: Fate,
 }
 
-#[derive(Drop)]
+#[derive(Clone, Copy)]
 pub enum Decision {
     Waits(Wait),
     Traps(Trap, u64),
@@ -151,7 +153,7 @@ pub enum Decision {
 }
 
 // A decision without what it carries: how the process goes on, or why it traps. No operation answers the create fault.
-#[derive(Drop)]
+#[derive(Clone, Copy)]
 pub enum Course {
     Continues,
     // for an access test or the create fault flag

@@ -2,6 +2,8 @@
 // illegal: check 2, an illegal access code or a nonzero unused field. waits: check 5, each source with its tag, D by its address.
 // masked: check 6, each source with its address and its tag, a constant by its quality. release: sources are set empty, each by its address and its tag before the step.
 // write: that, then the destination gets a word of a quality.
+#![tactic(auto)]
+
 ghost use Rattle.std.specs.Prelude.{◌≡◌, ◌/◌, ◌%◌, ◌^◌, ◌&&◌, ◌||◌, eqb, get_or, set};
 ghost use Rattle.operand.specs.declared.Role.TheVariants.{Unused, Destination, Source};
 ghost use Rattle.operand.specs.Field.{access_of, illegal_field};

@@ -1,5 +1,7 @@
 // Operations on the process itself: NOP, B, CALL, CREATE, QT and SVC. Each acts at once: the public function tests the fields and looks the operands up,
 // the function `_found` tests what stands there, then writes. The operands of the three fields are d, a, b, of S1 and S2 the tags x, y (0 of a constant) and the words s1, s2.
+#![tactic(auto)]
+
 ghost use Rattle.std.specs.Prelude.{◌≡◌, cond, List, eqb, get_or, set, ℕ, ◌+◌, ◌*◌, ◌%◌, ◌^◌};
 ghost use Rattle.word.specs.Fields.{next_of};
 ghost use Rattle.word.specs.Tests.{holds_of};

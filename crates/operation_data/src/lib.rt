@@ -1,5 +1,7 @@
 // The operations on data words: LODI, LODX, STOI, STOX. Each acts at once: the public function tests SAC, DAC and the fields and looks the operands up, the function `_found` tests what
 // stands there, then writes. D is the register d; S0, S1, S2 lie at c, a, b with the tags t, x, y (0 of a constant) and the words s0, s1, s2; the data window has the bytes from data_base on and below data_end.
+#![tactic(auto)]
+
 ghost use Rattle.std.specs.Prelude.{◌≡◌, ℕ, ◌+◌, ◌%◌, ◌^◌, ◌||◌, List, get_or, set};
 ghost use Rattle.word.specs.declared.Instruction.{Instruction};
 ghost use Rattle.word.specs.Parts.{part_at, extracted, placed};
@@ -30,7 +32,7 @@ use window::{EMPTY_DATA, FULL_DATA, Place};
 use word::Part;
 
 // What check 7 answers: the part of a data word, by the word's real address, or why the step traps.
-#[derive(Drop)]
+#[derive(Clone, Copy)]
 enum Reached {
     Part(usize, Part),
     Violation,

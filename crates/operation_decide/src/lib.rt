@@ -1,4 +1,6 @@
 // One instruction of a process: it is fetched, decoded and handed to its operation, which acts at once.
+#![tactic(auto)]
+
 ghost use Rattle.std.specs.Prelude.{◌≡◌, List, get_or, ℕ};
 ghost use Rattle.window.specs.declared.Row.{Row};
 ghost use Rattle.window.specs.Windows.{program_window, data_window};

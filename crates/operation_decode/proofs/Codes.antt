@@ -8,7 +8,7 @@ use native.Mathlib.Omega.{arith}
 use lib.Dec.{eqb}
 use types.Run.{OneOf}
 use borrow.Author.Tests.{ne_eqb, eq-eqb}
-use Rattle.word.specs.Laws.Bools.{Eq?, same, differ, eq?, and_left, and_right, clash}
+use Rattle.word.proofs.Laws.Bools.{Eq?, same, differ, eq?, and_left, and_right, clash}
 use Rattle.operation.specs.declared.Code.{Code}
 use Rattle.operation.specs.declared.Code.TheVariants.{Privileged, Simulated, Unlisted}
 use Rattle.operation.specs.Codes.{Line, line, find, privileged, simulated, single_codes, families, family_of, single_of, code_of}

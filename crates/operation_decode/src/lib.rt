@@ -1,4 +1,6 @@
 // Codes: what a 16-bit code stands for.
+#![tactic(auto)]
+
 ghost use Rattle.std.specs.Prelude.{◌≡◌, cond, eqb};
 ghost use Rattle.operation.specs.declared.Code.TheVariants.{Unlisted};
 ghost use Rattle.operation.specs.Codes.{call_of, quit_of, data_code_of, code_of};

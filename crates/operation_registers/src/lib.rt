@@ -1,6 +1,8 @@
 // Operations on registers: those with the same operands share a function. Each acts at once: the public function tests the fields and looks
 // the operands up, the function `_found` tests what stands there, then writes. The operands of the three fields are d, a, b, of S1 and S2 the
 // tags x, y (0 of a constant) and the words s1, s2.
+#![tactic(auto)]
+
 ghost use Rattle.std.specs.Prelude.{◌≡◌, List, get_or, ℕ};
 ghost use Rattle.word.specs.declared.Instruction.{Instruction};
 ghost use Rattle.window.specs.declared.Row.{Row};

@@ -1,9 +1,11 @@
 // Why a call is refused. One enum for all calls, so that each number stands in one definition.
+#![tactic(auto)]
+
 ghost use Rattle.std.specs.Prelude.{◌≡◌};
 ghost use Rattle.refusal.specs.Numbers.{number_of};
 
 // Why a call is refused; a field of an image is told apart by its section.
-#[derive(Drop)]
+#[derive(Clone, Copy)]
 pub enum Refusal {
     InputEnds,
     CountOverLimit,

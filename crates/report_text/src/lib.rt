@@ -1,4 +1,6 @@
 // The batch program's output as text in a lent buffer: the report of a run, or the line of a refusal. A byte past the end is left out.
+#![tactic(auto)]
+
 ghost use Rattle.std.specs.Prelude.{◌≡◌, [], ◌∷◌, ◌++◌, ◌+◌, ◌*◌, ◌%◌, ◌≤◌, length, take};
 ghost use Rattle.step.specs.State.{live_count};
 ghost use Rattle.run.specs.Run.{no_counts, own_counts};

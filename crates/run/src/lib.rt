@@ -1,4 +1,6 @@
 // A run over a schedule and its counts.
+#![tactic(auto)]
+
 ghost use Rattle.std.specs.Prelude.{◌≡◌};
 ghost use Rattle.run.specs.Schedule.{item_sound};
 
@@ -14,7 +16,7 @@ pub const MOST_ITEMS: usize = 65535;
 pub const TASK_NUMBERS: usize = TASKS + 1;
 
 // How often an item ended so, and how many tries there were.
-#[derive(Drop)]
+#[derive(Clone, Copy)]
 pub struct Counts {
     pub executed: u32,
     pub waved: u32,

@@ -1,4 +1,6 @@
 // The numbers of a run: queues side by side, trap records and windows by task, the word of free PTs. From queues and rows, and back.
+#![tactic(auto)]
+
 ghost use Rattle.std.specs.Prelude.{◌≡◌, ◌+◌, ◌-◌, ◌*◌, ◌%◌, ◌^◌, ◌≤◌, ◌<◌, length, take};
 ghost use Rattle.std.proofs.Math.Seq.{paste};
 ghost use Rattle.window.specs.Code.Spans.{end_of};
@@ -30,14 +32,14 @@ pub const ALL_SPANS: usize = NUMBERS * SPANS;
 const ALL_FREE: u64 = 0xffff_ffff_ffff_ffff;
 
 // Where the row of a task stands.
-#[derive(Drop)]
+#[derive(Clone, Copy)]
 pub enum RowPlace {
     Listed(usize),
     Unlisted,
 }
 
 // Queues side by side: of ring k the 64 places from 64 k on, its head and its length at k.
-#[derive(Drop)]
+#[derive(Clone, Copy)]
 pub struct Rings {
     pub pts: [u8; RING_PLACES],
     pub heads: [usize; RINGS],
@@ -45,7 +47,7 @@ pub struct Rings {
 }
 
 // By task: the trap record, and the windows in eight numbers from 8 t on.
-#[derive(Drop)]
+#[derive(Clone, Copy)]
 pub struct Tasks {
     pub kinds: [u8; NUMBERS],
     pub stored: [u64; NUMBERS],

@@ -1,5 +1,6 @@
 // A run over a schedule: the refusals 8, 9 and 10, then one attempt after another, an item being a try and a step. One item by itself is a run over
 // it alone.
+#![tactic(auto)]
 
 mod next;
 
@@ -43,7 +44,7 @@ const CELLS: usize = 10 * NUMBERS;
 const PSWS: usize = PTS + 1;
 
 // The numbers that a run carries from attempt to attempt, besides the memories.
-#[derive(Drop)]
+#[derive(Clone, Copy)]
 pub struct Carried {
     pub marks: [u8; MARKS],
     pub pts: [u8; RING_PLACES],
@@ -377,7 +378,7 @@ fn users_of(left: Carried) -> Processes
 }
 
 fn refused(e: Refusal, rows: Rows, table: ProcessTable) -> AfterRun
-    ensures* { λ r. ⌜ r ≡ record { rows = rows; table = table; result = run_answered (refuses e) } ⌝ }
+    ensures { result ≡ record { rows = rows; table = table; result = run_answered (refuses e) } }
 {
     AfterRun {
         rows,

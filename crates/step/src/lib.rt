@@ -1,4 +1,6 @@
 // One item of a task: queues, the process table, attempts, and how they end.
+#![tactic(auto)]
+
 use operation::{Decision, Trap};
 
 // The places of a queue.
@@ -14,7 +16,7 @@ pub const TOTAL: usize = 64;
 pub const NO_TRAP: u8 = 0xFF;
 
 // The PTs of a task's processes in a ring: the head stands at head, and len of them follow one another.
-#[derive(Drop)]
+#[derive(Clone, Copy)]
 pub struct Queue {
     pub pts: [u8; PLACES],
     pub head: usize,
@@ -28,7 +30,7 @@ pub const NUMBERS: usize = 8;
 pub const QUEUES: usize = 16;
 
 // The processes of one kind of tasks: the PSW of each PT, the queues, the create fault flag, and how many processes live: of each task, and in all.
-#[derive(Drop)]
+#[derive(Clone, Copy)]
 pub struct Processes {
     pub psw: [u64; PTS],
     pub queues: [Queue; QUEUES],
@@ -38,20 +40,20 @@ pub struct Processes {
 }
 
 // The processes of the user tasks.
-#[derive(Drop)]
+#[derive(Clone, Copy)]
 pub struct ProcessTable {
     pub users: Processes,
 }
 
 // Which process of a task acts: in a step the head of the task's queue, in a try the head of its SFU queue.
-#[derive(Drop)]
+#[derive(Clone, Copy)]
 pub enum Attempt {
     Step,
     Try,
 }
 
 // How a step ends. A trap carries its kind and the PSW that is stored.
-#[derive(Drop)]
+#[derive(Clone, Copy)]
 pub enum Ending {
     Executed,
     Waved,
@@ -60,14 +62,14 @@ pub enum Ending {
 }
 
 // What the head process of a task decides; nothing where the task is trapped or without processes.
-#[derive(Drop)]
+#[derive(Clone, Copy)]
 pub enum Decided {
     Idle,
     Decides(Decision),
 }
 
 // What becomes of a task's queues: of the one whose head acts, and of the other. A created PT joins the task's queue.
-#[derive(Drop)]
+#[derive(Clone, Copy)]
 pub enum Motion {
     Stays,
     // head to tail
@@ -85,7 +87,7 @@ pub enum Motion {
 }
 
 // How a step ends, and what becomes of the queues.
-#[derive(Drop)]
+#[derive(Clone, Copy)]
 pub struct StepResult {
     pub ending: Ending,
     pub motion: Motion,

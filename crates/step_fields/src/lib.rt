@@ -1,4 +1,6 @@
 // The tests that a field or a row must pass, in an image as in a state.
+#![tactic(auto)]
+
 ghost use Rattle.std.specs.Prelude.{◌≡◌};
 ghost use Rattle.step.specs.Soundness.{task_sound, kind_sound, record_sound, ends_in, row_ends_in, total_sound};
 

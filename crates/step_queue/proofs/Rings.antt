@@ -6,7 +6,7 @@ use native.Mathlib.Omega.{arith}
 use lib.ListN.{get_or}
 use Rattle.step.specs.declared.Queue.{Queue}
 use Rattle.step.specs.Queues.{ring, list_of}
-use Rattle.step.specs.Laws.Queues.{ring_same, ring_first}
+use Rattle.step.proofs.Laws.Queues.{ring_same, ring_first}
 use Rattle.step_queue.specs.Code.Mask.{without, free_after}
 
 pub ring_starts : (q : Queue) (z : ℕ) → free_after (ring q.pts (q.head % 64) q.len) z ≡ free_after (list_of q) z

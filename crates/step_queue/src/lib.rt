@@ -1,4 +1,6 @@
 // The live processes of each queue, and the free PTs as a word, PT p at digit p from the right.
+#![tactic(auto)]
+
 ghost use Rattle.std.specs.Prelude.{◌≡◌, ℕ, ◌+◌, ◌≤◌, get_or};
 ghost use Rattle.step.specs.State.{no_queue};
 ghost use Rattle.step.specs.Queues.{places, list_of, live_counts, below_total};

@@ -8,13 +8,13 @@ use lib.ListN.{length, get_or, take, drop, length-take, length-append, drop_of_l
 use lib.Seq.{drop-cons, get_or-take}
 use lib.Dec.{eqb}
 use borrow.Author.Tests.{eq-eqb, ne_eqb}
-use Rattle.word.specs.Laws.Bools.{Eq?, same, differ, eq?}
+use Rattle.word.proofs.Laws.Bools.{Eq?, same, differ, eq?}
 use Rattle.window.specs.declared.Row.{Row}
 use Rattle.step.specs.declared.Queue.{Queue}
 use Rattle.step.specs.Queues.{list_of, live_pts, live_counts, live_total}
 use Rattle.step.specs.Soundness.{row_sound, rows_sound, has_row, row_ends_in, windows_sound, queues_sound, alike}
 use Rattle.step_soundness.specs.Code.Held.{queue_sound}
-use Rattle.step.specs.Laws.Queues.{length_list}
+use Rattle.step.proofs.Laws.Queues.{length_list}
 
 -- ---- the elements of a list from the ith on
 

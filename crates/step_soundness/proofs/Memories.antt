@@ -5,12 +5,12 @@ use mathlib.Core.Bool.{Bool, true, false, ◌&&◌}
 use mathlib.Core.List.{List, [], ◌∷◌}
 use lib.ListN.{length, get_or}
 use borrow.Author.Tests.{eq-eqb, ne_eqb, le-leb, lt-leb}
-use Rattle.word.specs.Laws.Conjunctions.{also}
+use Rattle.word.proofs.Laws.Conjunctions.{also}
 use Rattle.window.specs.Memories.{Memory}
 use Rattle.window.specs.Sound.{word_sound}
-use Rattle.window.specs.Laws.Sound.{word_sound_lem}
+use Rattle.window.proofs.Laws.Sound.{word_sound_lem}
 use Rattle.step.specs.Soundness.{every, words_sound, memory_sound}
-use Rattle.image.specs.Laws.Conjoined.{and_true}
+use Rattle.image.proofs.Laws.Conjoined.{and_true}
 
 and_false : (b : Bool) → (b && false) ≡ false
 and_false true = refl

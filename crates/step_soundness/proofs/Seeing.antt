@@ -10,15 +10,15 @@ use lib.Seq.{get_or-set_same, get_or-set_other}
 use lib.Dec.{eqb, leb, ltb}
 use borrow.Author.Tests.{ltb-true, le-ltb}
 use Rattle.word.specs.Fields.{psw_sound}
-use Rattle.word.specs.Laws.Bools.{Eq?, same, differ, eq?, Le?, below, above, le?, and_left, and_right}
-use Rattle.word.specs.Laws.Conjunctions.{also}
+use Rattle.word.proofs.Laws.Bools.{Eq?, same, differ, eq?, Le?, below, above, le?, and_left, and_right}
+use Rattle.word.proofs.Laws.Conjunctions.{also}
 use Rattle.step.specs.declared.Queue.{Queue}
 use Rattle.step.specs.Queues.{ring, list_of, live_pts, occ}
 use Rattle.step.specs.State.{no_queue, psws_of}
 use Rattle.step.specs.Soundness.{every, distinct, pt_sound, processes_sound}
-use Rattle.step.specs.Laws.Queues.{ring_same, ring_first, live_next, live_none}
-use Rattle.step.specs.Laws.Occurrences.{occ_nil, occ_cons, hit_same, hit_differ}
-use Rattle.step.specs.Laws.Every.{every_at, every_of, every_map, once_of, distinct_of}
+use Rattle.step.proofs.Laws.Queues.{ring_same, ring_first, live_next, live_none}
+use Rattle.step.proofs.Laws.Occurrences.{occ_nil, occ_cons, hit_same, hit_differ}
+use Rattle.step.proofs.Laws.Every.{every_at, every_of, every_map, once_of, distinct_of}
 use Rattle.step_soundness.specs.declared.Seen.{Seen}
 use Rattle.step_soundness.specs.Code.Seen.{fresh, seen_one, seen_after}
 

@@ -1,4 +1,6 @@
 // Whether a state is sound: the tests of refusal 8, the stored live counts among them.
+#![tactic(auto)]
+
 ghost use Rattle.std.specs.Prelude.{◌≡◌, not, ◌&&◌, List, ℕ, take};
 ghost use Rattle.word.specs.Fields.{psw_sound};
 ghost use Rattle.window.specs.Memories.{memory};
@@ -148,7 +150,7 @@ fn queues_sound(rows: [Row; TASKS], n: usize, queues: [Queue; QUEUES]) -> bool
 }
 
 // The PTs that came so far; sound while each came once, is below 64 and has a sound PSW.
-#[derive(Drop)]
+#[derive(Clone, Copy)]
 pub struct Seen {
     pub sound: bool,
     pub pts: [bool; PTS],

@@ -1,6 +1,8 @@
 // Refusals 7 to 10 of the calls read, run, step and write, at both sides of their boundaries, on one small state; its live counts on one of seven
 // tasks; runs with tries. A line for each call: what it answered, of a run also each task's own counts, and how many lent places are as they were
 // before it.
+#![tactic(auto)]
+
 ghost use Rattle.std.specs.Prelude.{◌≤◌};
 
 use libc::STDOUT_FILENO;

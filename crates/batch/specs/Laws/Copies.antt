@@ -1,6 +1,6 @@
 -- What goes into a buffer: a text straight, or a copy of one.
 use Rattle.std.specs.Prelude.{ℕ, suc, ◌+◌, ◌≤◌, ◌<◌, ◌≡◌, refl, List, ◌++◌, length, get_or, take, drop, set}
-use Rattle.std.proofs.Common.{ap, ◌∙◌, add_one, arith, lt-ltb, le-ltb, length-append, length-take, length-drop, length-take-le, take_all, take_at, take-suc, drop-cons}
+use Rattle.std.proofs.Common.{ap, ◌∙◌, add-one, arith, lt-ltb, le-ltb, length-append, length-take, length-drop, length-take-le, take_all, take_at, take-suc, drop-cons}
 use Rattle.std.proofs.lemmas.List.{set_at}
 use Rattle.std.proofs.Math.Seq.{append_snoc}
 use Rattle.report_text.specs.Texts.{report_room, TextPromise}
@@ -49,7 +49,7 @@ module _ (text start : List ℕ) where
 
   more : (i : ℕ) → i < length text → i < length start → set (take i text ++ drop i start) i (get_or text i 0) ≡ take (i + 1) text ++ drop (i + 1) start
   more i h k =
-      rw (add_one, drop-cons start i 0 k, take-suc text i 0 h, append_snoc)
+      rw (add-one, drop-cons start i 0 k, take-suc text i 0 h, append_snoc)
       (set_at (take i text) (get_or start i 0) (drop (suc i) start) (get_or text i 0) i (length-take-le i text (omega arith)))
 
   pub goes : (now : List ℕ) (i : ℕ) → Copying text start now i → i < length text → Copying text start (set now i (get_or text i 0)) (i + 1)

@@ -3,22 +3,21 @@ use Rattle.std.specs.Prelude.{ℕ, ◌≤◌, true, List, length}
 use Rattle.std.proofs.Math.Path.{◌≡◌, refl, ap, subst}
 use Rattle.std.proofs.Common.{◌∙◌, arith, le-leb}
 use Rattle.std.proofs.Math.Option.{Option, none, some}
-use Rattle.word.specs.Laws.Conjunctions.{also}
+use Rattle.word.proofs.Laws.Conjunctions.{also}
 use Rattle.refusal.specs.declared.Refusal.{Refusal}
-use Rattle.step.specs.Soundness.{sound}
 use Rattle.run.specs.Run.{run}
 use Rattle.run.specs.Schedule.{schedule_refusal}
 use Rattle.image.specs.Codec.{Bytes}
 use Rattle.image.specs.Image.{Image, Decoded, bad, good, state_of, decode}
-use Rattle.image.specs.RoundTrips.{reads_only_sound}
+use Rattle.image.proofs.RoundTrips.{reads_only_sound}
 use Rattle.image_check.specs.Code.Places.{processes_place, constants_place, registers_place, program_place, data_place, end_place}
 use Rattle.image_check.specs.Laws.Found.{Found}
 use Rattle.image_read.specs.Laws.Few.{found_few, found_image}
 use Rattle.library.specs.declared.Sizes.{Sizes}
 use Rattle.library.specs.Buffers.{Buffers, room_of, fits, sizes_of, fields_in}
 use Rattle.library.specs.Calls.{unless, or_else, decoded_refusal, read_refusal, decoded_answer, read_answer, state_refused, state_refusal, run_refusal}
-use Rattle.library.specs.InPlace.{read_in_place}
-use Rattle.library.specs.Laws.InPlace.{held_by_read, read_sized}
+use Rattle.library.proofs.InPlace.{read_in_place}
+use Rattle.library.proofs.Laws.InPlace.{held_by_read, read_sized}
 use Rattle.library.specs.declared.ReadAnswer.{ReadAnswer}
 use Rattle.library.specs.declared.ReadAnswer.TheVariants.{Refused, Read}
 use Rattle.library.specs.Promises.{read_answered, ReadPromise}

@@ -5,8 +5,8 @@ use Rattle.step.specs.State.{State}
 use Rattle.image.specs.Fields.{over}
 use Rattle.library.specs.declared.Sizes.{Sizes}
 use Rattle.library.specs.Buffers.{Buffers, room_of, fits, holding}
-use Rattle.library.specs.Laws.InPlace.{Sized}
-use Rattle.library.specs.Laws.Places.{fitting}
+use Rattle.library.proofs.Laws.InPlace.{Sized}
+use Rattle.library.proofs.Laws.Places.{fitting}
 
 module _ {A : Type 0} where
   over_length : (n : ℕ) (xs l : List A) → length xs ≡ n → n ≤ length l → length (over xs l) ≡ length l

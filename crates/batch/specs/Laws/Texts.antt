@@ -12,7 +12,7 @@ use Rattle.library.specs.declared.RunAnswer.TheVariants.{Refused, Counted}
 use Rattle.library.specs.declared.Sizes.{Sizes}
 use Rattle.library.specs.Buffers.{Buffers, fields_in}
 use Rattle.library.specs.Calls.{unless, run_refusal, run_answer}
-use Rattle.library.specs.InPlace.{run_in_place}
+use Rattle.library.proofs.InPlace.{run_in_place}
 use Rattle.library.specs.Promises.{run_answered, RunPromise}
 use Rattle.report.specs.Report.{row_lines, counts_line, report_of, refusal_line}
 use Rattle.report_text.specs.Texts.{tally, TextPromise}

@@ -1,6 +1,6 @@
 -- A choice tried job by job, and the better of two.
 use Rattle.std.specs.Prelude.{ℕ, zero, suc, ◌+◌, ◌*◌, ◌/◌, ◌%◌, ◌≤◌, ◌<◌, ◌≡◌, Bool, ◌&&◌, leb, ltb, eqb, get_or, drop}
-use Rattle.std.proofs.Common.{add_one, arith, sym, ◌∙◌, drop_of_length-le, drop-cons}
+use Rattle.std.proofs.Common.{add-one, arith, sym, ◌∙◌, drop_of_length-le, drop-cons}
 use Rattle.std.proofs.Math.Path.{refl, ap}
 use Rattle.std.proofs.Math.Bool.{true, false, cond}
 use mathlib.Core.List.{List, ◌∷◌}
@@ -75,11 +75,11 @@ module _ (needs : List ℕ) (sound : jobs_sound needs ≡ true) (x rest count su
     small = sum_bound need h e;
     counted =
         let here = ap (λ (l : List ℕ). length (chosen rest l)) (drop-cons needs i 0 h) in
-        let next = ap (λ (k : ℕ). length (chosen (rest / 2) (drop k needs))) (add_one i) in
+        let next = ap (λ (k : ℕ). length (chosen (rest / 2) (drop k needs))) (add-one i) in
         omega (arith, t.counted, here, count_step rest (get_or needs i 0) (drop (suc i) needs), next);
     summed =
         let here = ap (λ (l : List ℕ). total (chosen rest l)) (drop-cons needs i 0 h) in
-        let next = ap (λ (k : ℕ). total (chosen (rest / 2) (drop k needs))) (add_one i) in
+        let next = ap (λ (k : ℕ). total (chosen (rest / 2) (drop k needs))) (add-one i) in
         omega (arith, t.summed, here, sum_step rest (get_or needs i 0) (drop (suc i) needs), next, e);
   }
 
@@ -132,4 +132,4 @@ better_broken needs x best e = go (keeps_rules needs x) e
 
 pub best_next : (needs : List ℕ) (x : ℕ) (b c : Best) → b ≡ best_of needs x → c ≡ better_of needs x b → c ≡ best_of needs (x + 1)
 unfolding best_of
-best_next needs x b c e f = f ∙ ap (better_of needs x) e ∙ ap (best_of needs) (sym (add_one x))
+best_next needs x b c e f = f ∙ ap (better_of needs x) e ∙ ap (best_of needs) (sym (add-one x))

@@ -1,12 +1,12 @@
 -- The jobs in turn: which are sound, and how many they are.
 use Rattle.std.specs.Prelude.{ℕ, zero, suc, ◌+◌, ◌%◌, ◌^◌, min, ◌≤◌, ◌<◌, ◌≡◌, refl, Bool, true, false, ◌&&◌, List, [], ◌∷◌, leb, eqb, length, get_or, drop}
-use Rattle.std.proofs.Common.{add_one, arith, sym, ap, ◌∙◌, true≢false, drop_of_length-le, drop-cons, leb-true}
+use Rattle.std.proofs.Common.{add-one, arith, sym, ap, ◌∙◌, true≢false, drop_of_length-le, drop-cons, leb-true}
 use Rattle.window.specs.Limits.{most_registers}
 use Rattle.filling.specs.Filling.{most_jobs, need_sound, needs_sound, jobs_sound}
 
 pub need_next : (needs : List ℕ) (i : ℕ) → i < length needs → need_sound (get_or needs i 0) ≡ true → needs_sound (drop i needs) ≡ needs_sound (drop (i + 1) needs)
 unfolding needs_sound
-need_next needs i h e = ap needs_sound (drop-cons needs i 0 h) ∙ rw e (ap (λ (k : ℕ). needs_sound (drop k needs)) (sym (add_one i)))
+need_next needs i h e = ap needs_sound (drop-cons needs i 0 h) ∙ rw e (ap (λ (k : ℕ). needs_sound (drop k needs)) (sym (add-one i)))
 
 pub need_bad : (needs : List ℕ) (i : ℕ) → i < length needs → need_sound (get_or needs i 0) ≡ false → needs_sound (drop i needs) ≡ false
 unfolding needs_sound

@@ -1,10 +1,10 @@
 -- Seven places in descending order hold the seven largest needs, and their sum is cut at 2,048.
 use Rattle.std.specs.Prelude.{ℕ, zero, suc, ◌+◌, ◌-◌, min, ◌≤◌, ◌<◌, ◌≡◌, refl, Bool, true, false, cond, List, [], ◌∷◌, ◌++◌, leb, length, get_or, set, replicate, take, drop}
-use Rattle.std.proofs.Common.{add_one, arith, sym, ap, ◌∙◌, drop_of_length-le, take_all, drop-cons, take-suc-set, drop-set-lt, le-leb}
+use Rattle.std.proofs.Common.{add-one, arith, sym, ap, ◌∙◌, drop_of_length-le, take_all, drop-cons, take-suc-set, drop-set-lt, le-leb}
 use Rattle.std.proofs.Math.Seq.{drop-length, append_snoc}
 use Rattle.window.specs.Limits.{most_registers}
 use Rattle.filling.specs.Filling.{most_chosen, total, inserted, descending, ceiling_of}
-use Rattle.filling.specs.Laws.Ceiling.{Below, Falls, falls}
+use Rattle.filling.proofs.Laws.Ceiling.{Below, Falls, falls}
 use Rattle.filling_search.specs.Code.Steps.{larger_of, smaller_of, pushed, tops_of}
 
 -- the first k of a list, zeros where it is shorter
@@ -76,7 +76,7 @@ push_next l j carry h =
     ∙ ap (λ (x : List ℕ). take j l ++ x) (push_parts carry (get_or l j 0) (drop (suc j) l))
     ∙ sym (append_snoc (take j l) (larger_of (get_or l j 0) carry) (pushed (smaller_of (get_or l j 0) carry) (drop (suc j) l)))
     ∙ sym
-    (ap (λ (k : ℕ). take k (set l j (larger_of (get_or l j 0) carry)) ++ pushed (smaller_of (get_or l j 0) carry) (drop k (set l j (larger_of (get_or l j 0) carry)))) (add_one j)
+    (ap (λ (k : ℕ). take k (set l j (larger_of (get_or l j 0) carry)) ++ pushed (smaller_of (get_or l j 0) carry) (drop k (set l j (larger_of (get_or l j 0) carry)))) (add-one j)
     ∙ ap (λ (x : List ℕ). x ++ pushed (smaller_of (get_or l j 0) carry) (drop (suc j) (set l j (larger_of (get_or l j 0) carry)))) (take-suc-set l j (larger_of (get_or l j 0) carry) h)
     ∙ ap (λ (x : List ℕ). (take j l ++ (larger_of (get_or l j 0) carry ∷ [])) ++ pushed (smaller_of (get_or l j 0) carry) x) (drop-set-lt (suc j) l j (larger_of (get_or l j 0) carry) (omega arith))
     ∙ assoc (take j l) (larger_of (get_or l j 0) carry) (pushed (smaller_of (get_or l j 0) carry) (drop (suc j) l)))
@@ -132,7 +132,7 @@ long_tops (n ∷ ns) = long_pushed n (tops_of ns) ∙ long_tops ns
 pub capped_next : (l : List ℕ) (i sum : ℕ) → i < length l → sum + total (drop i l) ≡ sum + get_or l i 0 + total (drop (i + 1) l)
 unfolding total
 capped_next l i sum h =
-    ap (λ (x : List ℕ). sum + total x) (drop-cons l i 0 h) ∙ ap (λ (k : ℕ). sum + (get_or l i 0 + total (drop k l))) (sym (add_one i)) ∙ omega arith
+    ap (λ (x : List ℕ). sum + total x) (drop-cons l i 0 h) ∙ ap (λ (k : ℕ). sum + (get_or l i 0 + total (drop k l))) (sym (add-one i)) ∙ omega arith
 
 pub capped_none : (l : List ℕ) (i : ℕ) → length l ≤ i → total (drop i l) ≡ 0
 unfolding total

@@ -10,7 +10,7 @@ use Rattle.step.specs.State.{State}
 use Rattle.library.specs.declared.Sizes.{Sizes}
 use Rattle.library.specs.Buffers.{Buffers, fields_in, holding}
 use Rattle.library.specs.Calls.{Answer, answers, unless, leaving, state_refusal, or_else}
-use Rattle.library.specs.Laws.Refused.{or_else_none}
+use Rattle.library.proofs.Laws.Refused.{or_else_none}
 use Rattle.hep.specs.Laws.Seven.{behind, seven, whole_again, holding_behind, few_fields, state_seven, state_few}
 
 -- the call's refusals behind 8, what it answers of a state, and the state that it leaves, with as many rows

@@ -11,8 +11,8 @@ use Rattle.library.specs.Buffers.{Buffers, room_of, fits, sizes_of}
 use Rattle.library.specs.Calls.{unless, leaving, decoded_refusal, decoded_answer, read_answer, decoded_leaves, read_leaves}
 use Rattle.library.specs.Code.HeldRows.{held_rows, SamePlaces}
 use Rattle.library.specs.Promises.{read_answered, ReadPromise}
-use Rattle.library.specs.Laws.Places.{fitting}
-use Rattle.library.specs.Laws.Numbers.{read_promise}
+use Rattle.library.proofs.Laws.Places.{fitting}
+use Rattle.library.proofs.Laws.Numbers.{read_promise}
 use Rattle.image_read.specs.Laws.Few.{few_rows}
 use Rattle.hep.specs.Code.Rows.{loaded_rows, stored_rows}
 use Rattle.hep.specs.Laws.Seven.{with_rows, behind, seven, whole_again, holding_behind, few_fits}

@@ -1,6 +1,6 @@
 -- What is loaded is the first seven rows, and what is stored stands over them.
 use Rattle.std.specs.Prelude.{ℕ, suc, min, ◌+◌, ◌-◌, ◌≤◌, ◌<◌, ◌≡◌, refl, Bool, true, false, cond, List, [], ◌∷◌, ◌++◌, leb, length, take, drop, get_or, set}
-use Rattle.std.proofs.Common.{sym, ap, ◌∙◌, subst, append_assoc, append_nil, add_one, arith, length-set, length-append, drop_of_length-le, take_all, take-suc-set, drop-cons, leb-true, leb-false}
+use Rattle.std.proofs.Common.{sym, ap, ◌∙◌, subst, append_assoc, append-nil, add-one, arith, length-set, length-append, drop_of_length-le, take_all, take-suc-set, drop-cons, leb-true, leb-false}
 use Rattle.std.proofs.lemmas.List.{take-append-le}
 use Rattle.std.proofs.Math.Seq.{drop-nil, take-nil}
 use Rattle.window.specs.declared.Row.{Row}
@@ -31,7 +31,7 @@ one_more rows r v l = go (leb 7 (length rows)) refl
           count = omega (arith, h, n);
           places = length-set v.at (length rows) r ∙ l.places;
           held =
-              ap (λ (j : ℕ). take j (set v.at (length rows) r)) (add_one (length rows))
+              ap (λ (j : ℕ). take j (set v.at (length rows) r)) (add-one (length rows))
               ∙ take-suc-set v.at (length rows) r (omega (arith, h, l.places))
               ∙ ap (λ (m : List Row). m ++ (r ∷ [])) t
               ∙ sym (take_all 7 (rows ++ (r ∷ [])) (omega (arith, n, h)));
@@ -39,9 +39,9 @@ one_more rows r v l = go (leb 7 (length rows)) refl
 
 load_more : (rs rows : List Row) (v : Rows) → Loaded rows v → Loaded (rows ++ rs) (loaded_from rs (length rows) v)
 unfolding loaded_from
-load_more [] rows v l = subst (λ (y : List Row). Loaded y v) (sym (append_nil rows)) l
+load_more [] rows v l = subst (λ (y : List Row). Loaded y v) (sym (append-nil rows)) l
 load_more (r ∷ rs) rows v l =
-    let n : length (rows ++ (r ∷ [])) ≡ suc (length rows) = length-append rows (r ∷ []) ∙ add_one (length rows) in
+    let n : length (rows ++ (r ∷ [])) ≡ suc (length rows) = length-append rows (r ∷ []) ∙ add-one (length rows) in
     let m = load_more rs (rows ++ (r ∷ [])) (with_row v (length rows) r) (one_more rows r v l) in
     subst (λ (y : List Row). Loaded y (loaded_from rs (suc (length rows)) (with_row v (length rows) r))) (append_assoc rows (r ∷ []) rs)
     (subst (λ (k : ℕ). Loaded ((rows ++ (r ∷ [])) ++ rs) (loaded_from rs k (with_row v (length rows) r))) n m)

@@ -6,7 +6,7 @@ use Rattle.window.specs.declared.Row.{Row}
 use Rattle.step.specs.State.{State}
 use Rattle.run.specs.Run.{Tally, run}
 use Rattle.run.specs.Schedule.{schedule_refusal}
-use Rattle.run.specs.Laws.Run.{run_lengths}
+use Rattle.run.proofs.Laws.Run.{run_lengths}
 use Rattle.library.specs.declared.RunResult.{RunResult}
 use Rattle.library.specs.declared.Rows.{Rows}
 use Rattle.library.specs.declared.Sizes.{Sizes}
@@ -14,7 +14,7 @@ use Rattle.library.specs.Buffers.{Buffers}
 use Rattle.library.specs.Calls.{run_refusal, run_answer, run_leaves}
 use Rattle.library.specs.Code.HeldRows.{held_rows, SamePlaces}
 use Rattle.library.specs.Promises.{run_answered, RunPromise}
-use Rattle.library.specs.Laws.Numbers.{run_promise}
+use Rattle.library.proofs.Laws.Numbers.{run_promise}
 use Rattle.hep.specs.Code.Rows.{loaded_rows, stored_rows}
 use Rattle.hep.specs.Laws.Seven.{with_rows, behind, seven}
 use Rattle.hep.specs.Laws.Lent.{first_seven, stored_back}

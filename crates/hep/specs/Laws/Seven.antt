@@ -3,25 +3,25 @@ use Rattle.std.specs.Prelude.{ℕ, min, ◌+◌, ◌≤◌, ◌<◌, Bool, not, 
 use Rattle.std.proofs.Math.Path.{◌≡◌, refl, ap}
 use Rattle.std.proofs.Common.{sym, ◌∙◌, arith, take-append-drop, take-take}
 use Rattle.std.proofs.Math.Bool.{true, false, cond}
-use Rattle.std.proofs.Math.Option.{Option, none, some}
+use Rattle.std.proofs.Math.Option.{none, some}
 use mathlib.Core.List.{List, [], ◌∷◌, ◌++◌, append_assoc}
 use Rattle.std.proofs.Math.Dec.{leb}
 use Rattle.std.proofs.Math.ListN.{length, drop, length-take}
 use Rattle.std.proofs.Math.Seq.{length-take-le}
 use Rattle.std.proofs.lemmas.List.{drop-append-le}
 use borrow.Author.Tests.{ltb-true, leb-true, leb-false, le-leb, lt-leb}
-use Rattle.word.specs.Laws.Conjunctions.{both}
+use Rattle.word.proofs.Laws.Conjunctions.{both}
 use Rattle.refusal.specs.declared.Refusal.TheVariants.{UnsoundState}
 use Rattle.window.specs.declared.Row.{Row}
 use Rattle.step.specs.State.{State}
 use Rattle.step.specs.Soundness.{task_sound, row_sound, rows_sound, sound}
-use Rattle.step.specs.Laws.Sound.{sound_parts}
+use Rattle.step.proofs.Laws.Sound.{sound_parts}
 use Rattle.image.specs.Fields.{over}
 use Rattle.library.specs.declared.Sizes.{Sizes}
 use Rattle.library.specs.Buffers.{Buffers, room_of, fits, fields_in, holding}
 use Rattle.library.specs.Calls.{state_refused, state_refusal}
 use Rattle.library.specs.Held.{lent_buffers}
-use Rattle.library.specs.Laws.Places.{fitting}
+use Rattle.library.proofs.Laws.Places.{fitting}
 
 -- rows in ascending number, 1 to 7, are at most 7
 rows_few : (before : ℕ) (rows : List Row) → before ≤ 7 → rows_sound before rows ≡ true → before + length rows ≤ 7

@@ -7,7 +7,7 @@ use Rattle.operation.specs.Decide.{decide}
 use Rattle.step.specs.declared.Ending.{Ending}
 use Rattle.step.specs.State.{State}
 use Rattle.step.specs.Step.{item}
-use Rattle.step.specs.Laws.Item.{item_lengths}
+use Rattle.step.proofs.Laws.Item.{item_lengths}
 use Rattle.library.specs.declared.StepAnswer.{StepAnswer}
 use Rattle.library.specs.declared.Rows.{Rows}
 use Rattle.library.specs.declared.Sizes.{Sizes}
@@ -15,9 +15,9 @@ use Rattle.library.specs.Buffers.{Buffers}
 use Rattle.library.specs.Calls.{task_refusal, step_refusal, step_answer, step_leaves}
 use Rattle.library.specs.Code.HeldRows.{held_rows, SamePlaces}
 use Rattle.library.specs.Code.RowPlace.{place_of, StandsAt}
-use Rattle.library.specs.Laws.RowPlace.{first_listed}
+use Rattle.library.proofs.Laws.RowPlace.{first_listed}
 use Rattle.library.specs.Promises.{step_answered, StepPromise}
-use Rattle.library.specs.Laws.Numbers.{step_promise}
+use Rattle.library.proofs.Laws.Numbers.{step_promise}
 use Rattle.hep.specs.Code.Rows.{loaded_rows, stored_rows}
 use Rattle.hep.specs.Laws.Seven.{with_rows, behind, seven}
 use Rattle.hep.specs.Laws.Lent.{rows_held, first_seven, stored_back}

@@ -10,7 +10,7 @@ use Rattle.library.specs.Buffers.{Buffers}
 use Rattle.library.specs.Calls.{unless, leaving, state_refusal, or_else, write_refusal, write_answer, write_leaves}
 use Rattle.library.specs.Code.HeldRows.{held_rows}
 use Rattle.library.specs.Promises.{write_answered, WritePromise}
-use Rattle.library.specs.Laws.Numbers.{write_promise}
+use Rattle.library.proofs.Laws.Numbers.{write_promise}
 use Rattle.hep.specs.Code.Rows.{loaded_rows}
 use Rattle.hep.specs.Laws.Seven.{with_rows, seven, few_fields, state_seven, state_few}
 use Rattle.hep.specs.Laws.Lent.{first_seven}

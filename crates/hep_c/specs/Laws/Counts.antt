@@ -1,9 +1,9 @@
 -- The counts of a run and of its tasks, put one behind the other.
 use Rattle.std.specs.Prelude.{ℕ, suc, ◌+◌, ◌*◌, ◌-◌, ◌≤◌, ◌<◌, ◌≡◌, length, drop}
 use Rattle.std.proofs.Math.Path.{refl, ap}
-use Rattle.std.proofs.Common.{sym, ◌∙◌, arith, length-append, length-take, drop_of_length-le, length-take-le, take_all, take-suc, take_at, drop_at, drop-drop}
+use Rattle.std.proofs.Common.{sym, ◌∙◌, arith, length-append, drop_of_length-le, length-take-le, take_all, take-suc, take_at, drop_at, drop-drop}
 use mathlib.Core.List.{List, [], ◌∷◌, ◌++◌, append_assoc}
-use Rattle.std.proofs.Math.Numerals.{add_one}
+use Rattle.std.proofs.Math.Numerals.{add-one}
 use Rattle.std.proofs.Math.ListN.{get_or, take, length-drop}
 use Rattle.std.proofs.Math.Seq.{get_or-drop}
 use Rattle.run.specs.declared.Counts.{Counts}
@@ -13,9 +13,9 @@ use Rattle.hep_c.specs.Answers.{count_kinds, run_numbers, kinds_listed, own_list
 
 -- ---- numbers behind numbers
 
-append_nil : (xs : List ℕ) → xs ++ [] ≡ xs
-append_nil [] = refl
-append_nil (x ∷ xs) = ap (λ (l : List ℕ). x ∷ l) (append_nil xs)
+append-nil : (xs : List ℕ) → xs ++ [] ≡ xs
+append-nil [] = refl
+append-nil (x ∷ xs) = ap (λ (l : List ℕ). x ∷ l) (append-nil xs)
 
 module _ (xs ys start now last : List ℕ) (a : ℕ) (is : now ≡ over xs start) (long : length xs ≡ a) (fits : a ≤ length now) where
   -- what lies from a on
@@ -33,7 +33,7 @@ module _ (xs ys start now last : List ℕ) (a : ℕ) (is : now ≡ over xs start
   put_behind e =
       let front : take a now ≡ xs = ap (take a) is ∙ take_at xs (drop (length xs) start) a long in
       let back : last ++ drop (length now - a) (drop a now) ≡ ys ++ drop (a + length ys) start =
-      ap (λ (l : List ℕ). last ++ l) none_behind ∙ append_nil last ∙ e ∙ ap (over ys) rest_is
+      ap (λ (l : List ℕ). last ++ l) none_behind ∙ append-nil last ∙ e ∙ ap (over ys) rest_is
       ∙ ap (λ (l : List ℕ). ys ++ l) (drop-drop (length ys) a start) in
       let whole : a + length ys ≡ length (xs ++ ys) = omega (arith, length-append xs ys, long) in
       ap (λ (l : List ℕ). l ++ (last ++ drop (length now - a) (drop a now))) front
@@ -82,10 +82,10 @@ module _ (own : List Counts) (start : List ℕ) where
     goes c d last h e p =
         let at : get_or (drop 1 own) i d ≡ c = get_or-drop 1 own i d ∙ ap (λ (n : ℕ). get_or own n d) (omega arith) ∙ e in
         let more : take (i + 1) (drop 1 own) ≡ take i (drop 1 own) ++ (c ∷ []) =
-        rw add_one (take-suc (drop 1 own) i d (omega (arith, length-drop 1 own)) ∙ ap (λ (x : Counts). take i (drop 1 own) ++ (x ∷ [])) at) in
+        rw add-one (take-suc (drop 1 own) i d (omega (arith, length-drop 1 own)) ∙ ap (λ (x : Counts). take i (drop 1 own) ++ (x ∷ [])) at) in
         let own_more : own_listed (take (i + 1) (drop 1 own)) ≡ own_listed (take i (drop 1 own)) ++ kinds_listed c =
         ap own_listed more ∙ own_append (take i (drop 1 own)) (c ∷ [])
-        ∙ ap (λ (l : List ℕ). own_listed (take i (drop 1 own)) ++ l) (append_nil (kinds_listed c)) in
+        ∙ ap (λ (l : List ℕ). own_listed (take i (drop 1 own)) ++ l) (append-nil (kinds_listed c)) in
         record {
           listed = omega (arith, h);
           room = g.room;

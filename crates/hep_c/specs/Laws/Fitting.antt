@@ -4,16 +4,16 @@ use Rattle.std.proofs.Math.Path.{refl}
 use Rattle.std.proofs.Common.{sym, lt-ltb, le-ltb, leb-true}
 use Rattle.std.proofs.Math.Bool.{true, false}
 use Rattle.std.proofs.Math.Option.{none, some}
-use Rattle.word.specs.Laws.Conjunctions.{both}
+use Rattle.word.proofs.Laws.Conjunctions.{both}
 use Rattle.refusal.specs.declared.Refusal.TheVariants.{ShortBuffer, ListTooLong, ItemOutOfRange}
 use Rattle.refusal.specs.Numbers.{number_of}
 use Rattle.step.specs.Soundness.{every}
-use Rattle.step.specs.Laws.Rows.{none_some}
+use Rattle.step.proofs.Laws.Rows.{none_some}
 use Rattle.run.specs.Schedule.{most_items, item_sound, schedule_refusal}
 use Rattle.library.specs.declared.Sizes.{Sizes}
 use Rattle.library.specs.Buffers.{Room, fits}
 use Rattle.library.specs.Calls.{or_else}
-use Rattle.library.specs.Trials.{numbered}
+use Rattle.library.specs.Numbers.{numbered}
 use Rattle.hep_c.specs.Answers.{growth, count_numbers, results_fit, lengths_refusal}
 use Rattle.report_text.specs.Texts.{report_room}
 

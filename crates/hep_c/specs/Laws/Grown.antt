@@ -1,14 +1,14 @@
 -- The image after a run is longer by at most `growth` bytes than the one before it: rows and memories keep their lengths, and 64 processes have 10 bytes each.
 use Rattle.std.specs.Prelude.{ℕ, ◌+◌, ◌≤◌, ◌≡◌, true, List, length}
-use Rattle.std.proofs.Common.{sym, ap, ◌∙◌, arith}
+use Rattle.std.proofs.Common.{sym, ◌∙◌, arith}
 use Rattle.std.proofs.lemmas.List.{length-map}
 use Rattle.window.specs.declared.Cell.{Cell}
 use Rattle.window.specs.Memories.{Memory, tag_of, word_of}
 use Rattle.step.specs.State.{State}
 use Rattle.step.specs.Soundness.{sound}
-use Rattle.step.specs.Laws.Lengths.{SameLengths}
+use Rattle.step.proofs.Laws.Lengths.{SameLengths}
 use Rattle.image.specs.Image.{Image, good, cells_of, memory_of, state_of, image_of, decode, encode}
-use Rattle.image.specs.RoundTrips.{written_then_read}
+use Rattle.image.proofs.RoundTrips.{written_then_read}
 use Rattle.image_bytes.specs.Laws.Bytes.{cells_length_lem}
 use Rattle.library.specs.Buffers.{sizes_of}
 use Rattle.image_check.specs.Code.Places.{processes_place, constants_place, registers_place, program_place, data_place, end_place}

@@ -1,6 +1,6 @@
 -- What a check finds is what decoding gives; numbers put to the front of a slice.
 use Rattle.std.specs.Prelude.{ℕ, suc, ◌+◌, ◌≤◌, ◌<◌, ◌≡◌, refl, List, ◌++◌, length, get_or, take, drop, set}
-use Rattle.std.proofs.Common.{ap, ◌∙◌, add_one, arith, length-append, length-take, length-drop, length-take-le, take-suc, drop-cons, take_all, lt-ltb, le-ltb}
+use Rattle.std.proofs.Common.{ap, ◌∙◌, add-one, arith, length-append, length-take, length-drop, length-take-le, take-suc, drop-cons, take_all, lt-ltb, le-ltb}
 use Rattle.std.proofs.Math.Option.{Option, none, some}
 use Rattle.std.proofs.lemmas.List.{set_at}
 use Rattle.std.proofs.Math.Seq.{append_snoc}
@@ -18,7 +18,7 @@ use Rattle.library.specs.declared.ReadAnswer.TheVariants.{Refused, Read}
 use Rattle.library.specs.Buffers.{sizes_of}
 use Rattle.library.specs.Calls.{Answer, refuses, answers, unless, check_answer}
 use Rattle.library.specs.Promises.{read_answered}
-use Rattle.library.specs.Trials.{numbered}
+use Rattle.library.specs.Numbers.{numbered}
 use Rattle.hep_c.specs.Answers.{number_answered, listed_answer, listed_left, sizes_listed, sizes_answer, filling_listed, filling_answer, Slices, image_run_left}
 
 -- ---- what a check finds
@@ -141,7 +141,7 @@ module _ (numbers start : List ℕ) where
   more : (i : ℕ) → i < length numbers → i < length start
       → set (take i numbers ++ drop i start) i (get_or numbers i 0) ≡ take (i + 1) numbers ++ drop (i + 1) start
   more i h k =
-      rw (add_one, drop-cons start i 0 k, take-suc numbers i 0 h, append_snoc)
+      rw (add-one, drop-cons start i 0 k, take-suc numbers i 0 h, append_snoc)
       (set_at (take i numbers) (get_or start i 0) (drop (suc i) start) (get_or numbers i 0) i (length-take-le i numbers (omega arith)))
 
   module _ (now : List ℕ) (i : ℕ) (g : Placing numbers start now i) where

@@ -12,7 +12,7 @@ use Rattle.library.specs.declared.ReadAnswer.TheVariants.{Refused, Read}
 use Rattle.library.specs.Buffers.{sizes_of}
 use Rattle.library.specs.Calls.{Answer, answers, unless, check_answer}
 use Rattle.library.specs.Promises.{read_answered}
-use Rattle.library.specs.Trials.{numbered}
+use Rattle.library.specs.Numbers.{numbered}
 use Rattle.hep_c.specs.Answers.{number_answered, Slices, count_numbers, image_run_refusal, image_run_answer, image_run_left, ImageRunPromise}
 use Rattle.hep_c.specs.Laws.Fitting.{accepted}
 use Rattle.hep_c.specs.Laws.Numbers.{found_bad, found_good, numbered_unless, refused_stays}

@@ -8,22 +8,22 @@ use borrow.Author.Tests.{le-ltb}
 use Rattle.step.specs.State.{State}
 use Rattle.step.specs.Soundness.{sound}
 use Rattle.run.specs.Run.{run}
-use Rattle.run.specs.Laws.Run.{run_lengths}
-use Rattle.run.specs.Kept.{run_keeps_sound}
+use Rattle.run.proofs.Laws.Run.{run_lengths}
+use Rattle.run.proofs.Kept.{run_keeps_sound}
 use Rattle.run.specs.Schedule.{schedule_refusal}
 use Rattle.library.specs.declared.RunResult.{RunResult}
 use Rattle.library.specs.declared.RunAnswer.TheVariants.{Counted}
 use Rattle.image.specs.Codec.{Bytes}
 use Rattle.image.specs.Image.{Image, good, state_of, decode, encode}
 use Rattle.image.specs.Fields.{over}
-use Rattle.image.specs.RoundTrips.{reads_only_sound}
+use Rattle.image.proofs.RoundTrips.{reads_only_sound}
 use Rattle.library.specs.declared.WriteAnswer.{WriteAnswer}
 use Rattle.library.specs.declared.WriteAnswer.TheVariants.{Wrote}
 use Rattle.library.specs.declared.Sizes.{Sizes}
 use Rattle.library.specs.Buffers.{Buffers, room_of, fits, sizes_of, fields_in, holding}
 use Rattle.library.specs.Calls.{unless, leaving, or_else, decoded_refusal, read_refusal, read_leaves, state_refused, state_refusal, run_refusal, run_answer, run_leaves, output_refusal, write_refusal, write_answer, write_leaves}
-use Rattle.library.specs.InPlace.{read_in_place, run_in_place}
-use Rattle.library.specs.Laws.InPlace.{Sized, held_by_read, read_sized, lengths_sized}
+use Rattle.library.proofs.InPlace.{read_in_place, run_in_place}
+use Rattle.library.proofs.Laws.InPlace.{Sized, held_by_read, read_sized, lengths_sized}
 use Rattle.library.specs.declared.ReadAnswer.{ReadAnswer}
 use Rattle.library.specs.Promises.{ReadPromise, run_answered, RunPromise, write_answered, WritePromise}
 use Rattle.batch.specs.Laws.Room.{room_kept}

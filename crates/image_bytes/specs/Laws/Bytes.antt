@@ -1,13 +1,13 @@
 -- How many bytes values have, and that cells are written alike whatever their tags mean.
-use Rattle.std.specs.Prelude.{ℕ, zero, suc, ◌+◌, ◌-◌, ◌*◌, ◌<◌, ◌≡◌, refl, Bool, true, List, [], ◌∷◌, ◌++◌, length, get_or, drop}
+use Rattle.std.specs.Prelude.{ℕ, zero, suc, ◌*◌, ◌<◌, ◌≡◌, refl, Bool, true, List, [], ◌∷◌, ◌++◌, length, get_or, drop}
 use Rattle.std.proofs.Common.{sym, ap, ◌∙◌, mul-zero, mul-suc, arith, length-append}
 use Rattle.window.specs.declared.Cell.{Cell}
 use Rattle.window.specs.Memories.{cell}
 use Rattle.refusal.specs.declared.Refusal.{Refusal}
 use Rattle.refusal.specs.declared.Refusal.TheVariants.{CellField}
-use Rattle.image.specs.Codec.{Codec, digits, num, count, seq, via, enc_many, section, no_header, list_section, no_state, uniform_section}
-use Rattle.image.specs.Image.{word_codec, words_codec, cell_codec, cells_codec, cells_of, cell_length, word_length}
-use Rattle.image.specs.Laws.Numbers.{length_digits}
+use Rattle.image.specs.Codec.{Codec, num, seq, via, enc_many, no_state}
+use Rattle.image.specs.Image.{word_codec, cell_codec, cells_of, cell_length, word_length}
+use Rattle.image.proofs.Laws.Numbers.{length_digits}
 use Rattle.image_bytes.specs.Code.Writing.{word_bytes, cell_bytes}
 
 pub word_length_lem : (v : ℕ) → length (word_codec.enc v) ≡ word_length

@@ -4,7 +4,7 @@ use Rattle.std.specs.Prelude.{◌≡◌, length, drop}
 use Rattle.std.proofs.Math.Path.{refl, ap, ap₂}
 use Rattle.std.proofs.Common.{◌∙◌, zero-add, drop-drop}
 use mathlib.Core.List.{List, [], ◌∷◌, ◌++◌, map}
-use Rattle.std.proofs.Math.Nat.{add-zero, suc_add, mul-zero, mul-suc}
+use Rattle.std.proofs.Math.Nat.{add-zero, suc-add, mul-zero, mul-suc}
 use native.Mathlib.Omega.{arith}
 use Rattle.image_bytes.specs.Code.Reading.{listed}
 
@@ -29,7 +29,7 @@ module _ {A : Type 0} (stride : ℕ) where
   listed_add f zero m at = rw (zero-add m, mul-zero stride, add-zero at)
   listed_add f (suc k) m at =
       let q : at + stride + stride * k ≡ at + stride * suc k = rw mul-suc (omega arith) in
-      rw suc_add (ap (λ (l : List A). f at ∷ l) (listed_add f k m (at + stride) ∙ ap (λ (b : ℕ). listed stride f k (at + stride) ++ listed stride f m b) q))
+      rw suc-add (ap (λ (l : List A). f at ∷ l) (listed_add f k m (at + stride) ∙ ap (λ (b : ℕ). listed stride f k (at + stride) ++ listed stride f m b) q))
 
   pub map_listed : {B : Type 0} (g : A → B) (f : ℕ → A) (n at : ℕ) → map g (listed stride f n at) ≡ listed stride (λ p. g (f p)) n at
   unfolding listed

@@ -2,7 +2,7 @@
 use Rattle.std.specs.Prelude.{ℕ, ◌+◌, ◌≤◌, ◌≡◌, List, length, drop}
 use Rattle.std.proofs.Common.{sym, ap, ap₂, ◌∙◌, arith, length-drop, drop-drop}
 use Rattle.image.specs.Codec.{Codec, accepted, seq, via}
-use Rattle.image.specs.Laws.Codec.{bind_elim}
+use Rattle.image.proofs.Laws.Codec.{bind_elim}
 use Rattle.image_bytes.specs.Laws.Spans.{Spans}
 
 -- at p only v is accepted, and what follows it stands at q

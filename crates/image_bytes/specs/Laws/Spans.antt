@@ -11,7 +11,7 @@ use Rattle.std.proofs.Math.Seq.{drop-drop}
 use Rattle.refusal.specs.declared.Refusal.{Refusal}
 use Rattle.refusal.specs.declared.Refusal.TheVariants.{InputEnds, CountOverLimit}
 use Rattle.image.specs.Codec.{Result, refused, accepted, bind, field, Codec, num, count, seq, via, dec_many, section, no_header, list_section}
-use Rattle.image.specs.Laws.Codec.{bind_elim}
+use Rattle.image.proofs.Laws.Codec.{bind_elim}
 use Rattle.image_bytes.specs.Code.Reading.{listed}
 use Rattle.image_bytes.specs.Laws.Listed.{shifted}
 

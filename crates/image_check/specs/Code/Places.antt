@@ -1,5 +1,5 @@
 -- The image of accepted bytes, section by section, at its place: what the check and the reader take from the bytes.
-use Rattle.std.specs.Prelude.{ℕ, ◌+◌, ◌*◌, List}
+use Rattle.std.specs.Prelude.{ℕ, ◌+◌, List}
 use Rattle.window.specs.declared.Row.{Row}
 use Rattle.step.specs.Soundness.{kind_sound, record_sound}
 use Rattle.refusal.specs.declared.Refusal.TheVariants.{TaskField}

@@ -2,7 +2,7 @@
 use Rattle.std.specs.Prelude.{ℕ, ◌-◌, ◌≡◌, refl, List, [], length}
 use Rattle.std.proofs.Common.{sym, ap, ◌∙◌, arith, length-drop}
 use Rattle.image.specs.Image.{Image, Decoded, bad, good, image_codec, state_of, decode}
-use Rattle.image.specs.Laws.Accepted.{after_good}
+use Rattle.image.proofs.Laws.Accepted.{after_good}
 use Rattle.library.specs.declared.Sizes.{Sizes}
 use Rattle.library.specs.declared.ReadAnswer.TheVariants.{Read}
 use Rattle.library.specs.Buffers.{sizes_of}

@@ -1,5 +1,5 @@
 -- The image of accepted bytes, section by section, at its place.
-use Rattle.std.specs.Prelude.{ℕ, ◌+◌, ◌*◌, ◌^◌, ◌≡◌, Bool, drop}
+use Rattle.std.specs.Prelude.{ℕ, ◌+◌, ◌≡◌, Bool, drop}
 use Rattle.std.proofs.Math.Path.{refl}
 use Rattle.std.proofs.Common.{ap, ap₂, add-zero, arith, drop-drop}
 use mathlib.Core.List.{List}

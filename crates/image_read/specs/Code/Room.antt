@@ -1,5 +1,5 @@
 -- Where the sections end with the input and each buffer has room.
-use Rattle.std.specs.Prelude.{ℕ, ◌+◌, ◌*◌, ◌≤◌, ◌≡◌, List, length}
+use Rattle.std.specs.Prelude.{ℕ, ◌≤◌, ◌≡◌, List, length}
 use Rattle.library.specs.declared.Sizes.{Sizes}
 use Rattle.image_bytes.specs.Code.Reading.{field_at}
 use Rattle.image.specs.Image.{tasks_length, image_length}

@@ -11,8 +11,8 @@ use Rattle.refusal.specs.declared.Refusal.TheVariants.{InputEnds, CountOverLimit
 use Rattle.image.specs.declared.Process.{Process}
 use Rattle.image.specs.Codec.{Codec, refused, accepted, field, bind, num, count, seq, via, dec_many, section, no_header, list_section}
 use Rattle.image.specs.Image.{Image, Decoded, good, state_of, to_image, row_codec, row_task, tasks_codec, process_codec, queue_after, processes_codec, image_codec, decode, row_length, process_length}
-use Rattle.image.specs.Laws.Codec.{bind_elim}
-use Rattle.image.specs.Laws.Accepted.{after_good}
+use Rattle.image.proofs.Laws.Codec.{bind_elim}
+use Rattle.image.proofs.Laws.Accepted.{after_good}
 use Rattle.image_bytes.specs.Laws.Listed.{length_listed}
 use Rattle.library.specs.declared.Sizes.{Sizes}
 use Rattle.library.specs.Buffers.{sizes_of}

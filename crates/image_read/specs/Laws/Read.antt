@@ -18,9 +18,9 @@ use Rattle.library.specs.Calls.{unless, leaving, check_answer, decoded_refusal, 
 use Rattle.library.specs.Held.{lent_buffers}
 use Rattle.library.specs.Code.HeldRows.{held_rows, SamePlaces}
 use Rattle.library.specs.Promises.{read_answered, ReadPromise}
-use Rattle.library.specs.Laws.Places.{fitting, take_over, drop_later}
-use Rattle.library.specs.Laws.Held.{before, lengths, room_held}
-use Rattle.library.specs.Laws.Numbers.{read_promise}
+use Rattle.library.proofs.Laws.Places.{fitting, take_over, drop_later}
+use Rattle.library.proofs.Laws.Held.{before, lengths, room_held}
+use Rattle.library.proofs.Laws.Numbers.{read_promise}
 use Rattle.image_check.specs.Code.Places.{row_at, rows_at, image_at}
 use Rattle.image_check.specs.Laws.Sections.{sizes_image}
 use Rattle.image_check.specs.Laws.Found.{Found}

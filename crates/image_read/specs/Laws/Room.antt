@@ -1,9 +1,9 @@
 -- Sizes that were found and that fit.
-use Rattle.std.specs.Prelude.{ℕ, ◌+◌, ◌*◌, ◌≡◌, true, List, length}
+use Rattle.std.specs.Prelude.{ℕ, ◌≡◌, true, List, length}
 use Rattle.library.specs.declared.Sizes.{Sizes}
 use Rattle.library.specs.Buffers.{fits}
 use Rattle.library.specs.Held.{room_from}
-use Rattle.library.specs.Laws.Places.{fitting}
+use Rattle.library.proofs.Laws.Places.{fitting}
 use Rattle.image_bytes.specs.Code.Reading.{field_at}
 use Rattle.image_check.specs.Code.Places.{processes_place, constants_place, registers_place, program_place, data_place, end_place}
 use Rattle.image_read.specs.Code.Room.{Room}

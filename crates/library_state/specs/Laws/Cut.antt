@@ -12,8 +12,8 @@ use Rattle.library.specs.declared.Rows.{Rows}
 use Rattle.library.specs.Buffers.{fits, fields_in}
 use Rattle.library.specs.Calls.{state_refused}
 use Rattle.library.specs.Code.HeldRows.{held_rows}
-use Rattle.library.specs.Laws.Places.{fitting}
-use Rattle.library.specs.Laws.Held.{before, lengths, room_held}
+use Rattle.library.proofs.Laws.Places.{fitting}
+use Rattle.library.proofs.Laws.Held.{before, lengths, room_held}
 
 module _ (v : Rows) (table : ProcessTable) (constant_tags constant_words register_tags register_words program data_tags data_words : List ℕ) (n : Sizes) where
   abbrev pub cut : State

@@ -5,7 +5,7 @@ use Rattle.window.specs.declared.Row.{Row}
 use Rattle.window.specs.declared.Place.{Place}
 use Rattle.window.specs.declared.Place.TheVariants.{At, Violation}
 use Rattle.window.specs.Windows.{inside, register_window, place_in, constant_place}
-use Rattle.window.specs.Laws.Spans.{place_below_lem}
+use Rattle.window.proofs.Laws.Spans.{place_below_lem}
 use Rattle.operand.specs.declared.Role.TheVariants.{Destination, Source}
 use Rattle.operand.specs.declared.Operand.{Operand}
 use Rattle.operand.specs.declared.Operand.TheVariants.{Register, Constant}

@@ -26,7 +26,6 @@ use Rattle.operation.specs.declared.Fate.TheVariants as fate
 use Rattle.operation.specs.declared.Course.{Course}
 use Rattle.operation.specs.declared.Course.TheVariants as go
 use Rattle.operation.specs.declared.Decision.{Decision}
-use Rattle.operation.specs.declared.Decision.TheVariants.{Waits}
 use Rattle.operation.specs.Roles.{roles}
 use Rattle.operation.specs.Environment.{Environment}
 use Rattle.operation.specs.Code.FoundOperands.{found_with, found_at, all_found_at}
@@ -34,7 +33,7 @@ use Rattle.operation.specs.Perform.{perform, perform_result, left_of, executed, 
 use Rattle.operation.specs.Decide.{operand_waits, operands_wait, operand_masked, operands_masked, decide_found}
 use Rattle.step.specs.Code.Performs.{trap_course, fate_course, Performs}
 use Rattle.step.specs.Code.Parts.{fate_psws}
-use Rattle.step.specs.Laws.Performs.{performs_along, performs_waits, performs_traps, performs_executes}
+use Rattle.step.proofs.Laws.Performs.{performs_along, performs_waits, performs_traps, performs_executes}
 use Rattle.operation_checks.specs.Code.Operands.{Destined, tag_in, waits_in, masked_in, left_in}
 use Rattle.operation_checks.specs.Laws.Operands.{Operated, waits_in_lem, masked_in_lem}
 

@@ -18,9 +18,9 @@ use Rattle.operation.specs.Roles.{illegal_instruction}
 use Rattle.operation.specs.Environment.{environment_of}
 use Rattle.operation.specs.Code.FoundOperands.{all_found_at}
 use Rattle.operation.specs.Decide.{decide_found, decide_listed}
-use Rattle.operation.specs.Laws.Found.{refused, no_first, no_second, no_third, all_found}
+use Rattle.operation.proofs.Laws.Found.{refused, no_first, no_second, no_third, all_found}
 use Rattle.step.specs.Code.Performs.{trap_course, Performs}
-use Rattle.step.specs.Laws.Performs.{performs_along, performs_traps}
+use Rattle.step.proofs.Laws.Performs.{performs_along, performs_traps}
 
 module _ (r : Roles) (op : Operation) (row : Row) (psw flag : ℕ) (program : List ℕ) (constants m n : Memory) (i : Instruction) (pt fresh : ℕ) (psws : List ℕ) where
   pub listed_illegal : psw ≡ get_or psws pt 0 → illegal_instruction r op i ≡ true

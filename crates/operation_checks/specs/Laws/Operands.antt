@@ -7,7 +7,7 @@ use Rattle.std.proofs.Math.ListN.{set}
 use Rattle.std.proofs.Math.Seq.{set-get_or}
 use Rattle.std.proofs.lemmas.Bool.{lt-leb}
 use Rattle.word.specs.Tests.{tests, holds_of}
-use Rattle.word.specs.Laws.Bools.{Eq?, same, differ, eq?, and_left, and_right}
+use Rattle.word.proofs.Laws.Bools.{Eq?, same, differ, eq?, and_left, and_right}
 use Rattle.window.specs.declared.Row.{Row}
 use Rattle.window.specs.declared.Cell.{Cell}
 use Rattle.window.specs.declared.Window.{Window}

@@ -26,7 +26,7 @@ use Rattle.operation.specs.Results.{quality0}
 use Rattle.operation.specs.Perform.{executed, result_in, test_of, branched, called, created, create_waits, create_fate, perform_branch, perform_call, perform_create, perform_quit, perform}
 use Rattle.step.specs.Code.Parts.{fate_psws}
 use Rattle.step.specs.Code.Performs.{trap_course, Performs}
-use Rattle.step.specs.Laws.Performs.{performs_along, performs_traps, performs_stores}
+use Rattle.step.proofs.Laws.Performs.{performs_along, performs_traps, performs_stores}
 
 module _ (v : Environment) (i : Instruction) (s : FoundOperands) (psw : ℕ) (of : v.psw ≡ psw) where
   pub nop_performed : executed s Nothing Nothing (Continues (next_of psw)) ≡ perform operation.Nop v i s

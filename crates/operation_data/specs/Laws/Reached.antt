@@ -13,7 +13,7 @@ use Rattle.window.specs.declared.Write.TheVariants.{Nothing, Put}
 use Rattle.window.specs.Windows.{data_window, data_word_window, byte_place}
 use Rattle.window.specs.Memories.{Memory, memory, cell, cell_at, stored, stored_one, stored_all, written}
 use Rattle.window.specs.Code.Spans.{Span, byte_below}
-use Rattle.window.specs.Laws.Spans.{byte_below_lem}
+use Rattle.window.proofs.Laws.Spans.{byte_below_lem}
 use Rattle.operation.specs.declared.Operation.TheVariants.{LoadIndirect, LoadIndexed, StoreIndirect, StoreIndexed}
 use Rattle.operation.specs.declared.FoundOperands.{FoundOperands}
 use Rattle.operation.specs.declared.Wait.TheVariants.{Data}
@@ -23,7 +23,7 @@ use Rattle.operation.specs.Roles.{sac_of}
 use Rattle.operation.specs.Environment.{environment_of}
 use Rattle.operation.specs.Results.{quality0}
 use Rattle.operation.specs.Perform.{perform, executed, result_in, indirect_address, indexed_address, data_reach, load_waits, load_leaves, load_part, load_from, perform_load, store_waits, store_part, store_to, perform_store}
-use Rattle.operation.specs.Laws.Found.{reached_inside, reached_seen}
+use Rattle.operation.proofs.Laws.Found.{reached_inside, reached_seen}
 use Rattle.step.specs.Code.Parts.{fate_psws}
 use Rattle.operation_data.specs.declared.Reached.{Reached}
 use Rattle.operation_data.specs.declared.Reached.TheVariants as reached

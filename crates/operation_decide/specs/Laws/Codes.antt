@@ -9,7 +9,7 @@ use Rattle.window.specs.declared.Place.{Place}
 use Rattle.window.specs.declared.Place.TheVariants.{At, Violation}
 use Rattle.window.specs.Windows.{place_in, program_window}
 use Rattle.window.specs.Code.Spans.{Span, place_below}
-use Rattle.window.specs.Laws.Spans.{place_below_lem}
+use Rattle.window.proofs.Laws.Spans.{place_below_lem}
 use Rattle.window.specs.Memories.{Memory}
 use Rattle.operation.specs.declared.Roles.{Roles}
 use Rattle.operation.specs.declared.Operation.{Operation}
@@ -24,9 +24,9 @@ use Rattle.operation.specs.Codes.{code_of}
 use Rattle.operation.specs.Roles.{roles_of}
 use Rattle.operation.specs.Environment.{Environment, environment_of}
 use Rattle.operation.specs.Decide.{decide_listed, decide_code, decide_fetched, decide}
-use Rattle.operation.specs.Laws.Found.{under, as_code, as_listed, fetched, fetches}
+use Rattle.operation.proofs.Laws.Found.{under, as_code, as_listed, fetched, fetches}
 use Rattle.step.specs.Code.Performs.{trap_course, Performs}
-use Rattle.step.specs.Laws.Performs.{performs_along, performs_traps}
+use Rattle.step.proofs.Laws.Performs.{performs_along, performs_traps}
 
 module _ (row : Row) (v : Environment) (i : Instruction) (pt fresh : ℕ) (r : Course) (psws psws' : List ℕ) (m m' n n' : Memory) where
   -- a code

@@ -1,7 +1,7 @@
 -- The lines of rows, one after the other.
 use Rattle.std.specs.Prelude.{ℕ, ◌+◌, ◌*◌, ◌≤◌, ◌<◌, ◌≡◌, refl, List, [], ◌∷◌, ◌++◌, length, get_or, drop}
 use Rattle.std.proofs.Math.Path.{ap}
-use Rattle.std.proofs.Common.{sym, ◌∙◌, add_one, arith, length-append, drop_of_length-le}
+use Rattle.std.proofs.Common.{sym, ◌∙◌, add-one, arith, length-append, drop_of_length-le}
 use Rattle.std.proofs.Math.Seq.{drop-cons}
 use Rattle.window.specs.declared.Row.{Row}
 use Rattle.step.specs.declared.ProcessTable.{ProcessTable}
@@ -26,7 +26,7 @@ module _ (table : ProcessTable) (own : Tally) (rows : List Row) (start : Text) w
 
   next : (i : ℕ) (d : Row) → i < length rows → row_lines table own (drop i rows) ≡ line (get_or rows i d) ++ row_lines table own (drop (i + 1) rows)
   unfolding row_lines
-  next i d h = rw (add_one, drop-cons rows i d h)
+  next i d h = rw (add-one, drop-cons rows i d h)
 
   pub goes : (now after : Text) (i : ℕ) (d row : Row) (c : Counts) → Going table own rows start now i → i < length rows → get_or rows i d ≡ row
       → c ≡ own_counts row.task own

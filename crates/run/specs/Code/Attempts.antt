@@ -1,4 +1,4 @@
--- A run as a loop over tries and steps has it. Document 01 has no such loop: it names items alone, and laws from_try, from-step and from_no_try
+-- A run as a loop over tries and steps has it. Document 01 has no such loop: it names items alone, and laws from_try, from_step and from_no_try
 -- (Laws/Attempts) say that the loop is the run.
 use Rattle.std.specs.Prelude.{ℕ, Bool, true, false, List, [], ◌∷◌, set}
 use Rattle.operation.specs.Environment.{Environment}

@@ -1,17 +1,16 @@
 -- The numbers of a run that an attempt changes besides the memories, and what becomes of them by its course.
-use Rattle.std.specs.Prelude.{◌≡◌, ◌≢◌, Bool, true, false, List, ℕ, ◌+◌, ◌-◌, ◌*◌, ◌^◌, ◌≤◌, ◌<◌, length, get_or, set}
+use Rattle.std.specs.Prelude.{◌≡◌, ◌≢◌, Bool, true, false, List, ℕ, ◌+◌, ◌-◌, ◌*◌, ◌^◌, ◌≤◌, ◌<◌, get_or, set}
 use Rattle.std.specs.Int.Count.{count_trailing_zeros}
 use Rattle.operation.specs.declared.Course.{Course}
 use Rattle.operation.specs.declared.Course.TheVariants as go
 use Rattle.operation.specs.declared.Trap.{Trap}
 use Rattle.operation.specs.declared.Trap.TheVariants as trap
-use Rattle.operation.specs.Environment.{kind_of}
 use Rattle.step.specs.declared.Attempt.{Attempt}
 use Rattle.step.specs.declared.Ending.{Ending}
 use Rattle.step.specs.declared.Ending.TheVariants.{Executed, Waved, Trapped, Idle}
 use Rattle.step.specs.declared.Queue.{Queue}
 use Rattle.step.specs.declared.StepResult.{StepResult}
-use Rattle.step.specs.Queues.{places, pt_count, numbers, total, below_total}
+use Rattle.step.specs.Queues.{places, pt_count, numbers, below_total}
 use Rattle.step.specs.Act.{joined_at}
 use Rattle.step.specs.Code.Parts.{moved_queues, flag_after, created_motion}
 use Rattle.step.specs.Code.Performs.{course_result}

@@ -1,10 +1,10 @@
 -- The two queues of a task together hold no more processes than live.
-use Rattle.std.specs.Prelude.{◌≡◌, ◌≢◌, List, ℕ, ◌+◌, ◌*◌, ◌≤◌, ◌<◌, length, get_or, set}
+use Rattle.std.specs.Prelude.{◌≢◌, List, ℕ, ◌+◌, ◌*◌, ◌≤◌, ◌<◌, length, get_or, set}
 use Rattle.std.proofs.Common.{ap, arith, length-set, get_or-set_other}
 use Rattle.step.specs.declared.Queue.{Queue}
 use Rattle.step.specs.Queues.{numbers, live_pts, live_total}
 use Rattle.step.specs.State.{no_queue, queue_in}
-use Rattle.step.specs.Laws.Queues.{length_live, len_get}
+use Rattle.step.proofs.Laws.Queues.{length_live, len_get}
 use Rattle.run_rings.specs.Code.Rings.{queues_in}
 use Rattle.run_rings.specs.Laws.Rings.{len_in, length_in}
 

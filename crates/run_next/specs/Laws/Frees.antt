@@ -9,14 +9,14 @@ use Rattle.operation.specs.declared.Course.TheVariants as go
 use Rattle.step.specs.declared.Attempt.{Attempt}
 use Rattle.step.specs.declared.Attempt.TheVariants.{Step, Try}
 use Rattle.step.specs.declared.Queue.{Queue}
-use Rattle.step.specs.Queues.{pt_count, task_place, own_number, sfu_number, acting_number, head_of, live_pts, live_total}
+use Rattle.step.specs.Queues.{pt_count, own_number, sfu_number, acting_number, head_of, live_pts, live_total}
 use Rattle.step.specs.State.{queue_in}
 use Rattle.step.specs.Act.{turned_at, left_at, joined_at, passed_to}
 use Rattle.step.specs.Code.Parts.{executed_motion, created_motion, waved_motion, other_number, moved_queues}
 use Rattle.step.specs.Code.Performs.{course_result}
-use Rattle.step.specs.Laws.Act.{own_inside, sfu_inside, acting_inside}
-use Rattle.step.specs.Laws.Occurrences.{Free}
-use Rattle.step.specs.Laws.Motions.{Tidy, turn_tidy, pass_tidy}
+use Rattle.step.proofs.Laws.Act.{own_inside, sfu_inside, acting_inside}
+use Rattle.step.proofs.Laws.Occurrences.{Free}
+use Rattle.step.proofs.Laws.Motions.{Tidy, turn_tidy, pass_tidy}
 use Rattle.run_rings.specs.Code.Mask.{free_word}
 use Rattle.run_rings.specs.Laws.Live.{lowest_free_pt, word_turned, total_turned, free_turned, word_joined, total_joined, word_left, total_left, word_passed, total_passed, free_passed}
 use Rattle.run_next.specs.Code.Settled.{free_by, count_by}

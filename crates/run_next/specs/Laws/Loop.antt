@@ -12,7 +12,7 @@ use Rattle.operation.specs.declared.Course.{Course}
 use Rattle.operation.specs.Environment.{environment_of}
 use Rattle.operation.specs.Decide.{decide}
 use Rattle.step.specs.declared.Attempt.{Attempt}
-use Rattle.step.specs.declared.Attempt.TheVariants.{Step, Try}
+use Rattle.step.specs.declared.Attempt.TheVariants.{Step}
 use Rattle.step.specs.declared.Ending.{Ending}
 use Rattle.step.specs.declared.Ending.TheVariants.{Idle}
 use Rattle.step.specs.State.{State}
@@ -22,7 +22,7 @@ use Rattle.run.specs.Code.Attempts.{added}
 use Rattle.run_rings.specs.Code.Records.{row_in}
 use Rattle.run_rings.specs.Code.Spans.{Windows}
 use Rattle.run_next.specs.Code.Next.{then_places, no_attempt, next_is, next_at, Acting, alone, several, follows, tries, standing, had_in, goes_on}
-use Rattle.run_next.specs.Code.Settled.{Lines, lines, queues_of, attempt_of, result_by, place_of, Ready, Settles}
+use Rattle.run_next.specs.Code.Settled.{Lines, lines, queues_of, attempt_of, result_by, Ready, Settles}
 use Rattle.run_next.specs.Code.Stands.{Stands}
 use Rattle.run_next.specs.Code.Numbers.{Cells, state_from, Numbers, Attempted}
 use Rattle.run_next.specs.Code.Tally.{tally_cells, tally_in, attempt_counts}

@@ -7,21 +7,20 @@ use mathlib.Core.List.{List}
 use Rattle.std.proofs.Math.ListN.{get_or, length-set}
 use Rattle.std.proofs.Math.Seq.{get_or-set_same, get_or-set_other}
 use Rattle.std.proofs.lemmas.List.{set-get_or}
-use borrow.Author.Tests.{eq-eqb, ne_eqb, lt-leb, lt-ltb, not-true, not-false}
-use Rattle.operation.specs.declared.Wait.TheVariants.{Data}
+use borrow.Author.Tests.{eq-eqb, ne_eqb, lt-leb, lt-ltb}
 use Rattle.step.specs.declared.Attempt.{Attempt}
 use Rattle.step.specs.declared.Attempt.TheVariants.{Step, Try}
 use Rattle.step.specs.declared.Motion.{Motion}
 use Rattle.step.specs.declared.Motion.TheVariants.{Turns, Leaves, Passes, TurnsAndJoins, PassesAndJoins}
 use Rattle.step.specs.declared.Queue.{Queue}
-use Rattle.step.specs.Code.Parts.{moved_queues, executed_motion, waved_motion, created_motion, other_number}
+use Rattle.step.specs.Code.Parts.{moved_queues, executed_motion, created_motion, other_number}
 use Rattle.step.specs.Queues.{pt_count, numbers, task_place, own_number, sfu_number, acting_number, tail_index, after_head, head_of, turned, shifted, joined}
 use Rattle.step.specs.State.{no_queue, queue_in, with_queue}
 use Rattle.step.specs.Act.{turned_at, left_at, joined_at, passed_to}
 use Rattle.run_rings.specs.Code.Rings.{ring_count, queue_at, queues_in, Moves}
-use Rattle.run_next.specs.Code.Next.{mark_count, no_attempt, Next, next_is, next_at, only, item_next, standing, Puts, Acting, alone, several, follows, tries, attempt_at, had_in, followed, place_after, going_motion, Goes}
-use Rattle.step.specs.Laws.Queues.{shifted_len, joined_len}
-use Rattle.run_rings.specs.Laws.Rings.{moves_len, in_ring, len_in, turned_in, left_in_lem, joined_in, passed_in, length_in}
+use Rattle.run_next.specs.Code.Next.{mark_count, no_attempt, Next, next_is, next_at, only, item_next, standing, Puts, Acting, alone, several, follows, tries, attempt_at, followed, place_after, going_motion, Goes}
+use Rattle.step.proofs.Laws.Queues.{shifted_len, joined_len}
+use Rattle.run_rings.specs.Laws.Rings.{moves_len, in_ring, len_in, turned_in, joined_in, length_in}
 
 pub next_eq : (u v r s a b : ℕ) → u ≡ v → r ≡ s → a ≡ b → next_is u r a ≡ next_is v s b
 next_eq u v r s a b p q o = ap (λ (x : ℕ). next_is x r a) p ∙ ap (λ (x : ℕ). next_is v x a) q ∙ ap (λ (x : ℕ). next_is v s x) o

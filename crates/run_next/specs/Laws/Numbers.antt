@@ -1,15 +1,14 @@
 -- An attempt of a run in numbers: performed, and then settled by its course, it is that of the definitions.
-use Rattle.std.specs.Prelude.{◌≡◌, ◌≢◌, Bool, true, false, not, ◌&&◌, ℕ, ◌+◌, ◌*◌, ◌/◌, ◌%◌, ◌^◌, ◌≤◌, ◌<◌, eqb, leb, set}
+use Rattle.std.specs.Prelude.{◌≡◌, ◌≢◌, Bool, true, false, not, ◌&&◌, ℕ, ◌+◌, ◌*◌, ◌/◌, ◌%◌, ◌^◌, ◌≤◌, ◌<◌, leb, set}
 use Rattle.std.proofs.Math.Path.{refl, ap, ap₂, subst}
 use Rattle.std.proofs.Common.{sym, ◌∙◌, subst₂, true≢false, arith, length-set, get_or-take, get_or-set_other, eq-eqb}
 use Rattle.std.proofs.lemmas.Bool.{false≢true}
 use Rattle.std.proofs.Math.Option.{Option, none, some}
-use mathlib.Core.List.{List, []}
+use mathlib.Core.List.{List}
 use Rattle.std.specs.Int.Count.{count_trailing_zeros}
 use Rattle.std.proofs.Math.ListN.{length, get_or, take}
-use Rattle.word.specs.Laws.Bools.{Le?, below, above, le?}
+use Rattle.word.proofs.Laws.Bools.{Le?, below, above, le?}
 use Rattle.window.specs.declared.Row.{Row}
-use Rattle.window.specs.Memories.{Memory}
 use Rattle.operation.specs.declared.Course.{Course}
 use Rattle.operation.specs.declared.Course.TheVariants as go
 use Rattle.operation.specs.declared.Trap.{Trap}
@@ -21,7 +20,7 @@ use Rattle.operation.specs.declared.Decision.{Decision}
 use Rattle.operation.specs.declared.Decision.TheVariants as decision
 use Rattle.operation.specs.Environment.{environment_of}
 use Rattle.operation.specs.Decide.{decide}
-use Rattle.operation.specs.Laws.SoundDecisions.{SoundFate, SoundDecision}
+use Rattle.operation.proofs.Laws.SoundDecisions.{SoundFate, SoundDecision}
 use Rattle.step.specs.declared.Attempt.{Attempt}
 use Rattle.step.specs.declared.Attempt.TheVariants.{Step, Try}
 use Rattle.step.specs.declared.Decided.TheVariants.{Decides}
@@ -34,15 +33,15 @@ use Rattle.step.specs.Step.{no_trap, row_decides, attempt_by}
 use Rattle.step.specs.Code.Parts.{decided_as, row_after, fate_psws, decision_psws, Acts}
 use Rattle.step.specs.Code.Performs.{trap_course, fate_course, course_of, Performs, course_result}
 use Rattle.step.specs.Soundness.{total_sound, sound}
-use Rattle.step.specs.Laws.Act.{acting_inside}
-use Rattle.step.specs.Laws.Motions.{Tidy}
-use Rattle.step.specs.Laws.Rows.{find_task}
-use Rattle.step.specs.Laws.Sound.{Sound, sound_parts, found_has_row, listed_holds, tidy_of}
-use Rattle.step.specs.Laws.TableKept.{own_sound}
-use Rattle.step.specs.Laws.SoundKept.{decided_sound, attempt_sound}
-use Rattle.step.specs.Laws.Parts.{Parts, attempt_made, head_decides_lem}
-use Rattle.step.specs.Laws.Performs.{performs_acts}
-use Rattle.run_rings.specs.Code.Records.{row_in, rows_in, kinds_after, stored_after}
+use Rattle.step.proofs.Laws.Act.{acting_inside}
+use Rattle.step.proofs.Laws.Motions.{Tidy}
+use Rattle.step.proofs.Laws.Rows.{find_task}
+use Rattle.step.proofs.Laws.Sound.{Sound, sound_parts, found_has_row, listed_holds, tidy_of}
+use Rattle.step.proofs.Laws.TableKept.{own_sound}
+use Rattle.step.proofs.Laws.SoundKept.{decided_sound, attempt_sound}
+use Rattle.step.proofs.Laws.Parts.{Parts, attempt_made, head_decides_lem}
+use Rattle.step.proofs.Laws.Performs.{performs_acts}
+use Rattle.run_rings.specs.Code.Records.{row_in, rows_in}
 use Rattle.run_rings.specs.Code.Spans.{Windows}
 use Rattle.run_rings.specs.Laws.Live as LiveLaws
 use Rattle.run_rings.specs.Laws.Live.{lowest_is, lowest_lt, lowest_fits, total_le, head_fits, some_live, head_not_lowest}
@@ -51,7 +50,7 @@ use Rattle.run_rings.specs.Laws.Rows.{rising_in, listed, Row-of, live_row}
 use Rattle.run_rings.specs.Laws.Spans.{windows_in}
 use Rattle.run_next.specs.Code.Next.{next_at, Acting, alone, several, follows, tries, attempt_at}
 use Rattle.run_next.specs.Code.Settled.{Lines, lines, queues_of, attempt_of, result_by, psws_by, Ready, Settles}
-use Rattle.run_next.specs.Code.Numbers.{Cells, cells, state_from, Numbers, Attempted}
+use Rattle.run_next.specs.Code.Numbers.{Cells, state_from, Numbers, Attempted}
 use Rattle.run_next.specs.Laws.Next.{own_number_lem, sfu_number_lem, as_step, as_try}
 use Rattle.run_next.specs.Laws.Frees.{Fit, course_fits}
 use Rattle.run_next.specs.Laws.Fits.{both_fit}

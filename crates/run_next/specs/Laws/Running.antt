@@ -1,11 +1,10 @@
 -- The loop over the attempts of a run: an idle item, an attempt, the end.
-use Rattle.std.specs.Prelude.{◌≡◌, ◌≢◌, Bool, List, [], ◌∷◌, ℕ, suc, ◌+◌, ◌*◌, ◌≤◌, ◌<◌, eqb, leb, length, get_or, drop}
+use Rattle.std.specs.Prelude.{◌≡◌, ◌≢◌, Bool, List, ◌∷◌, ℕ, suc, ◌+◌, ◌*◌, ◌≤◌, ◌<◌, eqb, length, get_or, drop}
 use Rattle.std.proofs.Math.Path.{refl, sym, ap, subst}
 use Rattle.std.proofs.Common.{◌∙◌, true≢false, arith, drop_of_length-le, drop-cons}
 use Rattle.std.proofs.Math.Bool.{true, false, cond, not}
 use Rattle.std.proofs.Math.Option.{Option, none, some}
-use Rattle.std.proofs.lemmas.Bool.{eqb-false}
-use Rattle.word.specs.Laws.Bools.{Eq?, same, differ, eq?}
+use Rattle.word.proofs.Laws.Bools.{Eq?, same, differ, eq?}
 use Rattle.window.specs.declared.Row.{Row}
 use Rattle.operation.specs.declared.Course.{Course}
 use Rattle.operation.specs.Decide.{decide}
@@ -14,33 +13,33 @@ use Rattle.step.specs.declared.Attempt.TheVariants.{Step, Try}
 use Rattle.step.specs.declared.Ending.{Ending}
 use Rattle.step.specs.declared.Ending.TheVariants.{Executed, Waved, Trapped, Idle}
 use Rattle.step.specs.declared.Queue.{Queue}
-use Rattle.step.specs.Queues.{numbers, own_number, sfu_number, acting_number, head_of}
+use Rattle.step.specs.Queues.{numbers, sfu_number, acting_number, head_of}
 use Rattle.step.specs.State.{State, find_row, queue_in, task_queue}
 use Rattle.step.specs.Act.{Stepped}
 use Rattle.step.specs.Step.{no_trap, attempt_by, has_process, step_follows, tries_of}
-use Rattle.step.specs.Laws.Step.{idle_empty, idle_trapped, idle_unlisted}
+use Rattle.step.proofs.Laws.Step.{idle_empty, idle_trapped, idle_unlisted}
 use Rattle.run.specs.declared.Counts.{Counts}
-use Rattle.run.specs.Run.{counts, plus, counts_of, counted, Tally, no_tally, tallied, run_by, run, Ran}
+use Rattle.run.specs.Run.{counts, plus, counts_of, counted, Tally, no_tally, tallied, run_by, run}
 use Rattle.run.specs.Code.Attempts.{added, tried, stepped, run_from}
-use Rattle.run.specs.Laws.Attempts.{tallied_tried, from_step, from_try, from_no_try}
-use Rattle.run.specs.Laws.Run.{sum_counted, tries_counted}
+use Rattle.run.proofs.Laws.Attempts.{tallied_tried, from_step, from_try, from_no_try}
+use Rattle.run.proofs.Laws.Run.{sum_counted, tries_counted}
 use Rattle.run_rings.specs.Code.Records.{rows_in}
 use Rattle.run_rings.specs.Laws.Rings.{len_in}
 use Rattle.run_rings.specs.Laws.Rows.{listed, listed_kind}
-use Rattle.run_next.specs.Code.Next.{no_attempt, Next, next_is, next_at, only, standing, Acting, alone, several, tries, had_in, goes_on}
-use Rattle.run_next.specs.Code.Settled.{Lines, lines, queues_of, attempt_of, result_by, place_of, Settles}
-use Rattle.run_next.specs.Code.Stands.{StandsAt, Stands, Between}
-use Rattle.run_next.specs.Code.Numbers.{Cells, state_from, Numbers, Attempted}
+use Rattle.run_next.specs.Code.Next.{no_attempt, next_is, next_at, only, standing, Acting, alone, several, tries, had_in, goes_on}
+use Rattle.run_next.specs.Code.Settled.{Lines, lines, queues_of, attempt_of, result_by, Settles}
+use Rattle.run_next.specs.Code.Stands.{StandsAt, Between}
+use Rattle.run_next.specs.Code.Numbers.{Cells, state_from, Attempted}
 use Rattle.run_next.specs.Code.Tally.{attempt_counts}
 use Rattle.run_next.specs.Code.Running.{Runs, Standing, before, between, Running}
-use Rattle.run_next.specs.Laws.Next.{own_number_lem, sfu_number_lem, as_step, as_try, stands_sfu, stands_none, stands_own}
+use Rattle.run_next.specs.Laws.Next.{own_number_lem, sfu_number_lem, as_step, as_try, stands_sfu, stands_own}
 use Rattle.run_next.specs.Laws.Stands.{stands_acting, between_acting, not_idle, stands_kept, between_kept}
 use Rattle.run_next.specs.Laws.Numbers.{head_lt}
 
 -- ---- one attempt more of a run
 
-add_one : (i : ℕ) → i + 1 ≡ suc i
-add_one i = omega arith
+add-one : (i : ℕ) → i + 1 ≡ suc i
+add-one i = omega arith
 
 -- the items from the ith on
 first_item : (tried : Bool) (l : List ℕ) (i : ℕ) (s : State) (c : Tally) → i < length l
@@ -56,7 +55,7 @@ module _ (l : List ℕ) (i : ℕ) (s₀ s s' : State) (c : Tally) (e : Ending) (
 
   -- the items behind
   behind : (c' : Tally) → run_from decide false (drop (suc i) l) s' c' ≡ run l s₀ → run_from decide false (drop (i + 1) l) s' c' ≡ run l s₀
-  behind c' k = ap (λ (j : ℕ). run_from decide false (drop j l) s' c') (add_one i) ∙ k
+  behind c' k = ap (λ (j : ℕ). run_from decide false (drop j l) s' c') (add-one i) ∙ k
 
   step_then : attempt_by decide Step t s ≡ record { state = s'; ending = e } → run_from decide true (t ∷ ts) s c ≡ run_from decide false ts s' (tallied t (stepped e) c)
   step_then q = from_step decide t ts s c ∙ ap (λ (y : Stepped). run_from decide false ts y.state (tallied t (stepped y.ending) c)) q

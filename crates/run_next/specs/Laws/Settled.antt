@@ -1,5 +1,5 @@
 -- An attempt settled, by its course.
-use Rattle.std.specs.Prelude.{◌≡◌, refl, ◌≢◌, Bool, List, ℕ, ◌+◌, ◌-◌, ◌*◌, ◌^◌, ◌≤◌, ◌<◌, eqb, length, get_or, set}
+use Rattle.std.specs.Prelude.{◌≡◌, refl, ◌≢◌, Bool, List, ℕ, ◌+◌, ◌-◌, ◌*◌, ◌^◌, ◌≤◌, ◌<◌, eqb, get_or, set}
 use Rattle.std.proofs.Math.Path.{sym, ap}
 use Rattle.std.proofs.Common.{◌∙◌, subst, true≢false, arith}
 use Rattle.std.proofs.Math.Bool.{true, false, cond}
@@ -12,19 +12,19 @@ use Rattle.operation.specs.Environment.{kind_of}
 use Rattle.step.specs.declared.Attempt.{Attempt}
 use Rattle.step.specs.declared.Attempt.TheVariants.{Step, Try}
 use Rattle.step.specs.declared.Ending.{Ending}
-use Rattle.step.specs.declared.Ending.TheVariants.{Executed, Waved, Trapped}
+use Rattle.step.specs.declared.Ending.TheVariants.{Executed, Waved, Trapped, Idle}
 use Rattle.step.specs.declared.Motion.{Motion}
 use Rattle.step.specs.declared.Motion.TheVariants.{Stays, Turns, Leaves, Joins}
 use Rattle.step.specs.declared.Queue.{Queue}
 use Rattle.step.specs.declared.StepResult.{StepResult}
-use Rattle.step.specs.Queues.{numbers, own_number, below_total}
+use Rattle.step.specs.Queues.{numbers, below_total}
 use Rattle.step.specs.Act.{joined_at}
 use Rattle.step.specs.Code.Parts.{result, moved_queues, flag_after, executed_motion, waved_motion, created_motion}
 use Rattle.step.specs.Code.Performs.{course_result}
 use Rattle.run_rings.specs.Code.Rings.{queues_in}
 use Rattle.run_rings.specs.Code.Records.{kinds_after, stored_after}
-use Rattle.run_next.specs.Code.Next.{no_place, no_attempt, Next, next_is, standing, Puts, attempt_at, had_in, followed, place_after, going_motion, Goes}
-use Rattle.run_next.specs.Code.Settled.{Lines, lines, queues_of, attempt_of, result_by, place_of, next_by, free_by, count_by, psws_by, Ready, Makes, Moved, Settles, going_place, trap_by, Others}
+use Rattle.run_next.specs.Code.Next.{no_place, no_attempt, next_is, standing, Puts, attempt_at, had_in, followed, place_after, going_motion, Goes}
+use Rattle.run_next.specs.Code.Settled.{Lines, lines, queues_of, attempt_of, result_by, place_of, next_by, free_by, count_by, psws_by, Ready, Makes, Settles, going_place, trap_by, Others}
 use Rattle.run_next.specs.Laws.Next.{own_number_lem, puts_as, as_step, as_try, acts_ring}
 
 -- an ending that only moves, and the place of its count in a step
@@ -57,21 +57,29 @@ placed_as : (a : Attempt) (had : Bool) (e : Ending) (place : ℕ) → Ends e pla
 unfolding place_of
 placed_as a had Executed place executed = refl
 placed_as a had Waved place waved = refl
+placed_as a had (Trapped _ _) place e = elim e [ ]
+placed_as a had Idle place e = elim e [ ]
 
 kinds_stay : (e : Ending) (place t : ℕ) (l : List ℕ) → Ends e place → l ≡ kinds_after e t l
 unfolding kinds_after
 kinds_stay Executed place t l executed = refl
 kinds_stay Waved place t l waved = refl
+kinds_stay (Trapped _ _) place t l e = elim e [ ]
+kinds_stay Idle place t l e = elim e [ ]
 
 stored_stays : (e : Ending) (place t : ℕ) (l : List ℕ) → Ends e place → l ≡ stored_after e t l
 unfolding stored_after
 stored_stays Executed place t l executed = refl
 stored_stays Waved place t l waved = refl
+stored_stays (Trapped _ _) place t l e = elim e [ ]
+stored_stays Idle place t l e = elim e [ ]
 
 next_stands : (t : ℕ) (a : Attempt) (had : Bool) (e : Ending) (place : ℕ) (qs : List Queue) (l : List ℕ) → Ends e place → next_by t a had e qs l ≡ standing (followed a had) t qs
 unfolding next_by
 next_stands t a had Executed place qs l executed = refl
 next_stands t a had Waved place qs l waved = refl
+next_stands t a had (Trapped _ _) place qs l e = elim e [ ]
+next_stands t a had Idle place qs l e = elim e [ ]
 
 module _ (t pt p r : ℕ) (c : Course) (x y : Lines) where
   -- a course that only moves processes

@@ -10,7 +10,7 @@ use Rattle.std.proofs.Math.Seq.{get_or-set_same}
 use borrow.Author.Tests.{eqb-false, not-true}
 use Rattle.run_rings.specs.Code.Rings.{ring_count}
 use Rattle.run_rings.specs.Laws.Rings.{len_in, length_in}
-use Rattle.word.specs.Laws.Bools.{Eq?, same, differ, eq?}
+use Rattle.word.proofs.Laws.Bools.{Eq?, same, differ, eq?}
 use Rattle.operation.specs.declared.Course.{Course}
 use Rattle.operation.specs.declared.Course.TheVariants as go
 use Rattle.operation.specs.declared.Trap.{Trap}

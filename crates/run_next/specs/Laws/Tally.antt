@@ -1,12 +1,12 @@
 -- One attempt more in the counts side by side.
-use Rattle.std.specs.Prelude.{◌≡◌, refl, ◌≢◌, Bool, ◌&&◌, List, [], ◌∷◌, ℕ, zero, suc, ◌+◌, ◌*◌, ◌≤◌, ◌<◌, eqb, length, set}
-use Rattle.std.proofs.Common.{sym, ap₂, ◌∙◌, eq-eqb, ne_eqb}
+use Rattle.std.specs.Prelude.{◌≡◌, refl, ◌≢◌, Bool, ◌&&◌, List, ◌∷◌, ℕ, zero, suc, ◌+◌, ◌*◌, ◌≤◌, ◌<◌, eqb, length, set}
+use Rattle.std.proofs.Common.{sym, ap₂, ◌∙◌}
 use Rattle.std.proofs.Math.Path.{ap}
 use Rattle.std.proofs.Math.Bool.{true, false, cond}
 use native.Mathlib.Omega.{arith}
 use Rattle.std.proofs.Math.ListN.{get_or}
 use Rattle.std.proofs.Math.Seq.{get_or-set_same, get_or-set_other}
-use Rattle.word.specs.Laws.Bools.{Eq?, same, differ, eq?}
+use Rattle.word.proofs.Laws.Bools.{Eq?, same, differ, eq?}
 use Rattle.step.specs.declared.Attempt.{Attempt}
 use Rattle.step.specs.declared.Attempt.TheVariants.{Step, Try}
 use Rattle.step.specs.declared.Ending.{Ending}
@@ -16,7 +16,7 @@ use Rattle.step.specs.Step.{step_follows}
 use Rattle.run.specs.declared.Counts.{Counts}
 use Rattle.run.specs.Run.{counts, no_counts, plus, counts_of, summed, own_counts}
 use Rattle.run.specs.Code.Attempts.{added}
-use Rattle.run.specs.Laws.Tallies.{plus_none, summed_set}
+use Rattle.run.proofs.Laws.Tallies.{plus_none, summed_set}
 use Rattle.run_next.specs.Code.Next.{place_after}
 use Rattle.run_next.specs.Code.Settled.{place_of}
 use Rattle.run_next.specs.Code.Tally.{tally_cells, cell_of, own_in, own_from, all_own, tally_in, attempt_counts}

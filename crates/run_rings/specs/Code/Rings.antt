@@ -1,5 +1,5 @@
 -- Queues side by side in numbers: of ring k the 64 places from 64 k on, its head and its length at k.
-use Rattle.std.specs.Prelude.{◌≡◌, ◌≢◌, List, [], ◌∷◌, ℕ, zero, suc, ◌+◌, ◌*◌, get_or, take, drop}
+use Rattle.std.specs.Prelude.{◌≡◌, ◌≢◌, List, [], ◌∷◌, ℕ, zero, suc, ◌*◌, get_or, take, drop}
 use Rattle.step.specs.declared.Queue.{Queue}
 use Rattle.step.specs.Queues.{places, queue_count}
 

@@ -6,7 +6,7 @@ use Rattle.std.proofs.Math.Option.{Option, none, some}
 use mathlib.Core.List.{List, [], ◌∷◌}
 use Prim.Native.Nat.{ℕ, zero, suc, ◌+◌, ◌-◌, ◌*◌, ◌≤◌, ◌<◌}
 use native.Mathlib.Omega.{arith}
-use Rattle.std.proofs.Math.Numerals.{add_one}
+use Rattle.std.proofs.Math.Numerals.{add-one}
 use Rattle.std.proofs.lemmas.List.Edits.{length-paste}
 use Rattle.window.specs.declared.Row.{Row}
 use Rattle.step.specs.declared.Queue.{Queue}
@@ -23,7 +23,7 @@ module _ (qs : List Queue) (i : ℕ) (x : Rings) where
       → queues_laid (i + 1) (drop (i + 1) qs) y ≡ z
   unfolding queues_laid
   queue_goes y h e p =
-      rw (add_one i, e) (sym (ap (λ (l : List Queue). queues_laid i l x) (drop-cons qs i no_queue h)) ∙ p)
+      rw (add-one i, e) (sym (ap (λ (l : List Queue). queues_laid i l x) (drop-cons qs i no_queue h)) ∙ p)
 
   pub queues_done : {z : Rings} → length qs ≤ i → queues_laid i (drop i qs) x ≡ z → x ≡ z
   unfolding queues_laid
@@ -41,7 +41,7 @@ module _ (rs : List Row) (t : ℕ) (x : Tasks) where
   task_goes y h e p =
       let s : 8 - t ≡ suc (8 - (t + 1)) = omega (arith, h) in
       rw e
-      (ap (λ (u : ℕ). tasks_laid (8 - (t + 1)) u rs (row_laid t (find_row t rs) x)) (add_one t) ∙ sym (ap (λ (m : ℕ). tasks_laid m t rs x) s) ∙ p)
+      (ap (λ (u : ℕ). tasks_laid (8 - (t + 1)) u rs (row_laid t (find_row t rs) x)) (add-one t) ∙ sym (ap (λ (m : ℕ). tasks_laid m t rs x) s) ∙ p)
 
   pub tasks_done : {z : Tasks} → 8 ≤ t → tasks_laid (8 - t) t rs x ≡ z → x ≡ z
   unfolding tasks_laid
@@ -72,9 +72,9 @@ module _ (rs : List Row) (narrow : (t : ℕ) (r : Row) → find_row t rs ≡ som
   row_told : (t : ℕ) (x : Tasks) → t < 8 → Eight x → Told rs x.kinds x.stored x.spans t → (o : Option Row) → find_row t rs ≡ o
       → Told rs (row_laid t o x).kinds (row_laid t o x).stored (row_laid t o x).spans (suc t)
   unfolding row_laid
-  row_told t x h e p none f = rw (← add_one t) (told_past rs x.kinds x.stored x.spans t f p)
+  row_told t x h e p none f = rw (← add-one t) (told_past rs x.kinds x.stored x.spans t f p)
   row_told t x h e p (some r) f =
-      rw (← add_one t)
+      rw (← add-one t)
       (told_next rs x.kinds x.stored x.spans t r (omega (arith, e.kinds)) (omega (arith, e.stored)) (omega (arith, e.spans)) (narrow t r f) f p)
 
   pub tasks_told : (n t : ℕ) (x : Tasks) → t + n ≤ 8 → Eight x → Told rs x.kinds x.stored x.spans t

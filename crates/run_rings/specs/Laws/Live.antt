@@ -7,9 +7,9 @@ use Rattle.step.specs.declared.Queue.{Queue}
 use Rattle.step.specs.Queues.{list_of, head_of, live_pts, live_total, occ, free_from, lowest_free}
 use Rattle.step.specs.State.{no_queue, queue_in}
 use Rattle.step.specs.Act.{turned_at, left_at, joined_at, passed_to}
-use Rattle.step.specs.Laws.Occurrences.{hit_same, Free, free_spec, length_once}
-use Rattle.step.specs.Laws.Queues.{live_next, live_none}
-use Rattle.step.specs.Laws.Motions.{Tidy, turn_occ, turn_length, join_occ, join_length, leave_occ, leave_length, leave_free, pass_occ, pass_length}
+use Rattle.step.proofs.Laws.Occurrences.{hit_same, Free, free_spec, length_once}
+use Rattle.step.proofs.Laws.Queues.{live_next, live_none}
+use Rattle.step.proofs.Laws.Motions.{Tidy, turn_occ, turn_length, join_occ, join_length, leave_occ, leave_length, leave_free, pass_occ, pass_length}
 use Rattle.step_queue.specs.Code.Mask.{without, free_after}
 use Rattle.run_rings.specs.Code.Mask.{free_word, Frees}
 use Rattle.run_rings.specs.Laws.Mask.{lowest_free_lem, free_le, frees_same, Adds, frees_taken, given_lt, frees_given, frees_after, frees_only}

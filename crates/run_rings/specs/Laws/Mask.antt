@@ -3,9 +3,9 @@ use Rattle.std.specs.Prelude.{◌≡◌, refl, ◌≢◌, Bool, true, false, con
 use Rattle.std.proofs.Common.{sym, ap, ◌∙◌, subst, add-zero, div-one, pow-suc, arith, pow_pos}
 use Rattle.std.proofs.Math.Pow.{high, ones_split, ones_lt}
 use Rattle.std.specs.Int.Count.{under, count_trailing_zeros}
-use Rattle.word.specs.Laws.Bools.{Eq?, same, differ, eq?, Le?, below, above, le?}
+use Rattle.word.proofs.Laws.Bools.{Eq?, same, differ, eq?, Le?, below, above, le?}
 use Rattle.step.specs.Queues.{hit, occ, free_from}
-use Rattle.step.specs.Laws.Occurrences.{hit_same, hit_differ, occ_nil, occ_cons, occ_append}
+use Rattle.step.proofs.Laws.Occurrences.{hit_same, hit_differ, occ_nil, occ_cons, occ_append}
 use Rattle.step_queue.specs.Laws.Digits.{half, digit_le}
 use Rattle.step_queue.specs.Code.Mask.{without, free_after}
 use Rattle.run_rings.specs.Code.Mask.{all_free, none, Frees}

@@ -1,7 +1,7 @@
 -- The place of a row is where a search finds it.
 use Rattle.std.specs.Prelude.{ℕ, suc, ◌+◌, ◌≤◌, ◌<◌, min, ◌≡◌, refl, ◌≢◌, Bool, true, false, List, [], ◌∷◌, eqb, get_or, take, drop}
 use Rattle.std.proofs.Math.Path.{sym, ap}
-use Rattle.std.proofs.Common.{◌∙◌, add_one, arith, drop_of_length-le, drop-cons, get_or-take, eq-eqb, ne_eqb}
+use Rattle.std.proofs.Common.{◌∙◌, add-one, arith, drop_of_length-le, drop-cons, get_or-take, eq-eqb, ne_eqb}
 use Rattle.std.proofs.Math.Bool.{cond}
 use Rattle.std.proofs.Math.Option.{Option, none, some}
 use Rattle.std.proofs.Math.ListN.{length, length-take}
@@ -64,7 +64,7 @@ module _ (t n i : ℕ) (rows : List Row) where
   unfolding place_from
   next_row d h k =
       let m : i < length (take n rows) = rw length-take (omega arith) in
-      rw (add_one i)
+      rw (add-one i)
       (ap (place_from t i) (drop-cons (take n rows) i d m)
       ∙ ap (λ (r : Row). cond (eqb r.task t) (Listed i) (place_from t (suc i) (drop (suc i) (take n rows)))) (get_or-take n rows i d h))
 

@@ -12,7 +12,7 @@ use Rattle.step.specs.declared.Ending.{Ending}
 use Rattle.step.specs.declared.Ending.TheVariants.{Executed, Waved, Trapped, Idle}
 use Rattle.step.specs.Act.{trapped_row}
 use Rattle.step.specs.Code.Parts.{row_after}
-use Rattle.step.specs.Laws.Rows.{find_here, find_there, put_here, put_there, here, there, found, put_same, none_some}
+use Rattle.step.proofs.Laws.Rows.{find_here, find_there, put_here, put_there, here, there, found, put_same, none_some}
 use Rattle.run_rings.specs.Code.Records.{with_record, row_in, rows_in, kinds_after, stored_after}
 
 -- the numbers of the tasks rise, all above b

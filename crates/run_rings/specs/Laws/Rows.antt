@@ -5,12 +5,12 @@ use Rattle.std.proofs.Common.{◌∙◌, drop_of_length-le, length-take-le, take
 use Rattle.std.proofs.lemmas.Bool.{false≢true}
 use Rattle.std.proofs.Math.Option.{Option, none, some}
 use mathlib.Core.List.{List, [], ◌∷◌, ◌++◌}
-use Prim.Native.Nat.{ℕ, zero, suc, ◌+◌, ◌*◌, ◌/◌, ◌≤◌, ◌<◌, ◌^◌}
+use Prim.Native.Nat.{ℕ, suc, ◌+◌, ◌*◌, ◌/◌, ◌≤◌, ◌<◌, ◌^◌}
 use native.Mathlib.Omega.{arith}
 use Rattle.std.proofs.Math.ListN.{set, drop}
 use Rattle.std.proofs.Math.Seq.{append_snoc, set_at, take_at, drop_at}
 use Rattle.window.specs.Limits.{most_data}
-use Rattle.word.specs.Laws.Bools.{and_left, and_right}
+use Rattle.word.proofs.Laws.Bools.{and_left, and_right}
 use Rattle.window.specs.declared.Row.{Row}
 use Rattle.window.specs.declared.Window.{Window}
 use Rattle.window.specs.Windows.{window_of, register_window, program_window, data_window, data_word_window}
@@ -19,8 +19,8 @@ use Rattle.window.specs.Sound.{bits}
 use Rattle.step.specs.declared.Queue.{Queue}
 use Rattle.step.specs.State.{find_row, queue_in}
 use Rattle.step.specs.Soundness.{task_sound, bases_sound, row_sound, rows_sound, has_row, ends_in, row_ends_in, windows_sound, may_hold, queues_sound}
-use Rattle.step.specs.Laws.Rows.{find_here, find_there, here, there, found, find_task, none_some}
-use Rattle.step.specs.Laws.Sound.{found_has_row, has_row_range, nonempty_holds}
+use Rattle.step.proofs.Laws.Rows.{find_here, find_there, here, there, found, find_task, none_some}
+use Rattle.step.proofs.Laws.Sound.{found_has_row, has_row_range, nonempty_holds}
 use Rattle.run_rings.specs.Code.Records.{with_record, row_in, rows_in, rows_with}
 use Rattle.run_rings.specs.Code.Spans.{Narrow}
 use Rattle.run_rings.specs.Laws.Records.{Rising, ends, goes}

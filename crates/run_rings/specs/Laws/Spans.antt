@@ -7,11 +7,11 @@ use mathlib.Core.List.{List, [], ◌∷◌}
 use Rattle.std.proofs.Math.Nat.{mod-eq_of_lt}
 use Rattle.std.proofs.Math.ListN.{get_or}
 use Rattle.std.proofs.lemmas.List.Edits.{sets, sets-eq}
-use Rattle.word.specs.Laws.Bools.{Eq?, same, differ, eq?}
+use Rattle.word.proofs.Laws.Bools.{Eq?, same, differ, eq?}
 use Rattle.window.specs.declared.Row.{Row}
 use Rattle.window.specs.Windows.{register_window, program_window, data_window}
 use Rattle.step.specs.State.{find_row}
-use Rattle.step.specs.Laws.Rows.{some_inj, none_some}
+use Rattle.step.proofs.Laws.Rows.{some_inj, none_some}
 use Rattle.run_rings.specs.Code.Records.{with_record}
 use Rattle.run_rings.specs.Code.Spans.{Narrow, Windows, window_numbers, windows_laid, Tells, Told}
 

@@ -11,7 +11,7 @@ use Rattle.library.specs.declared.Sizes.{Sizes}
 use Rattle.library.specs.Buffers.{Buffers, fields_in, holding}
 use Rattle.library.specs.Calls.{refuses, answers, unless, leaving, state_refused, state_refusal, or_else, run_refusal, run_answer, run_leaves}
 use Rattle.library.specs.Promises.{run_answered, RunPromise}
-use Rattle.library.specs.Laws.Numbers.{run_promise}
+use Rattle.library.proofs.Laws.Numbers.{run_promise}
 
 module _ (n : Sizes) (b : Buffers) (l : List ℕ) where
   refused : (e : Refusal) → run_refusal n b l ≡ some e → RunPromise n b l (run_answered (refuses e)) b

@@ -1,7 +1,7 @@
 -- A run in numbers: its start, its loop, its end.
-use Rattle.std.specs.Prelude.{ℕ, zero, suc, ◌+◌, ◌≤◌, ◌<◌, ◌^◌, ◌≡◌, ◌≢◌, Bool, true, false, cond, eqb, ltb, length, set, take, drop, replicate}
+use Rattle.std.specs.Prelude.{ℕ, zero, suc, ◌+◌, ◌≤◌, ◌<◌, ◌≡◌, Bool, true, false, cond, ltb, length, set, take, drop, replicate}
 use Rattle.std.proofs.Math.Path.{refl, ap}
-use Rattle.std.proofs.Common.{sym, ap₂, ◌∙◌, subst, add_one, arith, length-set, drop_of_length-le, take_all, take-suc, get_or-set_same, drop-cons, leb-true, ltb-true, ltb-false}
+use Rattle.std.proofs.Common.{sym, ap₂, ◌∙◌, subst, add-one, arith, length-set, drop_of_length-le, take_all, take-suc, get_or-set_same, drop-cons, leb-true, ltb-true, ltb-false}
 use Rattle.std.proofs.Math.Option.{some}
 use mathlib.Core.List.{List, [], ◌∷◌, ◌++◌}
 use Rattle.std.proofs.Math.ListN.{get_or, get_or-eq_default}
@@ -9,9 +9,7 @@ use Rattle.std.proofs.lemmas.List.{get_or-replicate, take-set-le}
 use Rattle.window.specs.Limits.{most_registers, most_data}
 use Rattle.run_rings.specs.Code.Rings.{ring_count}
 use Rattle.run.specs.Schedule.{most_items}
-use Rattle.word.specs.Laws.Bools.{Eq?, same, differ, eq?}
 use Rattle.window.specs.declared.Row.{Row}
-use Rattle.window.specs.Memories.{Memory}
 use Rattle.step.specs.declared.Processes.{Processes}
 use Rattle.step.specs.declared.Queue.{Queue}
 use Rattle.step.specs.declared.Attempt.{Attempt}
@@ -22,14 +20,14 @@ use Rattle.step.specs.Queues.{pt_count, numbers, live_counts, live_total, places
 use Rattle.step.specs.State.{State, state, find_row, no_queue, queue_in}
 use Rattle.step.specs.Act.{table_of}
 use Rattle.step.specs.Soundness.{sound}
-use Rattle.step.specs.Laws.Sound.{Sound, sound_parts, found_has_row, has_row_range, tidy_of}
-use Rattle.step.specs.Laws.Motions.{Tidy}
-use Rattle.step.specs.Laws.MemoriesKept.{memory_parts}
+use Rattle.step.proofs.Laws.Sound.{Sound, sound_parts, found_has_row, has_row_range, tidy_of}
+use Rattle.step.proofs.Laws.Motions.{Tidy}
+use Rattle.step.proofs.Laws.MemoriesKept.{memory_parts}
 use Rattle.window.specs.Sound.{tag_sound, state_sound}
 use Rattle.run.specs.declared.Counts.{Counts}
 use Rattle.run.specs.Run.{no_counts, plus, summed, Tally, no_tally, run}
-use Rattle.run.specs.Laws.Tallies.{plus_none, plus_grouped}
-use Rattle.run.specs.Laws.Run.{sum, run_counts, run_tries}
+use Rattle.run.proofs.Laws.Tallies.{plus_none, plus_grouped}
+use Rattle.run.proofs.Laws.Run.{sum, run_counts, run_tries}
 use Rattle.run_rings.specs.declared.Tasks.{Tasks}
 use Rattle.run_rings.specs.Code.Mask.{free_word}
 use Rattle.run_rings.specs.Code.Records.{rows_in}
@@ -227,7 +225,7 @@ module _ (rows : List Row) (users : Processes) (m : Cells) (h : sound (open_stat
 
 pub copies : {A : Type 0} (z : A) (s d : List A) (k : ℕ) → k < length s → k < length d → take k d ≡ take k s → take (k + 1) (set d k (get_or s k z)) ≡ take (k + 1) s
 copies {A} z s d k h l e =
-    rw (add_one k)
+    rw (add-one k)
     (take-suc (set d k (get_or s k z)) k z (omega (arith, l, length-set d k (get_or s k z)))
     ∙ ap₂ {C = List A} (λ a x. a ++ (x ∷ [])) (take-set-le k d k (get_or s k z) (omega arith) ∙ e) (get_or-set_same d k (get_or s k z) z l)
     ∙ sym (take-suc s k z h))
@@ -245,7 +243,7 @@ all_copied l d t q h e =
 pub sums : (own : List Counts) (t : ℕ) (c : Counts) → t < length own → plus (plus c (get_or own t no_counts)) (summed (drop (t + 1) own)) ≡ plus c (summed (drop t own))
 unfolding summed
 sums own t c h =
-    rw (add_one t) (sym (plus_grouped c (get_or own t no_counts) (summed (drop (suc t) own))) ∙ ap (λ (l : List Counts). plus c (summed l)) (sym (drop-cons own t no_counts h)))
+    rw (add-one t) (sym (plus_grouped c (get_or own t no_counts) (summed (drop (suc t) own))) ∙ ap (λ (l : List Counts). plus c (summed l)) (sym (drop-cons own t no_counts h)))
 
 -- nothing is left to be added
 pub nothing_last : (own : List Counts) (t : ℕ) (c : Counts) → plus c (summed (drop t own)) ≡ summed own → length own ≤ t → c ≡ summed own

@@ -6,19 +6,19 @@ use Rattle.std.proofs.Math.Path.{ap}
 use native.Mathlib.Omega.{arith}
 use Rattle.std.proofs.Math.ListN.{length, length-take, length-drop}
 use Rattle.std.proofs.lemmas.Bool.{not-false}
-use Rattle.word.specs.Laws.Bools.{and_right}
+use Rattle.word.proofs.Laws.Bools.{and_right}
 use Rattle.window.specs.Memories.{memory}
 use Rattle.window.specs.declared.Row.{Row}
 use Rattle.step.specs.declared.Processes.{Processes}
 use Rattle.step.specs.declared.ProcessTable.{ProcessTable}
-use Rattle.step.specs.Queues.{numbers, live_total}
+use Rattle.step.specs.Queues.{live_total}
 use Rattle.step.specs.State.{State}
 use Rattle.step.specs.Act.{table_of}
 use Rattle.step.specs.Soundness as soundness
 use Rattle.step.specs.Soundness.{every, live_sound}
-use Rattle.step.specs.Laws.Counted.{live_counted, live_made}
+use Rattle.step.proofs.Laws.Counted.{live_counted, live_made}
 use Rattle.run.specs.Run.{Tally, Ran, run}
-use Rattle.run.specs.Laws.Run.{run_lengths}
+use Rattle.run.proofs.Laws.Run.{run_lengths}
 use Rattle.run.specs.Schedule.{most_items, item_sound}
 use Rattle.step_soundness.specs.Code.Held.{state_in, sound_in}
 use Rattle.library.specs.declared.Sizes.{Sizes}
@@ -28,9 +28,9 @@ use Rattle.library.specs.Calls.{answers, state_refused}
 use Rattle.library.specs.Held.{lent_buffers}
 use Rattle.library.specs.Code.HeldRows.{held_rows}
 use Rattle.library.specs.Promises.{run_answered, RunPromise}
-use Rattle.library.specs.Laws.Places.{Fitting, fitting, over_first, over_cut, over_places, drop_later}
-use Rattle.library.specs.Laws.Held.{before, lengths, room_held, accepted, accepted_live}
-use Rattle.library.specs.Laws.Numbers.{run_promise}
+use Rattle.library.proofs.Laws.Places.{Fitting, fitting, over_first, over_cut, over_places, drop_later}
+use Rattle.library.proofs.Laws.Held.{before, lengths, room_held, accepted, accepted_live}
+use Rattle.library.proofs.Laws.Numbers.{run_promise}
 use Rattle.library_state.specs.Laws.Cut.{cut, cut_fields, cut_refused}
 use Rattle.run_rings.specs.Code.Records.{rows_in}
 use Rattle.run_next.specs.Code.Numbers.{Cells, cells, state_from}

@@ -1,9 +1,9 @@
 -- The items of a sound schedule.
 use Rattle.std.specs.Prelude.{ℕ, zero, suc, ◌≤◌, ◌<◌, ◌≡◌, true, List, [], ◌∷◌, leb, length, get_or}
 use Rattle.std.proofs.Common.{arith, leb-true}
-use Rattle.word.specs.Laws.Bools.{and_left, and_right}
+use Rattle.word.proofs.Laws.Bools.{and_left, and_right}
 use Rattle.step.specs.Soundness.{every}
-use Rattle.step.specs.Laws.Every.{every_parts}
+use Rattle.step.proofs.Laws.Every.{every_parts}
 use Rattle.run.specs.Schedule.{item_sound}
 
 -- the item at i of a sound schedule

@@ -24,17 +24,17 @@ use Rattle.step.specs.declared.Processes.{Processes}
 use Rattle.step.specs.declared.Ending.{Ending}
 use Rattle.step.specs.declared.Ending.TheVariants.{Executed, Waved, Trapped, Idle}
 use Rattle.step.specs.Queues.{below_total}
-use Rattle.step.specs.State.{State, find_row, put_row}
+use Rattle.step.specs.State.{State, put_row}
 use Rattle.step.specs.Act.{Stepped, trapped_row, created_in, fault_in, fate_in, change_of, act}
-use Rattle.step.specs.Step.{attempt_by, has_process, step_follows, tries_of, Item, Account, account_of, ended, after_try, item_by, item}
+use Rattle.step.specs.Step.{attempt_by, has_process, step_follows, tries_of, Account, account_of, ended, after_try, item_by, item}
 use Rattle.step.specs.Soundness.{every, has_row}
-use Rattle.step.specs.Laws.Rows.{find_task}
-use Rattle.step.specs.Laws.Act.{change_fixed}
-use Rattle.step.specs.Laws.Step.{Attempts, idles, acts, attempts}
-use Rattle.step.specs.Laws.Sound.{found_has_row}
+use Rattle.step.proofs.Laws.Rows.{find_task}
+use Rattle.step.proofs.Laws.Act.{change_fixed}
+use Rattle.step.proofs.Laws.Step.{idles, acts, attempts}
+use Rattle.step.proofs.Laws.Sound.{found_has_row}
 use Rattle.run.specs.Run.{no_counts, plus, counts_of, counted, no_tally, tallied, Ran, run_by, run}
 use Rattle.run.specs.Schedule.{item_sound, schedule_refusal}
-use Rattle.run.specs.Laws.Run.{run_lengths}
+use Rattle.run.proofs.Laws.Run.{run_lengths}
 use Rattle.library.specs.declared.Rows.{Rows}
 use Rattle.library.specs.declared.Sizes.{Sizes}
 use Rattle.library.specs.declared.RunResult.{RunResult}
@@ -44,10 +44,10 @@ use Rattle.library.specs.Calls.{unless, leaving, or_else, state_refusal, run_ref
 use Rattle.library.specs.Code.HeldRows.{held_rows}
 use Rattle.library.specs.Code.RowPlace.{place_of, StandsAt}
 use Rattle.library.specs.Empty.{empty_row}
-use Rattle.library.specs.InPlace.{run_in_place}
+use Rattle.library.proofs.InPlace.{run_in_place}
 use Rattle.library.specs.Promises.{run_answered, RunPromise, step_answered, StepPromise}
-use Rattle.library.specs.Laws.Numbers.{step_promise}
-use Rattle.library.specs.Laws.RowPlace.{place_below_lem, put_at_lem, first_listed}
+use Rattle.library.proofs.Laws.Numbers.{step_promise}
+use Rattle.library.proofs.Laws.RowPlace.{place_below_lem, put_at_lem, first_listed}
 use Rattle.run_schedule.specs.Code.OneItem.{trap_of, ending_of, answer_of, row_at}
 
 -- ---- the ending, by the counts and the row

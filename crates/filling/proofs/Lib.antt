@@ -1,0 +1,4 @@
+pub mod BestChosen
+pub mod Sets
+pub mod Trials
+pub mod Laws

@@ -1,0 +1,12 @@
+use Rattle.image_write.specs.Code.Bytes.{row_first}
+use Rattle.image_write.proofs.Going.{four}
+use Rattle.image_write.proofs.put_first.Goals as goal
+
+pub returns : goal.returns
+unfolding row_first
+returns c =
+    four _ _ _ _ _ _ _ _ _ _ c.requires
+    c.put_number.ensures
+    c.put_number-2.ensures
+    c.put_number-3.ensures
+    c.put_number-4.ensures

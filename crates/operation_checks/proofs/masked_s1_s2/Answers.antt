@@ -1,0 +1,7 @@
+use Rattle.operation_checks.proofs.masked_s1_s2.Goals as goal
+
+pub returns-then-masked : goal.returns-then-masked
+returns-then-masked c = simp (c.if-masked.true, ← c.masked.ensures)
+
+pub returns : goal.returns
+returns c = simp (← c.masked-2.ensures, c.if-masked.false, ← c.masked.ensures)

@@ -1,0 +1,7 @@
+use Rattle.operation_checks.proofs.plain_three.Goals as goal
+
+pub returns-then-plain : goal.returns-then-plain
+returns-then-plain c = simp (← c.plain_two.ensures, c.if-plain.true, ← c.plain.ensures)
+
+pub returns : goal.returns
+returns c = simp (c.if-plain.false, ← c.plain.ensures)

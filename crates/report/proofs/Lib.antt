@@ -1,0 +1,4 @@
+pub mod Trials
+pub mod Isolation
+pub mod Instance
+pub mod Laws

@@ -1,0 +1,9 @@
+pub mod Instances
+pub mod ActInstances
+pub mod LiveInstances
+pub mod SfuInstances
+pub mod InMemory
+pub mod Waved
+pub mod LiveCounts
+pub mod Confined
+pub mod Laws
