@@ -5,10 +5,10 @@
 
 ghost use Rattle.std.specs.Prelude.{◌≤◌};
 
-use libc::STDOUT_FILENO;
 use library::{ReadAnswer, RunAnswer, Sizes, StepAnswer, WriteAnswer};
 use refusal::Refusal;
 use run::{Counts, TASK_NUMBERS};
+use std::io;
 use step::{Ending, NO_TRAP, NUMBERS, PLACES, PTS, ProcessTable, Processes, QUEUES, Queue};
 use window::{Row, TASKS};
 
@@ -122,10 +122,8 @@ fn table_unlisted(k: usize) -> ProcessTable {
 // So many processes, with the PTs 0 to 63.
 fn queue_full(len: usize) -> Queue {
     let mut queue = no_processes();
-    let mut i = 0;
-    while i < PLACES {
+    for i in 0..PLACES {
         queue.pts[i] = i as u8;
-        i += 1;
     }
     queue.len = len;
     queue
@@ -145,27 +143,18 @@ fn table_both(flag: u8) -> ProcessTable {
 
 // ---- lines
 
-fn print(text: &[u8]) {
-    io::write_all(STDOUT_FILENO, text);
-}
-
-fn print_number(n: usize) {
-    io::print_decimal(STDOUT_FILENO, n as u64);
-}
-
-fn print_refusal(e: Refusal) {
+fn print_refusal(rt: &impl Print, e: Refusal) -> io::Result<()> {
     match e {
-        Refusal::ShortBuffer => print(b"R7"),
-        Refusal::UnsoundState => print(b"R8"),
-        Refusal::ListTooLong => print(b"R9"),
-        Refusal::ItemOutOfRange => print(b"R10"),
-        _ => print(b"another refusal"),
+        Refusal::ShortBuffer => print!(rt; "R7"),
+        Refusal::UnsoundState => print!(rt; "R8"),
+        Refusal::ListTooLong => print!(rt; "R9"),
+        Refusal::ItemOutOfRange => print!(rt; "R10"),
+        _ => print!(rt; "another refusal"),
     }
 }
 
-fn print_kept(kept: usize) {
-    print(b" ");
-    print_number(kept);
+fn print_kept(rt: &impl Print, kept: usize) -> io::Result<()> {
+    print!(rt; " {kept}")
 }
 
 fn one_if(b: bool) -> usize
@@ -176,30 +165,17 @@ fn one_if(b: bool) -> usize
 
 // How many places have the mark.
 fn marked(bytes: &[u8]) -> usize {
-    let n = bytes.len();
-    let mut found = 0;
-    let mut i = 0;
-    while i < n {
-        found += one_if(bytes[i] == MARK);
-        i += 1;
-    }
-    found
+    bytes.iter().filter(|byte| **byte == MARK).count()
 }
 
 fn marked_words(words: &[u64]) -> usize {
-    let n = words.len();
-    let mut found = 0;
-    let mut i = 0;
-    while i < n {
-        found += one_if(words[i] == WORD_MARK);
-        i += 1;
-    }
-    found
+    words.iter().filter(|word| **word == WORD_MARK).count()
 }
 
 // ---- write
 
 fn write_to(
+    rt: &impl Print,
     out: &mut [u8],
     rows: [Row; TASKS],
     n: usize,
@@ -207,7 +183,7 @@ fn write_to(
     qualities: &[u8],
     tags: &[u8],
     data_tags: &[u8],
-) {
+) -> io::Result<()> {
     let written = hep::write_owned(
         rows,
         table,
@@ -222,28 +198,27 @@ fn write_to(
         sizes(n),
     );
     match written {
-        WriteAnswer::Refused(e) => print_refusal(e),
-        WriteAnswer::Wrote(length) => {
-            print(b"wrote ");
-            print_number(length);
-        }
+        WriteAnswer::Refused(e) => print_refusal(rt, e)?,
+        WriteAnswer::Wrote(length) => print!(rt; "wrote {length}")?,
     }
-    print(b", kept");
-    print_kept(marked(out));
-    print(b"\n");
+    print!(rt; ", kept")?;
+    print_kept(rt, marked(out))?;
+    println!(rt)
 }
 
 // The state with this row, table and tags, to a buffer as long as its image.
 fn write_state(
+    rt: &impl Print,
     row: Row,
     n: usize,
     table: ProcessTable,
     qualities: &[u8],
     tags: &[u8],
     data_tags: &[u8],
-) {
+) -> io::Result<()> {
     let mut out = [MARK; 578];
     write_to(
+        rt,
         &mut out,
         rows_from(row),
         n,
@@ -251,21 +226,22 @@ fn write_state(
         qualities,
         tags,
         data_tags,
-    );
+    )
 }
 
-fn write_row(row: Row, n: usize) {
-    write_state(row, n, trial_table(), &[2; 3], &[1; 8], &[1; 32]);
+fn write_row(rt: &impl Print, row: Row, n: usize) -> io::Result<()> {
+    write_state(rt, row, n, trial_table(), &[2; 3], &[1; 8], &[1; 32])
 }
 
-fn write_table(table: ProcessTable) {
-    write_state(trial_row(), 1, table, &[2; 3], &[1; 8], &[1; 32]);
+fn write_table(rt: &impl Print, table: ProcessTable) -> io::Result<()> {
+    write_state(rt, trial_row(), 1, table, &[2; 3], &[1; 8], &[1; 32])
 }
 
 // Likewise, to a buffer as long as an image with 64 processes.
-fn write_full(table: ProcessTable) {
+fn write_full(rt: &impl Print, table: ProcessTable) -> io::Result<()> {
     let mut out = [MARK; 1198];
     write_to(
+        rt,
         &mut out,
         rows_from(trial_row()),
         1,
@@ -273,30 +249,47 @@ fn write_full(table: ProcessTable) {
         &[2; 3],
         &[1; 8],
         &[1; 32],
-    );
+    )
 }
 
-fn write_quality(quality: u8) {
+fn write_quality(rt: &impl Print, quality: u8) -> io::Result<()> {
     let mut qualities = [2; 3];
     qualities[2] = quality;
-    write_state(trial_row(), 1, trial_table(), &qualities, &[1; 8], &[1; 32]);
+    write_state(
+        rt,
+        trial_row(),
+        1,
+        trial_table(),
+        &qualities,
+        &[1; 8],
+        &[1; 32],
+    )
 }
 
-fn write_tag(tag: u8) {
+fn write_tag(rt: &impl Print, tag: u8) -> io::Result<()> {
     let mut tags = [1; 8];
     tags[7] = tag;
-    write_state(trial_row(), 1, trial_table(), &[2; 3], &tags, &[1; 32]);
+    write_state(rt, trial_row(), 1, trial_table(), &[2; 3], &tags, &[1; 32])
 }
 
-fn write_data_tag(tag: u8) {
+fn write_data_tag(rt: &impl Print, tag: u8) -> io::Result<()> {
     let mut data_tags = [1; 32];
     data_tags[31] = tag;
-    write_state(trial_row(), 1, trial_table(), &[2; 3], &[1; 8], &data_tags);
+    write_state(
+        rt,
+        trial_row(),
+        1,
+        trial_table(),
+        &[2; 3],
+        &[1; 8],
+        &data_tags,
+    )
 }
 
-fn write_bounds() {
-    print(b"write to 578 bytes: ");
+fn write_bounds(rt: &impl Print) -> io::Result<()> {
+    print!(rt; "write to 578 bytes: ")?;
     write_to(
+        rt,
         &mut [MARK; 578],
         rows_from(trial_row()),
         1,
@@ -304,9 +297,10 @@ fn write_bounds() {
         &[2; 3],
         &[1; 8],
         &[1; 32],
-    );
-    print(b"write to 577 bytes: ");
+    )?;
+    print!(rt; "write to 577 bytes: ")?;
     write_to(
+        rt,
         &mut [MARK; 577],
         rows_from(trial_row()),
         1,
@@ -314,9 +308,10 @@ fn write_bounds() {
         &[2; 3],
         &[1; 8],
         &[1; 32],
-    );
-    print(b"write to 579 bytes: ");
+    )?;
+    print!(rt; "write to 579 bytes: ")?;
     write_to(
+        rt,
         &mut [MARK; 579],
         rows_from(trial_row()),
         1,
@@ -324,9 +319,10 @@ fn write_bounds() {
         &[2; 3],
         &[1; 8],
         &[1; 32],
-    );
-    print(b"unsound, to 577 bytes: ");
+    )?;
+    print!(rt; "unsound, to 577 bytes: ")?;
     write_to(
+        rt,
         &mut [MARK; 577],
         rows_from(trial_row()),
         1,
@@ -334,130 +330,155 @@ fn write_bounds() {
         &[2; 3],
         &[7; 8],
         &[1; 32],
-    );
+    )
 }
 
-fn write_memories() {
-    print(b"constant quality 6: ");
-    write_quality(6);
-    print(b"constant quality 7: ");
-    write_quality(7);
-    print(b"register tag 6: ");
-    write_tag(6);
-    print(b"register tag 7: ");
-    write_tag(7);
-    print(b"register tag 14: ");
-    write_tag(14);
-    print(b"register tag 15: ");
-    write_tag(15);
-    print(b"data state 2: ");
-    write_data_tag(2);
-    print(b"2 constant qualities of 3: ");
-    write_state(trial_row(), 1, trial_table(), &[2; 2], &[1; 8], &[1; 32]);
-    print(b"7 register tags of 8: ");
-    write_state(trial_row(), 1, trial_table(), &[2; 3], &[1; 7], &[1; 32]);
-    print(b"31 data states of 32: ");
-    write_state(trial_row(), 1, trial_table(), &[2; 3], &[1; 8], &[1; 31]);
+fn write_memories(rt: &impl Print) -> io::Result<()> {
+    print!(rt; "constant quality 6: ")?;
+    write_quality(rt, 6)?;
+    print!(rt; "constant quality 7: ")?;
+    write_quality(rt, 7)?;
+    print!(rt; "register tag 6: ")?;
+    write_tag(rt, 6)?;
+    print!(rt; "register tag 7: ")?;
+    write_tag(rt, 7)?;
+    print!(rt; "register tag 14: ")?;
+    write_tag(rt, 14)?;
+    print!(rt; "register tag 15: ")?;
+    write_tag(rt, 15)?;
+    print!(rt; "data state 2: ")?;
+    write_data_tag(rt, 2)?;
+    print!(rt; "2 constant qualities of 3: ")?;
+    write_state(
+        rt,
+        trial_row(),
+        1,
+        trial_table(),
+        &[2; 2],
+        &[1; 8],
+        &[1; 32],
+    )?;
+    print!(rt; "7 register tags of 8: ")?;
+    write_state(
+        rt,
+        trial_row(),
+        1,
+        trial_table(),
+        &[2; 3],
+        &[1; 7],
+        &[1; 32],
+    )?;
+    print!(rt; "31 data states of 32: ")?;
+    write_state(
+        rt,
+        trial_row(),
+        1,
+        trial_table(),
+        &[2; 3],
+        &[1; 8],
+        &[1; 31],
+    )
 }
 
-fn write_rows() {
+fn write_rows(rt: &impl Print) -> io::Result<()> {
     let mut row = trial_row();
-    print(b"CB 4095: ");
+    print!(rt; "CB 4095: ")?;
     row.cb = 4095;
-    write_row(row, 1);
-    print(b"CB 4096: ");
+    write_row(rt, row, 1)?;
+    print!(rt; "CB 4096: ")?;
     row.cb = 4096;
-    write_row(row, 1);
+    write_row(rt, row, 1)?;
     row = trial_row();
-    print(b"registers 2 to 9 of 8: ");
+    print!(rt; "registers 2 to 9 of 8: ")?;
     row.rb = 1;
     row.rl = 4;
-    write_row(row, 1);
-    print(b"an empty register window: ");
+    write_row(rt, row, 1)?;
+    print!(rt; "an empty register window: ")?;
     row.rb = 1023;
-    write_row(row, 1);
-    print(b"RB 1024: ");
+    write_row(rt, row, 1)?;
+    print!(rt; "RB 1024: ")?;
     row.rb = 1024;
-    write_row(row, 1);
+    write_row(rt, row, 1)?;
     row = trial_row();
-    print(b"kind 14: ");
+    print!(rt; "kind 14: ")?;
     row.kind = 0x14;
-    write_row(row, 1);
-    print(b"kind 13: ");
+    write_row(rt, row, 1)?;
+    print!(rt; "kind 13: ")?;
     row.kind = 0x13;
-    write_row(row, 1);
+    write_row(rt, row, 1)?;
     row = trial_row();
-    print(b"a PSW beside FF: ");
+    print!(rt; "a PSW beside FF: ")?;
     row.psw = 1;
-    write_row(row, 1);
-    print(b"an empty row after it: ");
-    write_row(trial_row(), 2);
-    print(b"8 rows: ");
-    write_row(trial_row(), 8);
+    write_row(rt, row, 1)?;
+    print!(rt; "an empty row after it: ")?;
+    write_row(rt, trial_row(), 2)?;
+    print!(rt; "8 rows: ")?;
+    write_row(rt, trial_row(), 8)
 }
 
-fn write_tables() {
-    print(b"PT 63: ");
-    write_table(table_with(63, 0, 0));
-    print(b"PT 64: ");
-    write_table(table_with(64, 0, 0));
-    print(b"PT 3 twice: ");
-    write_table(table_with(3, 0, 0));
-    print(b"PSW FF FF FF FF 0F FF FF: ");
-    write_table(table_with(9, 0xFF_FFFF_FF0F_FFFF, 0));
-    print(b"PSW FF FF FF FF 1F FF FF: ");
-    write_table(table_with(9, 0xFF_FFFF_FF1F_FFFF, 0));
-    print(b"PSW 1 00 00 00 00 00 00 00: ");
-    write_table(table_with(9, 0x100_0000_0000_0000, 0));
-    print(b"flag 1: ");
-    write_table(table_with(9, 0, 1));
-    print(b"flag 2: ");
-    write_table(table_with(9, 0, 2));
+fn write_tables(rt: &impl Print) -> io::Result<()> {
+    print!(rt; "PT 63: ")?;
+    write_table(rt, table_with(63, 0, 0))?;
+    print!(rt; "PT 64: ")?;
+    write_table(rt, table_with(64, 0, 0))?;
+    print!(rt; "PT 3 twice: ")?;
+    write_table(rt, table_with(3, 0, 0))?;
+    print!(rt; "PSW FF FF FF FF 0F FF FF: ")?;
+    write_table(rt, table_with(9, 0xFF_FFFF_FF0F_FFFF, 0))?;
+    print!(rt; "PSW FF FF FF FF 1F FF FF: ")?;
+    write_table(rt, table_with(9, 0xFF_FFFF_FF1F_FFFF, 0))?;
+    print!(rt; "PSW 1 00 00 00 00 00 00 00: ")?;
+    write_table(rt, table_with(9, 0x100_0000_0000_0000, 0))?;
+    print!(rt; "flag 1: ")?;
+    write_table(rt, table_with(9, 0, 1))?;
+    print!(rt; "flag 2: ")?;
+    write_table(rt, table_with(9, 0, 2))
 }
 
-fn write_full_tables() {
-    print(b"63 processes, flag 0: ");
-    write_full(table_full(2, 63, 0));
-    print(b"64 processes, flag 0: ");
-    write_full(table_full(2, 64, 0));
-    print(b"64 processes, flag 1: ");
-    write_full(table_full(2, 64, 1));
-    print(b"65 processes, flag 1: ");
-    write_full(table_full(2, 65, 1));
-    print(b"63 SFU processes, flag 0: ");
-    write_full(table_full(3, 63, 0));
-    print(b"64 SFU processes, flag 0: ");
-    write_full(table_full(3, 64, 0));
-    print(b"64 SFU processes, flag 1: ");
-    write_full(table_full(3, 64, 1));
-    print(b"65 SFU processes, flag 1: ");
-    write_full(table_full(3, 65, 1));
-    print(b"63 processes and one SFU process, flag 0: ");
-    write_full(table_both(0));
-    print(b"63 processes and one SFU process, flag 1: ");
-    write_full(table_both(1));
+fn write_full_tables(rt: &impl Print) -> io::Result<()> {
+    print!(rt; "63 processes, flag 0: ")?;
+    write_full(rt, table_full(2, 63, 0))?;
+    print!(rt; "64 processes, flag 0: ")?;
+    write_full(rt, table_full(2, 64, 0))?;
+    print!(rt; "64 processes, flag 1: ")?;
+    write_full(rt, table_full(2, 64, 1))?;
+    print!(rt; "65 processes, flag 1: ")?;
+    write_full(rt, table_full(2, 65, 1))?;
+    print!(rt; "63 SFU processes, flag 0: ")?;
+    write_full(rt, table_full(3, 63, 0))?;
+    print!(rt; "64 SFU processes, flag 0: ")?;
+    write_full(rt, table_full(3, 64, 0))?;
+    print!(rt; "64 SFU processes, flag 1: ")?;
+    write_full(rt, table_full(3, 64, 1))?;
+    print!(rt; "65 SFU processes, flag 1: ")?;
+    write_full(rt, table_full(3, 65, 1))?;
+    print!(rt; "63 processes and one SFU process, flag 0: ")?;
+    write_full(rt, table_both(0))?;
+    print!(rt; "63 processes and one SFU process, flag 1: ")?;
+    write_full(rt, table_both(1))
 }
 
-fn write_sfu_tables() {
-    print(b"SFU process with PT 4: ");
-    write_table(table_sfu(4));
-    print(b"SFU process with PT 64: ");
-    write_table(table_sfu(64));
-    print(b"PT 3 in both queues: ");
-    write_table(table_sfu(3));
-    print(b"a process without a row: ");
-    write_table(table_unlisted(4));
-    print(b"an SFU process without a row: ");
-    write_table(table_unlisted(5));
-    print(b"a process of task 0: ");
-    write_table(table_unlisted(0));
-    print(b"an SFU process of task 0: ");
-    write_table(table_unlisted(1));
+fn write_sfu_tables(rt: &impl Print) -> io::Result<()> {
+    print!(rt; "SFU process with PT 4: ")?;
+    write_table(rt, table_sfu(4))?;
+    print!(rt; "SFU process with PT 64: ")?;
+    write_table(rt, table_sfu(64))?;
+    print!(rt; "PT 3 in both queues: ")?;
+    write_table(rt, table_sfu(3))?;
+    print!(rt; "a process without a row: ")?;
+    write_table(rt, table_unlisted(4))?;
+    print!(rt; "an SFU process without a row: ")?;
+    write_table(rt, table_unlisted(5))?;
+    print!(rt; "a process of task 0: ")?;
+    write_table(rt, table_unlisted(0))?;
+    print!(rt; "an SFU process of task 0: ")?;
+    write_table(rt, table_unlisted(1))
 }
 
 // ---- read
 
 fn read_into(
+    rt: &impl Print,
     image: &[u8],
     qualities: &mut [u8],
     constants: &mut [u64],
@@ -466,7 +487,7 @@ fn read_into(
     program: &mut [u64],
     data_tags: &mut [u8],
     data_words: &mut [u64],
-) {
+) -> io::Result<()> {
     let x = hep::read_owned(
         hep::no_rows(),
         hep::no_processes(),
@@ -479,34 +500,24 @@ fn read_into(
         data_words,
         image,
     );
-    let answer = x.answer;
-    match answer {
-        ReadAnswer::Refused(e) => print_refusal(e),
-        ReadAnswer::Read(n) => {
-            print(b"read ");
-            print_number(n.rows);
-            print(b" row");
-        }
+    match x.answer {
+        ReadAnswer::Refused(e) => print_refusal(rt, e)?,
+        ReadAnswer::Read(n) => print!(rt; "read {} row", n.rows)?,
     }
-    print(b", kept");
-    print_kept(marked(qualities));
-    print_kept(marked_words(constants));
-    print_kept(marked(tags));
-    print_kept(marked_words(words));
-    print_kept(marked_words(program));
-    print_kept(marked(data_tags));
-    print_kept(marked_words(data_words));
-    print(b"\n");
-}
-
-fn least(n: usize, most: usize) -> usize
-    ensures { result ≤ most }
-{
-    if n < most { n } else { most }
+    print!(rt; ", kept")?;
+    print_kept(rt, marked(qualities))?;
+    print_kept(rt, marked_words(constants))?;
+    print_kept(rt, marked(tags))?;
+    print_kept(rt, marked_words(words))?;
+    print_kept(rt, marked_words(program))?;
+    print_kept(rt, marked(data_tags))?;
+    print_kept(rt, marked_words(data_words))?;
+    println!(rt)
 }
 
 // Reads into buffers of so many places, of which there is one more than the image needs.
 fn read_trial(
+    rt: &impl Print,
     image: &[u8],
     qualities_room: usize,
     constants_room: usize,
@@ -515,7 +526,7 @@ fn read_trial(
     program_room: usize,
     data_tags_room: usize,
     data_words_room: usize,
-) {
+) -> io::Result<()> {
     let mut qualities = [MARK; 4];
     let mut constants = [WORD_MARK; 4];
     let mut tags = [MARK; 9];
@@ -523,14 +534,15 @@ fn read_trial(
     let mut program = [WORD_MARK; 17];
     let mut data_tags = [MARK; 33];
     let mut data_words = [WORD_MARK; 33];
-    let qualities_room = least(qualities_room, 4);
-    let constants_room = least(constants_room, 4);
-    let tags_room = least(tags_room, 9);
-    let words_room = least(words_room, 9);
-    let program_room = least(program_room, 17);
-    let data_tags_room = least(data_tags_room, 33);
-    let data_words_room = least(data_words_room, 33);
+    let qualities_room = qualities_room.min(4);
+    let constants_room = constants_room.min(4);
+    let tags_room = tags_room.min(9);
+    let words_room = words_room.min(9);
+    let program_room = program_room.min(17);
+    let data_tags_room = data_tags_room.min(33);
+    let data_words_room = data_words_room.min(33);
     read_into(
+        rt,
         image,
         &mut qualities[..qualities_room],
         &mut constants[..constants_room],
@@ -539,31 +551,31 @@ fn read_trial(
         &mut program[..program_room],
         &mut data_tags[..data_tags_room],
         &mut data_words[..data_words_room],
-    );
+    )
 }
 
-fn read_trials(image: &[u8]) {
-    print(b"read: ");
-    read_trial(image, 3, 3, 8, 8, 16, 32, 32);
-    print(b"read, all one longer: ");
-    read_trial(image, 4, 4, 9, 9, 17, 33, 33);
-    print(b"read, qualities short: ");
-    read_trial(image, 2, 3, 8, 8, 16, 32, 32);
-    print(b"read, constants short: ");
-    read_trial(image, 3, 2, 8, 8, 16, 32, 32);
-    print(b"read, tags short: ");
-    read_trial(image, 3, 3, 7, 8, 16, 32, 32);
-    print(b"read, words short: ");
-    read_trial(image, 3, 3, 8, 7, 16, 32, 32);
-    print(b"read, program short: ");
-    read_trial(image, 3, 3, 8, 8, 15, 32, 32);
-    print(b"read, data states short: ");
-    read_trial(image, 3, 3, 8, 8, 16, 31, 32);
-    print(b"read, data words short: ");
-    read_trial(image, 3, 3, 8, 8, 16, 32, 31);
+fn read_trials(rt: &impl Print, image: &[u8]) -> io::Result<()> {
+    print!(rt; "read: ")?;
+    read_trial(rt, image, 3, 3, 8, 8, 16, 32, 32)?;
+    print!(rt; "read, all one longer: ")?;
+    read_trial(rt, image, 4, 4, 9, 9, 17, 33, 33)?;
+    print!(rt; "read, qualities short: ")?;
+    read_trial(rt, image, 2, 3, 8, 8, 16, 32, 32)?;
+    print!(rt; "read, constants short: ")?;
+    read_trial(rt, image, 3, 2, 8, 8, 16, 32, 32)?;
+    print!(rt; "read, tags short: ")?;
+    read_trial(rt, image, 3, 3, 7, 8, 16, 32, 32)?;
+    print!(rt; "read, words short: ")?;
+    read_trial(rt, image, 3, 3, 8, 7, 16, 32, 32)?;
+    print!(rt; "read, program short: ")?;
+    read_trial(rt, image, 3, 3, 8, 8, 15, 32, 32)?;
+    print!(rt; "read, data states short: ")?;
+    read_trial(rt, image, 3, 3, 8, 8, 16, 31, 32)?;
+    print!(rt; "read, data words short: ")?;
+    read_trial(rt, image, 3, 3, 8, 8, 16, 32, 31)
 }
 
-fn read_state() {
+fn read_state(rt: &impl Print) -> io::Result<()> {
     let mut image = [0; 578];
     hep::write_owned(
         rows_from(trial_row()),
@@ -578,79 +590,50 @@ fn read_state() {
         &mut image,
         sizes(1),
     );
-    read_trials(&image);
+    read_trials(rt, &image)
 }
 
 // ---- run
 
-fn print_counts(c: Counts) {
-    print(b"E");
-    io::print_decimal(STDOUT_FILENO, c.executed as u64);
-    print(b" W");
-    io::print_decimal(STDOUT_FILENO, c.waved as u64);
-    print(b" T");
-    io::print_decimal(STDOUT_FILENO, c.trapped as u64);
-    print(b" I");
-    io::print_decimal(STDOUT_FILENO, c.idle as u64);
-    print(b" S");
-    io::print_decimal(STDOUT_FILENO, c.tries as u64);
+fn print_counts(rt: &impl Print, c: Counts) -> io::Result<()> {
+    print!(rt;
+        "E{} W{} T{} I{} S{}",
+        c.executed, c.waved, c.trapped, c.idle, c.tries
+    )
 }
 
-fn print_ran(c: Counts) {
-    print(b"ran ");
-    print_counts(c);
+fn print_ran(rt: &impl Print, c: Counts) -> io::Result<()> {
+    print!(rt; "ran ")?;
+    print_counts(rt, c)
 }
 
 fn none_counted(c: Counts) -> bool {
-    if c.executed != 0 {
-        return false;
-    }
-    if c.waved != 0 {
-        return false;
-    }
-    if c.trapped != 0 {
-        return false;
-    }
-    if c.idle != 0 {
-        return false;
-    }
-    c.tries == 0
+    c.executed == 0 && c.waved == 0 && c.trapped == 0 && c.idle == 0 && c.tries == 0
 }
 
-fn print_task(task: usize, c: Counts) {
+fn print_task(rt: &impl Print, task: usize, c: Counts) -> io::Result<()> {
     if none_counted(c) {
-        return;
+        return Ok(());
     }
-    print(b", task ");
-    print_number(task);
-    print(b" ");
-    print_counts(c);
+    print!(rt; ", task {task} ")?;
+    print_counts(rt, c)
 }
 
 // The own counts of each task number that has any, and how many have none.
-fn print_own(own: [Counts; TASK_NUMBERS]) {
+fn print_own(rt: &impl Print, own: [Counts; TASK_NUMBERS]) -> io::Result<()> {
     let mut without = 0;
-    let mut task = 0;
-    while task < TASK_NUMBERS {
-        print_task(task, own[task]);
+    for task in 0..TASK_NUMBERS {
+        print_task(rt, task, own[task])?;
         without += one_if(none_counted(own[task]));
-        task += 1;
     }
-    print(b", ");
-    print_number(without);
-    print(b" numbers without counts");
+    print!(rt; ", {without} numbers without counts")
 }
 
 // The kind of the first row, and how many processes task 1 has in its queue and in its SFU queue.
-fn print_left(rows: [Row; TASKS], table: ProcessTable) {
-    let row = rows[0];
-    print(b", kind ");
-    io::print_hex(STDOUT_FILENO, row.kind as u64, 2);
-    let users = table.users;
-    let queues = users.queues;
-    print(b", queues");
-    print_kept(queues[2].len);
-    print_kept(queues[3].len);
+fn print_left(rt: &impl Print, rows: [Row; TASKS], table: ProcessTable) -> io::Result<()> {
+    print!(rt; ", kind {:02x}, queues", rows[0].kind)?;
+    print_kept(rt, table.users.queues[2].len)?;
+    print_kept(rt, table.users.queues[3].len)
 }
 
 // No listed code: a step traps.
@@ -661,6 +644,7 @@ const LOAD: u64 = 0x6C04_0000_4000_0000;
 
 // Runs the state with these rows, table, register tags and states of the data words over a schedule; each program word is this one.
 fn run_state(
+    rt: &impl Print,
     rows: [Row; TASKS],
     n: usize,
     table: ProcessTable,
@@ -668,7 +652,7 @@ fn run_state(
     tags: &mut [u8],
     program: u64,
     data_state: u8,
-) {
+) -> io::Result<()> {
     let mut words = [WORD_MARK; 8];
     let mut data_words = [WORD_MARK; 32];
     let x = hep::run_owned(
@@ -684,25 +668,21 @@ fn run_state(
         schedule,
         sizes(n),
     );
-    let result = x.result;
-    let answer = result.answer;
-    match answer {
-        RunAnswer::Refused(e) => print_refusal(e),
-        RunAnswer::Counted(c) => print_ran(c),
+    match x.result.answer {
+        RunAnswer::Refused(e) => print_refusal(rt, e)?,
+        RunAnswer::Counted(c) => print_ran(rt, c)?,
     }
-    let own = result.own;
-    print_own(own);
-    let left = x.rows;
-    let at = left.at;
-    print_left(at, x.table);
-    print(b", kept");
-    print_kept(marked_words(&words));
-    print_kept(marked_words(&data_words));
-    print(b"\n");
+    print_own(rt, x.result.own)?;
+    print_left(rt, x.rows.at, x.table)?;
+    print!(rt; ", kept")?;
+    print_kept(rt, marked_words(&words))?;
+    print_kept(rt, marked_words(&data_words))?;
+    println!(rt)
 }
 
-fn run_over(schedule: &[u8], tags: &mut [u8]) {
+fn run_over(rt: &impl Print, schedule: &[u8], tags: &mut [u8]) -> io::Result<()> {
     run_state(
+        rt,
         rows_from(trial_row()),
         1,
         trial_table(),
@@ -710,31 +690,37 @@ fn run_over(schedule: &[u8], tags: &mut [u8]) {
         tags,
         UNLISTED,
         1,
-    );
+    )
 }
 
-fn run_trials() {
-    print(b"a list of 65,535: ");
-    run_over(&[1; 65535], &mut [1; 8]);
-    print(b"a list of 65,536: ");
-    run_over(&[1; 65536], &mut [1; 8]);
-    print(b"of 65,536 that are no tasks: ");
-    run_over(&[8; 65536], &mut [1; 8]);
-    print(b"no list: ");
-    run_over(&[1; 0], &mut [1; 8]);
-    print(b"items 1 and 7: ");
-    run_over(&[1, 7], &mut [1; 8]);
-    print(b"items 1 and 8: ");
-    run_over(&[1, 8], &mut [1; 8]);
-    print(b"items 1 and 0: ");
-    run_over(&[1, 0], &mut [1; 8]);
-    print(b"an unsound state, a list of 65,536: ");
-    run_over(&[1; 65536], &mut [7; 8]);
+fn run_trials(rt: &impl Print) -> io::Result<()> {
+    print!(rt; "a list of 65,535: ")?;
+    run_over(rt, &[1; 65535], &mut [1; 8])?;
+    print!(rt; "a list of 65,536: ")?;
+    run_over(rt, &[1; 65536], &mut [1; 8])?;
+    print!(rt; "of 65,536 that are no tasks: ")?;
+    run_over(rt, &[8; 65536], &mut [1; 8])?;
+    print!(rt; "no list: ")?;
+    run_over(rt, &[1; 0], &mut [1; 8])?;
+    print!(rt; "items 1 and 7: ")?;
+    run_over(rt, &[1, 7], &mut [1; 8])?;
+    print!(rt; "items 1 and 8: ")?;
+    run_over(rt, &[1, 8], &mut [1; 8])?;
+    print!(rt; "items 1 and 0: ")?;
+    run_over(rt, &[1, 0], &mut [1; 8])?;
+    print!(rt; "an unsound state, a list of 65,536: ")?;
+    run_over(rt, &[1; 65536], &mut [7; 8])
 }
 
 // Loads by task 1, whose processes have the PTs of this table, while data words are in this state.
-fn run_loads(table: ProcessTable, schedule: &[u8], data_state: u8) {
+fn run_loads(
+    rt: &impl Print,
+    table: ProcessTable,
+    schedule: &[u8],
+    data_state: u8,
+) -> io::Result<()> {
     run_state(
+        rt,
         rows_from(trial_row()),
         1,
         table,
@@ -742,26 +728,26 @@ fn run_loads(table: ProcessTable, schedule: &[u8], data_state: u8) {
         &mut [1; 8],
         LOAD,
         data_state,
-    );
+    )
 }
 
-fn try_trials() {
-    print(b"a load of an empty data word: ");
-    run_loads(trial_table(), &[1], 0);
-    print(b"and two items more: ");
-    run_loads(trial_table(), &[1, 1, 1], 0);
-    print(b"a try and a step of an empty data word: ");
-    run_loads(table_sfu(4), &[1], 0);
-    print(b"of a full one: ");
-    run_loads(table_sfu(4), &[1], 1);
-    print(b"and two items more: ");
-    run_loads(table_sfu(4), &[1, 1, 1], 1);
-    print(b"no try of task 2: ");
-    run_loads(table_sfu(4), &[2, 2], 1);
-    print(b"PT 3 in both queues: ");
-    run_loads(table_sfu(3), &[1], 1);
-    print(b"an SFU process without a row: ");
-    run_loads(table_unlisted(5), &[1], 1);
+fn try_trials(rt: &impl Print) -> io::Result<()> {
+    print!(rt; "a load of an empty data word: ")?;
+    run_loads(rt, trial_table(), &[1], 0)?;
+    print!(rt; "and two items more: ")?;
+    run_loads(rt, trial_table(), &[1, 1, 1], 0)?;
+    print!(rt; "a try and a step of an empty data word: ")?;
+    run_loads(rt, table_sfu(4), &[1], 0)?;
+    print!(rt; "of a full one: ")?;
+    run_loads(rt, table_sfu(4), &[1], 1)?;
+    print!(rt; "and two items more: ")?;
+    run_loads(rt, table_sfu(4), &[1, 1, 1], 1)?;
+    print!(rt; "no try of task 2: ")?;
+    run_loads(rt, table_sfu(4), &[2, 2], 1)?;
+    print!(rt; "PT 3 in both queues: ")?;
+    run_loads(rt, table_sfu(3), &[1], 1)?;
+    print!(rt; "an SFU process without a row: ")?;
+    run_loads(rt, table_unlisted(5), &[1], 1)
 }
 
 // ---- live counts: tasks 1 to 7 with two processes and an SFU process each; an image of 936 bytes
@@ -773,7 +759,7 @@ fn listed(task: u8) -> Row {
 }
 
 // Writes the state with these live counts and this total, and runs it.
-fn count_trial(live: [usize; NUMBERS], count: usize) {
+fn count_trial(rt: &impl Print, live: [usize; NUMBERS], count: usize) -> io::Result<()> {
     let rows = [
         listed(1),
         listed(2),
@@ -812,65 +798,58 @@ fn count_trial(live: [usize; NUMBERS], count: usize) {
         },
     };
     let mut out = [MARK; 936];
-    write_to(&mut out, rows, TASKS, table, &[2; 3], &[1; 8], &[1; 32]);
-    print(b"    run: ");
-    run_state(rows, TASKS, table, &[1, 7], &mut [1; 8], UNLISTED, 1);
+    write_to(rt, &mut out, rows, TASKS, table, &[2; 3], &[1; 8], &[1; 32])?;
+    print!(rt; "    run: ")?;
+    run_state(rt, rows, TASKS, table, &[1, 7], &mut [1; 8], UNLISTED, 1)
 }
 
 // The count of this task is n.
-fn miscount(task: usize, n: usize) {
+fn miscount(rt: &impl Print, task: usize, n: usize) -> io::Result<()> {
     let mut live = [0, 3, 3, 3, 3, 3, 3, 3];
     live[task % NUMBERS] = n;
-    print(b"count of task ");
-    print_number(task);
-    print(b" is ");
-    print_number(n);
-    print(b": ");
-    count_trial(live, 21);
+    print!(rt; "count of task {task} is {n}: ")?;
+    count_trial(rt, live, 21)
 }
 
-fn count_trials() {
-    print(b"counts of 3, total 21: ");
-    count_trial([0, 3, 3, 3, 3, 3, 3, 3], 21);
-    print(b"total 22: ");
-    count_trial([0, 3, 3, 3, 3, 3, 3, 3], 22);
-    print(b"total 20: ");
-    count_trial([0, 3, 3, 3, 3, 3, 3, 3], 20);
-    print(b"count of task 1 is 4, total 22: ");
-    count_trial([0, 4, 3, 3, 3, 3, 3, 3], 22);
-    miscount(0, 1);
-    miscount(1, 4);
-    miscount(1, 2);
-    miscount(2, 4);
-    miscount(2, 2);
-    miscount(3, 4);
-    miscount(3, 2);
-    miscount(4, 4);
-    miscount(4, 2);
-    miscount(5, 4);
-    miscount(5, 2);
-    miscount(6, 4);
-    miscount(6, 2);
-    miscount(7, 4);
-    miscount(7, 2);
+fn count_trials(rt: &impl Print) -> io::Result<()> {
+    print!(rt; "counts of 3, total 21: ")?;
+    count_trial(rt, [0, 3, 3, 3, 3, 3, 3, 3], 21)?;
+    print!(rt; "total 22: ")?;
+    count_trial(rt, [0, 3, 3, 3, 3, 3, 3, 3], 22)?;
+    print!(rt; "total 20: ")?;
+    count_trial(rt, [0, 3, 3, 3, 3, 3, 3, 3], 20)?;
+    print!(rt; "count of task 1 is 4, total 22: ")?;
+    count_trial(rt, [0, 4, 3, 3, 3, 3, 3, 3], 22)?;
+    miscount(rt, 0, 1)?;
+    miscount(rt, 1, 4)?;
+    miscount(rt, 1, 2)?;
+    miscount(rt, 2, 4)?;
+    miscount(rt, 2, 2)?;
+    miscount(rt, 3, 4)?;
+    miscount(rt, 3, 2)?;
+    miscount(rt, 4, 4)?;
+    miscount(rt, 4, 2)?;
+    miscount(rt, 5, 4)?;
+    miscount(rt, 5, 2)?;
+    miscount(rt, 6, 4)?;
+    miscount(rt, 6, 2)?;
+    miscount(rt, 7, 4)?;
+    miscount(rt, 7, 2)
 }
 
 // ---- step
 
-fn print_ending(e: Ending) {
+fn print_ending(rt: &impl Print, e: Ending) -> io::Result<()> {
     match e {
-        Ending::Executed => print(b"executed"),
-        Ending::Waved => print(b"waved"),
-        Ending::Trapped(_, psw) => {
-            print(b"trapped, PSW ");
-            io::print_hex(STDOUT_FILENO, psw, 1);
-        }
-        Ending::Idle => print(b"idle"),
+        Ending::Executed => print!(rt; "executed"),
+        Ending::Waved => print!(rt; "waved"),
+        Ending::Trapped(_, psw) => print!(rt; "trapped, PSW {psw:x}"),
+        Ending::Idle => print!(rt; "idle"),
     }
 }
 
 // One step of a task on the state with these register tags.
-fn step_of(task: u8, tags: &mut [u8]) {
+fn step_of(rt: &impl Print, task: u8, tags: &mut [u8]) -> io::Result<()> {
     let x = hep::step_owned(
         rows_from(trial_row()),
         trial_table(),
@@ -884,37 +863,36 @@ fn step_of(task: u8, tags: &mut [u8]) {
         sizes(1),
         task,
     );
-    let answer = x.answer;
-    match answer {
-        StepAnswer::Refused(e) => print_refusal(e),
-        StepAnswer::Stepped(e) => print_ending(e),
+    match x.answer {
+        StepAnswer::Refused(e) => print_refusal(rt, e)?,
+        StepAnswer::Stepped(e) => print_ending(rt, e)?,
     }
-    print(b"\n");
+    println!(rt)
 }
 
-fn step_trials() {
-    print(b"a step of task 1: ");
-    step_of(1, &mut [1; 8]);
-    print(b"of task 7, which is unlisted: ");
-    step_of(7, &mut [1; 8]);
-    print(b"of task 0: ");
-    step_of(0, &mut [1; 8]);
-    print(b"of task 8: ");
-    step_of(8, &mut [1; 8]);
-    print(b"of task 8, on an unsound state: ");
-    step_of(8, &mut [7; 8]);
+fn step_trials(rt: &impl Print) -> io::Result<()> {
+    print!(rt; "a step of task 1: ")?;
+    step_of(rt, 1, &mut [1; 8])?;
+    print!(rt; "of task 7, which is unlisted: ")?;
+    step_of(rt, 7, &mut [1; 8])?;
+    print!(rt; "of task 0: ")?;
+    step_of(rt, 0, &mut [1; 8])?;
+    print!(rt; "of task 8: ")?;
+    step_of(rt, 8, &mut [1; 8])?;
+    print!(rt; "of task 8, on an unsound state: ")?;
+    step_of(rt, 8, &mut [7; 8])
 }
 
-fn main() {
-    write_bounds();
-    write_memories();
-    write_rows();
-    write_tables();
-    write_full_tables();
-    write_sfu_tables();
-    read_state();
-    run_trials();
-    try_trials();
-    count_trials();
-    step_trials();
+fn main(rt: HostRuntime) -> io::Result<()> {
+    write_bounds(&rt)?;
+    write_memories(&rt)?;
+    write_rows(&rt)?;
+    write_tables(&rt)?;
+    write_full_tables(&rt)?;
+    write_sfu_tables(&rt)?;
+    read_state(&rt)?;
+    run_trials(&rt)?;
+    try_trials(&rt)?;
+    count_trials(&rt)?;
+    step_trials(&rt)
 }
