@@ -3,14 +3,14 @@
 # meaning in words, and a picture.
 # The reports must be those of examples/, and house one's table, taken from the image after the run, the same beside both neighbours.
 #
-#     bash examples/run.sh                by programs that are built without proof, in half a minute
+#     bash examples/run.sh                by programs that are built without proof, in a minute or two
 #     bash examples/run.sh --proved       by the proved programs; proves first what isn't
 set -euo pipefail
 cd "$(dirname "$0")/.."
 build_unproved() {
     bash tools/needs.sh
-    echo "Building the batch program, the library and the program hep without proof: about 15 s of processor, 0.4 GB of memory."
-    python3 tools/native.py hep_batch --stdin crates/hep_batch/stdin
+    echo "Building the batch program, the library and the program hep without proof: about a minute of processor, 1 GB of memory."
+    python3 tools/native.py hep_batch
     python3 tools/native.py hep_c
     HEP_LIB_DIR=$PWD/target/native CARGO_PROFILE_DEV_OPT_LEVEL=0 cargo build --quiet --offline --manifest-path hep-cli/Cargo.toml --target-dir target/native/cargo
     batch=target/native/hep_batch hep=target/native/cargo/debug/hep

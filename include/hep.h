@@ -1,7 +1,7 @@
 /*
  * The emulator of a HEP process execution module, from whole images to whole images.
  *
- * Each function below is proved to do what is said at it (crates/hep_c; link target/staticlib/libhep_c.a, which `rt staticlib hep_c`
+ * Each function below is proved to do what is said at it (crates/hep_c; link target/staticlib/libhep_c.a, which tools/archive.sh
  * writes). None keeps anything between calls or allocates. The archive wants memcpy, memmove and memset of the program that it is linked to.
  *
  * A slice is lent as its address and its length, in elements. The proof takes for granted, and so the caller sees to it, that

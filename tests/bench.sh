@@ -17,8 +17,10 @@ check_inlined() {
         if grep -q " $function\(\.\|$\)" <<< "$symbols"; then echo "bench: $function is not inlined"; exit 1; fi
     done
 }
+mkdir -p target/staticlib
 for crate in hep_c benchmark; do
-    rt staticlib "$crate" > target/staticlib.log 2>&1 || { cat target/staticlib.log; exit 1; }
+    (cd "crates/$crate" && rt lib) > target/staticlib.log 2>&1 || { cat target/staticlib.log; exit 1; }
+    cp "crates/$crate/out/lib$crate.a" target/staticlib
 done
 check_inlined target/staticlib/libhep_c.a
 python3 tools/native.py hep_c > target/native.log 2>&1 || { cat target/native.log; exit 1; }
@@ -26,7 +28,7 @@ python3 tools/native.py hep_c > target/native.log 2>&1 || { cat target/native.lo
 units=$(python3 tools/inline.py --left target/native/libhep_c.ll $inlined)
 cargo build --quiet --release --offline --manifest-path hep-trials/Cargo.toml --bin hep-bench
 measured() {
-    echo "$(date +%F), commit $(git rev-parse --short HEAD), $(lscpu | sed -n 's/^Model name: *//p'), $(nproc) processors, load $(cut -d ' ' -f 1-2 /proc/loadavg) (1 and 5 minutes)."
+    echo "$(date +%F), commit $(git rev-parse --short HEAD), $(lscpu | sed -n 's/^Model name: *//p'), $(nproc) processors, kit $(rt version | cut -d ' ' -f 1), load $(cut -d ' ' -f 1-2 /proc/loadavg) (1 and 5 minutes)."
     echo
     hep-trials/target/release/hep-bench
     echo

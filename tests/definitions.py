@@ -17,7 +17,7 @@ def main():
     by_definition.prepare()
     inputs = by_definition.lines_of("hep-generate", "--small", str(seed), str(count))
     if failed := by_definition.refused("definitions", by_definition.proposed(inputs)):
-        sys.exit(f"definitions and emulator differ on seed {seed}: {' '.join(failed)} (target/definitions/target/log/vectors.out)")
+        sys.exit(f"definitions and emulator differ on seed {seed}: {' '.join(failed)} (target/log/definitions.out)")
     print(f"definitions and emulator agree on {count} random inputs of seed {seed}")
 
 

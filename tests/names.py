@@ -5,12 +5,12 @@
 
 What counts as a name, in the text of a paragraph or of a table's cell:
 - a definition or statement: `crate / File . name, name`, `crate/File.name`, `crate/File: name, name`, `crate File.name`; behind it more names
-  of that file, or `File.name` of that crate. The file stands in the crate's specs/ or specs/Laws;
+  of that file, or `File.name` of that crate. The file stands in the crate's specs/ or proofs/, in Laws or Code there, or beside them;
 - a function or a type: a crate, then names in backquotes, such as  word `psw`, `next`;
 - a must-fail edit: `crate/name`, and all that stands behind M in a table;
 - a trial: what stands behind T in a table;
 - a crate: the first column of a table headed Crate;
-- a file: a path below the root or the document's folder, or a name that ends as files here do. What is built (target/) is passed over;
+- a file: a path below the root or the document's folder, or a name that ends as files here do. What is built (target/, out/) is passed over;
 - any other word in backquotes that has the shape of an identifier: it must be defined somewhere in the tree.
 """
 import pathlib
@@ -22,8 +22,10 @@ DOCUMENTS = ["README.md", "CONTRIBUTING.md", "hep-tools/FORMAT.md", "examples/RE
 KEYWORDS = {"requires", "ensures"}
 FOREIGN = {"main.c", "stdio.h", "first.hep"}         # files of whoever calls the library
 SUFFIXES = ("py", "sh", "rs", "hep", "out", "table", "h", "c", "md", "rt", "antt", "trials", "toml", "txt", "edit")
-NAME = r"[A-Za-z][\w′]*(?:-[\w′]+)*"
+NAME = r"[A-Za-z][\w']*(?:-[\w']+)*"
 DEFINED = re.compile(rf"^\s*(?:(?:unfoldable|abbrev|opaque|pub|data|record)\s+)*({NAME}(?:\s+{NAME})*)\s*[:({{]", re.M)
+PROOFS = ("Answers.antt", "Invariants.antt")
+BUILT = {"target", "out", ".git", "__pycache__"}
 OTHERS = re.compile(r"\b(?:fn|struct|enum|trait|type|const|mod|def)\s+(\w+)|^\s+([A-Z]\w+)\s*[,({=]|#define (\w+)|\bpub (\w+):", re.M)
 
 
@@ -35,11 +37,13 @@ class Tree:
     """What the repository has."""
 
     def __init__(self):
-        self.crates = set(re.findall(r"^(\w+):", read(ROOT / "crates.txt"), flags=re.M))
+        self.crates = set(re.findall(r"^(\w+)(?: [^:#\n]*)?:", read(ROOT / "crates.txt"), flags=re.M))
         self.specs, self.functions, self.edits = {}, {}, set()
-        for path in ROOT.glob("crates/*/specs/**/*.antt"):
-            crate = path.relative_to(ROOT).parts[1]
-            file = str(path.relative_to(ROOT / "crates" / crate / "specs").with_suffix(""))
+        for path in [*ROOT.glob("crates/*/specs/**/*.antt"), *ROOT.glob("crates/*/proofs/**/*.antt")]:
+            crate, part = path.relative_to(ROOT).parts[1:3]
+            file = str(path.relative_to(ROOT / "crates" / crate / part).with_suffix(""))
+            if part == "proofs" and "/" in file and path.name in PROOFS:
+                continue
             names = {name for line in DEFINED.findall(read(path)) for name in line.split()}
             for key in {file, file.removeprefix("Laws/"), file.removeprefix("Code/")}:
                 self.specs.setdefault((crate, key), set()).update(names)
@@ -47,7 +51,7 @@ class Tree:
             self.functions.setdefault(path.parts[-3], set()).update(re.findall(r"\b(?:fn|struct|enum|const) (\w+)", read(path)))
         for path in ROOT.glob("crates/*/must-fail/*.edit"):
             self.edits.add((path.parts[-3], path.stem))
-        self.files = [p for p in ROOT.rglob("*") if "target" not in p.parts and ".git" not in p.parts]
+        self.files = list(self.files_below(ROOT))
         self.words = KEYWORDS.union(self.crates, *self.specs.values(), *self.functions.values(), {name for _, name in self.edits})
         for path in self.files:
             self.words.add(path.stem)
@@ -55,6 +59,13 @@ class Tree:
                 self.words.update(name for found in OTHERS.findall(read(path)) for name in found if name)
         for path in ROOT.glob("hep-cli/src/**/*.rs"):
             self.words.update(re.findall(r"[\w-]+", read(path)))
+
+    def files_below(self, folder):
+        for path in sorted(folder.iterdir()):
+            if path.name not in BUILT:
+                yield path
+                if path.is_dir() and not path.is_symlink():
+                    yield from self.files_below(path)
 
     def has_path(self, text, folder):
         text = text.rstrip("/.")
@@ -77,10 +88,10 @@ class Document:
     def definitions(self, line, text):
         """Each reference to a file of definitions, and the list behind it."""
         tree = self.tree
-        head = rf"(?<![\w/.-])([a-z]\w*)(?: ?/ ?|(?= [A-Z]\w*\.[a-z])\s)((?:Laws/|Code/)?[A-Z]\w*)(?![\w/])"
+        head = rf"(?<![\w/.-])([a-z]\w*)(?: ?/ ?|(?= [A-Z]\w*\.[a-z])\s)((?:Laws/|Code/)?[A-Z]\w*)(?![\w/]|\.antt)"
         for match in re.finditer(head, text):
             crate, file = match.groups()
-            if crate == "specs" or ROOT.joinpath(crate).exists():
+            if crate in ("specs", "proofs") or ROOT.joinpath(crate).exists():
                 continue
             self.look(line, f"{crate}/{file}", (crate, file) in tree.specs)
             rest = re.sub(r"\([^()]*\)", "", text[match.end():])
@@ -129,7 +140,7 @@ class Document:
     def paths(self, line, text):
         for token in re.findall(r"(?<![\w/.·-])[\w.*-]+(?:/[\w.*-]+)*/?", text):
             token, first = token.rstrip(".,"), token.split("/")[0]
-            if token in FOREIGN or re.match(r"(.*/)?target/", token):
+            if token in FOREIGN or re.match(r"(.*/)?(target|out)/", token):
                 continue
             named = re.fullmatch(r"[a-z][\w-]*\.(?:%s)" % "|".join(SUFFIXES), token)
             if named or ("/" in token and ROOT.joinpath(first).exists()):
@@ -143,7 +154,7 @@ class Document:
                 self.look(line, f"`{name}`", name in self.tree.words)
 
     def listed_files(self, line, text):
-        for crate, files in re.findall(r"`crates/(\w+)/specs`\s*\(([A-Z][\w,\s]*)\)", text):
+        for crate, files in re.findall(r"`crates/(\w+)/(?:specs|proofs)`\s*\(([A-Z][\w,\s]*)\)", text):
             for file in re.split(r",\s*", files):
                 self.look(line, f"{crate}/{file}", (crate, file) in self.tree.specs)
 

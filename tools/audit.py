@@ -2,8 +2,8 @@
 """One page for whoever must rely on the proofs: what was proved and with what, what is assumed, what was built, the contracts of the delivered calls,
 the definitions that these rest on in reading order, and apart from them what is checked and need not be believed. From the repository's root.
 
-    python3 tools/audit.py              proves what isn't (nothing, after .ci/run), then writes target/audit/audit.html and audit.md
-    python3 tools/audit.py --as-is      the same from the logs as they are
+    python3 tools/audit.py              runs `rt ci`, then writes target/audit/audit.html and audit.md
+    python3 tools/audit.py --as-is      the same from the log of the last `rt ci` as it is (target/log/gate.txt)
 
 What a definition rests on is told by the names in its text (tools/closure.py); tools/believed.py has the checker accept what is found alone.
 """
@@ -17,6 +17,7 @@ import subprocess
 import sys
 
 import closure
+import progress
 import version
 
 OUT = "target/audit"
@@ -90,7 +91,7 @@ class Page:
         links = {word: self.link(found) for word, found in self.specs.words(item)}
         code = "\n".join([*item.parameters, *item.says()])
         link = lambda m: f'<a href="{links[m.group()]}">{m.group()}</a>' if m.group() in links else m.group()
-        linked = re.sub(r"[\w′·-]+", link, html.escape(code, quote=False))
+        linked = re.sub(r"[\w'-]+", link, html.escape(code, quote=False))
         self.html.append(f'<p class="item" id="{anchor(item)}">{self.inline(said)}</p><pre>{linked}</pre>')
 
     def write(self, title):
@@ -105,15 +106,35 @@ def source(item):
     return f"../../{item.path}#L{item.line}"
 
 
+def gate_lines():
+    return open(progress.KEPT).read().splitlines() if os.path.exists(progress.KEPT) else []
+
+
+def changed(*parts):
+    """When a file of a crate that a proof or an edit reads was last changed; all crates' where none is named."""
+    paths = [path for part in ("src", "specs", "proofs", "must-fail") for path in glob.glob(f"crates/{parts[0] if parts else '*'}/{part}/**/*", recursive=True)]
+    return max(map(os.path.getmtime, paths), default=0)
+
+
+def fresh(path, *parts):
+    return os.path.exists(path) and os.path.getmtime(path) > changed(*parts)
+
+
+def told(pattern):
+    """The crates of which the last `rt ci` said this, if nothing has changed since."""
+    return {found.group(1) for line in gate_lines() if (found := pattern.match(line))} if fresh(progress.KEPT) else set()
+
+
 def logs(crates):
-    """What each crate's last proof said: its words, and the axioms that it reached. The report of a proof ends in .say; .out of a crate that was
-    not proved again has nothing of it."""
+    """Of each crate whether the last `rt ci` proved it or kept it from an earlier run, then what the last report of its proof said: its words, and the
+    axioms that it reached. There is no report of a crate that was kept and never proved here."""
+    proved, kept = told(progress.PROVED), told(progress.GIVEN)
     for crate in crates:
-        path = f"target/log/{crate}.say"
-        text = open(path).read() if os.path.exists(path) else ""
-        proved = re.search(r"^logic=proved (.*)$", text, flags=re.M)
+        path = progress.SAID.format(crate)
+        text = open(path).read() if fresh(path, crate) else ""
+        words = re.search(r"^logic=proved (.*)$", text, flags=re.M)
         axioms = [name for names in re.findall(r"^axioms \w+: (.*?) \(", text, flags=re.M) for name in names.split(", ")]
-        yield crate, dict(word.split("=") for word in proved.group(1).split()) if proved else {}, axioms
+        yield crate, crate in proved | kept, dict(word.split("=", 1) for word in words.group(1).split()) if words else {}, axioms
 
 
 def public_functions(crates):
@@ -124,13 +145,11 @@ def public_functions(crates):
 
 
 def edits():
-    """All edits, those that were refused since the last change below crates/, and the others."""
-    changed = max(os.path.getmtime(path) for path in glob.glob("crates/**/*", recursive=True))
+    """All edits, those that the last `rt ci` refused since the last change below crates/, and the others."""
+    refused = {f"{found.group(1)}/{found.group(2)}" for line in gate_lines() if (found := progress.REFUSED.match(line))} if fresh(progress.KEPT) else set()
     for path in sorted(glob.glob("crates/*/must-fail/*.edit")):
         name = f"{path.split('/')[1]}/{os.path.basename(path)[:-5]}"
-        told = f"target/must-fail/{name}.res"
-        fresh = os.path.exists(told) and os.path.getmtime(told) > changed
-        yield name, open(told).read().strip() if fresh else "not tried"
+        yield name, "refused" if name in refused else "not refused"
 
 
 def built(path):
@@ -153,17 +172,18 @@ def edits_told():
 
 
 def summary(page, specs):
-    told = list(logs(specs.crates))
-    unproved = [crate for crate, words, _ in told if not words]
-    axioms = [f"{crate}: {', '.join(f'`{name}`' for name in names)}" for crate, _, names in told if names]
+    found = list(logs(specs.crates))
+    unproved = [crate for crate, proved, _, _ in found if not proved]
+    axioms = [f"{crate}: {', '.join(f'`{name}`' for name in names)}" for crate, _, _, names in found if names]
+    reported = [(crate, words) for crate, proved, words, _ in found if proved and words]
     count, asking = public_functions(specs.crates)
     apart = ("functions", "axioms", "target")
-    words = collections.Counter(f"{key}={value}" for _, words, _ in told for key, value in words.items() if key not in apart)
+    words = collections.Counter(f"{key}={value}" for _, words in reported for key, value in words.items() if key not in apart)
     page.table(("What", "Found"), [
         ("version", f"{version.VERSION}, with the requests L1 to L{version.last_in_a_row()} of document 02; {commit()}"),
         ("kit", f"`{run('rt', 'version')}`"),
-        ("crates proved", f"{len(told) - len(unproved)} of {len(told)}" + (f"; not: {', '.join(unproved)}" if unproved else "")),
-        ("functions proved", str(sum(int(words.get("functions", 0)) for _, words, _ in told))),
+        ("crates proved", f"{len(found) - len(unproved)} of {len(found)}" + (f"; not: {', '.join(unproved)}" if unproved else "")),
+        ("functions proved", f"{sum(int(words.get('functions', 0)) for _, words in reported)}, in the {len(reported)} crates whose last report is here"),
         ("words of the proved lines", ", ".join(f"`{word}` {n} times" for word, n in words.items()) + " (docs/TRUST.md, the toolchain)"),
         ("axioms, by the crates that reach one", "; ".join(axioms) or "none"),
         ("public functions with a `requires`", f"{len(asking)} of {count}" + "".join(f", {name}" for name in asking)),
@@ -182,7 +202,8 @@ def roots(specs):
 def contracts(page, specs):
     page.heading(2, "Contracts of the delivered calls, and demand 3")
     page.paragraph(
-        "The program hep_batch has no contract of its own: its `main` reads standard input, calls batch `batch` and writes what that answers. "
+        "The program hep_batch hands standard input and output to its function `answer`, whose contract is over any reader and writer: it reads, calls "
+        "batch `batch` and writes what that answers. "
         "A contract's names lead to their definitions below."
     )
     rows = [(f"[{item.crate} `{item.name}`](#{anchor(item)})", *map(str, lines_below(specs, item))) for _, items in roots(specs) for item in items]
@@ -211,21 +232,16 @@ def definitions(page, specs, below):
     for item in below:
         if at != (item.crate, item.path):
             at = item.crate, item.path
-            page.heading(3, f"{item.crate} / {item.module if item.module != 'src' else 'types and constants of the source'}")
+            page.heading(3, f"{item.crate} / {closure.shown(item.module) if item.module != 'src' else 'types and constants of the source'}")
         page.item(item, f" ({', '.join(name for name, keys in marks.items() if item.key in keys)})")
     page.heading(3, "Names of the kit's libraries")
     kit = [f"{module}: {', '.join(f'`{name}`' for name in sorted(names))}" for module, names in sorted(specs.known_names(below).items()) if names]
     page.paragraph(f"The definitions also use these, of the kit (`rt doc` leads to its guides): {'; '.join(kit)}.")
 
 
-def statements(specs):
-    """All statements outside Laws and Code."""
-    return [item for file in specs.files.values() if "/" not in file.module for item in file.items.values() if item.kind == "statement"]
-
-
 def stated(specs, believed):
     """The statements about any values and the definitions that only they name, in reading order."""
-    general = [item for item in statements(specs) if item.general()]
+    general = [item for item in specs.statements() if item.general()]
     known = {item.key for item in [*believed, *specs.delivered()]}
     return sorted({item.key: item for item in [*general, *specs.below(general)] if item.key not in known}.values(), key=specs.place)
 
@@ -240,7 +256,7 @@ def checked(page, specs, believed):
         page.item(item)
     page.heading(2, "Checked: trials and examples")
     page.paragraph("Each computes by the definitions, and the checker has computed it.")
-    examples = sorted((item for item in statements(specs) if not item.general()), key=specs.place)
+    examples = sorted((item for item in specs.statements() if not item.general()), key=specs.place)
     page.table(("Trial", "Where"), [(f"[`{item.name}`]({source(item)})", f"{item.path}:{item.line}") for item in examples])
 
 
@@ -248,8 +264,8 @@ def main():
     if sys.argv[1:] not in ([], ["--as-is"]):
         sys.exit(__doc__)
     if not sys.argv[1:]:
-        print(f"Proving what isn't. {run(sys.executable, 'tools/progress.py', '--forecast')}", flush=True)
-        checked_now = subprocess.run("set -o pipefail; rt check 2>&1 | python3 tools/progress.py", shell=True, executable="/bin/bash")
+        print(f"Running rt ci: what it passed before on this machine is kept. {run(sys.executable, 'tools/progress.py', '--forecast')}", flush=True)
+        checked_now = subprocess.run("set -o pipefail; rt ci | python3 tools/progress.py --gate", shell=True, executable="/bin/bash")
         if checked_now.returncode:
             sys.exit("audit: not everything is proved")
     specs = closure.Specs()

@@ -4,41 +4,43 @@
     python3 tools/by_definition.py [--image OUT] FILE       FILE is text (hep-tools/FORMAT.md), hex digits or bytes; OUT takes the image
 
 No program of the product runs for it. The emulator of hep-tools proposes the bytes of both; the prover works out the definitions on the input
-(report / Report . outputOf, run / Run . run, image / Image . encode), in a repository of its own below target/, over the crates as they are
-proved, and accepts the bytes or refuses them: exit 1 if the definitions say otherwise. The crate report is proved first, if it isn't.
+(report / Report . output_of, run / Run . run, image / Image . encode), in a repository of its own among the temporary files, over the crates as they
+are proved, and accepts the bytes or refuses them: exit 1 if the definitions say otherwise. The crate report is proved first, if it isn't.
 """
 import argparse
 import hashlib
+import os
 import pathlib
 import re
 import shutil
 import subprocess
 import sys
+import tempfile
+
+import over_ci
 
 ROOT = pathlib.Path(__file__).resolve().parent.parent
 TOOLS = ROOT / "hep-tools"
 
 HEADER = """-- Made by tools/by_definition.py.
-use mathlib.Core.Path.{_≡_, refl}
-use mathlib.Core.List.{List, [], _∷_}
-use Prim.Native.Nat.{ℕ}
-use Rattle·run.specs.Run.{run}
-use Rattle·image.specs.Codec.{Codec, Result, refused, accepted}
-use Rattle·image.specs.Image.{Decoded, bad, good, decode, stateOf, encode}
-use Rattle·report.specs.Report.{scheduleCodec, outputOf}
-use Rattle·report.specs.Laws.Opened.{opened}
+use Rattle.std.specs.Prelude.{◌≡◌, refl, ℕ, List, [], ◌∷◌}
+use Rattle.run.specs.Run.{run}
+use Rattle.image.specs.Codec.{Codec, Result, refused, accepted}
+use Rattle.image.specs.Image.{Decoded, bad, good, decode, state_of, encode}
+use Rattle.report.specs.Report.{schedule_codec, output_of}
+use Rattle.report.proofs.Laws.Opened.{opened}
 
 -- the image that is written after the run
 written : (schedule : List ℕ) → Decoded → List ℕ
 written schedule (bad e) = []
-written schedule (good i) = encode (run schedule (stateOf i) .state)
+written schedule (good i) = encode (run schedule (state_of i)).state
 
 scheduled : Result (List ℕ) → List ℕ
 scheduled (refused e) = []
 scheduled (accepted schedule image) = written schedule (decode image)
 
-imageAfter : List ℕ → List ℕ
-imageAfter input = scheduled (scheduleCodec .dec input)
+image_after : List ℕ → List ℕ
+image_after input = scheduled (schedule_codec.dec input)
 """
 
 
@@ -61,62 +63,65 @@ def byte_list(data):
 
 
 def statements(number, data, output, image):
-    text = f"\ninput-{number} : List ℕ\ninput-{number} = {byte_list(data)}\n"
-    text += f"\noutput-{number} : outputOf input-{number} ≡ {byte_list(output)}\n"
-    text += f"unfolding opened input-{number}\noutput-{number} = refl\n"
+    text = f"\ninput_{number} : List ℕ\ninput_{number} = {byte_list(data)}\n"
+    text += f"\noutput_{number} : output_of input_{number} ≡ {byte_list(output)}\n"
+    text += f"unfolding opened input_{number}\noutput_{number} = refl\n"
     if image is not None:
-        text += f"\nimage-{number} : imageAfter input-{number} ≡ {byte_list(image)}\n"
-        text += f"unfolding opened input-{number} imageAfter scheduled written\nimage-{number} = refl\n"
+        text += f"\nimage_{number} : image_after input_{number} ≡ {byte_list(image)}\n"
+        text += f"unfolding opened input_{number} image_after scheduled written\nimage_{number} = refl\n"
     return text
 
 
-def rt_check(name, folder):
-    return subprocess.run(["rt", "check", name], cwd=folder, capture_output=True, text=True)
-
-
-def lower_crates():
-    """The lines of crates.txt for the crate report and those below it, by name: the definitions stand there."""
-    lines = {line.split(":")[0]: line for line in (ROOT / "crates.txt").read_text().splitlines()}
-    return {name: lines[name] for name in lines["report"].replace(":", "").split()}
+def linked(one, other):
+    """A library's file under a second name; a source is copied, since a link would touch it."""
+    try:
+        os.link(one, other)
+    except OSError:
+        shutil.copyfile(one, other)
 
 
 def make_repository(copy, vectors):
-    """The lower crates as they are proved, and above them the crate vectors."""
-    shutil.rmtree(copy, ignore_errors=True)
-    lines = lower_crates()
-    for folder in ("crates/vectors/src", "crates/vectors/specs", "target/rlib", "target/stamp"):
-        (copy / folder).mkdir(parents=True)
-    for name in lines:
-        (copy / "crates" / name).symlink_to(ROOT / "crates" / name)
-        shutil.copytree(ROOT / "target" / "rlib" / f"{name}.rlib", copy / "target" / "rlib" / f"{name}.rlib")
-        shutil.copy(ROOT / "target" / "stamp" / name, copy / "target" / "stamp" / name)
-    (copy / "crates.txt").write_text("\n".join([*lines.values(), "vectors: " + " ".join(lines)]) + "\n")
+    """The libraries below as they are proved, and above them the crate vectors; gives that crate."""
+    report = over_ci.crate_of(ROOT, "report")
+    lower = [*report.below(), report]
+    for crate in lower:
+        for part in ("src", "specs", "proofs", "out/rlib"):
+            if os.path.isdir(f"{crate.folder}/{part}"):
+                how = linked if part == "out/rlib" else shutil.copyfile
+                shutil.copytree(f"{crate.folder}/{part}", copy / "crates" / crate.name / part, copy_function=how)
+    lines = [f"{crate.name}: {' '.join([*(dep.name for dep in crate.deps), *crate.of_kit[1:]])}" for crate in lower]
+    (copy / "crates.txt").write_text("\n".join([*lines, "vectors: " + " ".join(crate.name for crate in lower)]) + "\n")
     crate = copy / "crates" / "vectors"
-    (crate / "src" / "lib.rt").write_text("// No code.\n")
-    (crate / "specs" / "Lib.antt").write_text("pub mod Vectors\n")
-    (crate / "specs" / "Vectors.antt").write_text(vectors)
+    for part in ("src", "proofs"):
+        (crate / part).mkdir(parents=True)
+    (crate / "src" / "lib.rt").write_text("// No code.\n#![tactic(auto)]\n")
+    (crate / "proofs" / "Lib.antt").write_text("pub mod Vectors\n")
+    (crate / "proofs" / "Vectors.antt").write_text(vectors)
+    return over_ci.crate_of(copy, "vectors")
 
 
 def prepare():
-    """The crate report proved, and hep-tools built."""
-    if not (ROOT / "target/stamp/report").exists():
+    """The crate report proved, as `rt ci` or else `rt lib` leaves it, and hep-tools built."""
+    report = over_ci.crate_of(ROOT, "report")
+    if not over_ci.passed(ROOT) or not over_ci.left([*report.below(), report]):
         forecast = subprocess.run([sys.executable, "tools/progress.py", "--forecast", "report"], cwd=ROOT, capture_output=True, text=True, check=True)
-        print("Proving the crate report and what it rests on first.", forecast.stdout.strip(), file=sys.stderr)
-    below = rt_check("report", ROOT)
-    if below.returncode:
-        sys.exit(below.stdout + below.stderr)
+        print("The crate report and what it rests on come first.", forecast.stdout.strip(), file=sys.stderr)
+        below = subprocess.run(["rt", "lib"], cwd=report.folder, capture_output=True, text=True)
+        if below.returncode:
+            sys.exit(below.stdout + below.stderr)
     subprocess.run(["cargo", "build", "--quiet", "--release", "--offline", "--manifest-path", TOOLS / "Cargo.toml"], check=True)
 
 
 def refused(name, answers):
-    """The statements of these answers that the prover refuses, by name; it works in the repository target/NAME."""
-    copy = ROOT / "target" / name
-    make_repository(copy, HEADER + "".join(statements(number, *answer) for number, answer in enumerate(answers)))
-    done = rt_check("vectors", copy)
-    said = done.stdout + done.stderr
-    failed = sorted(set(re.findall(r"error: `((?:output|image)-\d+)`", said)))
-    if done.returncode and not failed:
-        sys.exit("\n".join(said.splitlines()[-20:]))
+    """The statements of these answers that the prover refuses, by name; what it says goes to target/log/NAME.out."""
+    with tempfile.TemporaryDirectory(prefix=f"{name}-") as folder:
+        crate = make_repository(pathlib.Path(folder), HEADER + "".join(statements(number, *answer) for number, answer in enumerate(answers)))
+        done = over_ci.rattle("check", crate)
+    (ROOT / "target" / "log").mkdir(parents=True, exist_ok=True)
+    (ROOT / "target" / "log" / f"{name}.out").write_text(done.stdout)
+    failed = sorted(set(re.findall(r"error: `((?:output|image)_\d+)`", done.stdout)))
+    if not done.returncode and not re.search(r"^logic=proved ", done.stdout, flags=re.M) or done.returncode and not failed:
+        sys.exit("\n".join(done.stdout.splitlines()[-20:]))
     return failed
 
 
@@ -149,7 +154,7 @@ def main():
     prepare()
     data, output, image = next(proposed([bytes_of(asked.file).hex()]))
     if failed := refused("by_definition", [(data, output, image)]):
-        sys.exit(f"by_definition: the definitions say otherwise than the emulator of hep-tools: {' '.join(failed)} (target/by_definition/target/log/vectors.out)")
+        sys.exit(f"by_definition: the definitions say otherwise than the emulator of hep-tools: {' '.join(failed)} (target/log/by_definition.out)")
     print(output.decode(), end="")
     if image is None:
         print("refused: there is no image after it", file=sys.stderr)

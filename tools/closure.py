@@ -16,9 +16,13 @@ import sys
 
 DELIVERED = ("hep", "batch", "filling_search", "hep_c")
 # The statements of demand 3: of runs, and of the calls.
-DEMAND_3 = (("image", "Demand3", "demand-3"), ("library", "Isolation", "calls-demand-3"))
-PASSED_OVER = ("//", "--", "use ", "ghost use ", "pub use ", "unfoldable pub use ", "pub mod ", "mod ")
-IMPORT = re.compile(r"^(?:ghost )?(?:unfoldable )?(pub )?use Rattle·(\w+)(?:·specs\.specs|\.specs)\.([\w.-]+?)(?:\.\{(.*?)\}| as (\w+))?;?$", re.M)
+DEMAND_3 = (("image", "Demand3", "demand_3"), ("library", "Isolation", "calls_demand_3"))
+PASSED_OVER = ("//", "--", "#", "use ", "ghost use ", "pub use ", "unfoldable pub use ", "pub mod ", "mod ")
+IMPORT = re.compile(r"^(?:ghost )?(?:unfoldable )?(pub )?use Rattle\.(\w+)\.((?:specs|proofs)\.[\w.+-]+?)(?:\.\{(.*?)\}| as (\w+))?;?$", re.M)
+OF_KIT = re.compile(r"^use ((?:Rattle\.(\w+)\.|\w+\.)[\w.]+)\.\{(.*?)\}$", re.M)
+USE = re.compile(r"^use (\w+)::(?:\{([^}]*)\}|(\w+));", re.M)
+# The files of proofs/ that serve the proofs of functions, in the crates that also have statements there.
+SERVING = {("word", "Computed"), ("window", "Computed"), ("benchmark", "Own")}
 HEAD = re.compile(r"^((?:(?:unfoldable|abbrev|pub|private|opaque|data|record) )*)([^\s:({]+)")
 TYPE = re.compile(r"^(?:pub )?(?:struct|enum|const) (\w+)")
 FUNCTION = re.compile(r'^pub (?:extern "C" )?fn (\w+)')
@@ -48,15 +52,24 @@ class Item:
         return self.kind == "statement" and bool(self.parameters or "→" in " ".join(self.says()))
 
     def counted(self):
-        return sum(1 for line in self.lines if line.strip() and not line.strip().startswith(PASSED_OVER))
+        return len(counted(self.lines))
+
+
+def counted(lines):
+    """The lines that count: no blank ones, comments, attributes and imports, also those over several lines."""
+    kept, inside = [], False
+    for text in map(str.strip, lines):
+        if not inside and text and not text.startswith(PASSED_OVER):
+            kept.append(text)
+        inside = text.startswith("use ") and text.endswith("{") or inside and not text.endswith("};")
+    return kept
 
 
 class File:
-    """A spec file: its items and what it imports."""
+    """A file of specs/, or of statements and laws in proofs/: its items and what it imports."""
 
     def __init__(self, path):
-        parts = path.split("/")
-        self.path, self.crate, self.module = path, parts[1], "/".join(parts[3:]).removesuffix(".antt")
+        self.path, self.crate, self.module = path, path.split("/")[1], module_of(path.split("/", 2)[2].removesuffix(".antt"))
         self.items, self.current, self.comment, self.modules = {}, None, [], []
         text = open(path).read()
         self.imports = imports(text)
@@ -95,22 +108,37 @@ class File:
         self.current.lines.append(line)
 
 
+def module_of(path):
+    """A module by its path in its crate: one of specs/ without that folder."""
+    return path.replace(".", "/").removeprefix("specs/")
+
+
+def shown(module):
+    """A module as documents name it."""
+    return module.removeprefix("proofs/")
+
+
+def for_a_buyer(crate, module):
+    """Whether a buyer may want to read a module of these: no law, no step of the code, nothing that only the proofs of functions need."""
+    return "/" not in shown(module) and (crate, shown(module)) not in SERVING
+
+
 def imports(text):
     """What a file imports: for each name its crate, module and name there; `whole` where a module has a name of its own."""
     found = {}
     for passed_on, crate, module, names, alias in IMPORT.findall(text):
         if alias:
-            found[alias] = (crate, module.replace(".", "/"), "", bool(passed_on))
+            found[alias] = (crate, module_of(module), "", bool(passed_on))
         for name in names.split(","):
             there, _, here = name.strip().partition(" as ")
-            found[here or there] = (crate, module.replace(".", "/"), there, bool(passed_on))
+            found[here or there] = (crate, module_of(module), there, bool(passed_on))
     return found
 
 
 def source_items(crate):
     """The types and constants of a crate's source, and its public functions with their contracts."""
     for path in sorted(glob.glob(f"crates/{crate}/src/*.rt")):
-        comment, current = [], None
+        comment, marks, current = [], [], None
         for number, line in enumerate(open(path).read().split("\n"), 1):
             head = TYPE.match(line) or FUNCTION.match(line)
             if line.startswith("//"):
@@ -118,9 +146,13 @@ def source_items(crate):
             elif head:
                 kind = "type" if TYPE.match(line) else "function"
                 current = Item(crate, "src", path, number, head.group(1), kind, comment)
+                current.lines += marks if kind == "type" else []
+                marks = []
                 yield current
+            elif line.startswith("#["):
+                marks.append(line)
             elif not line.strip():
-                comment = []
+                comment, marks = [], []
             if current and not line.startswith("{"):
                 current.lines += [line] if not line.startswith("}") or current.kind == "type" else []
             if line.startswith(("{", "}")) or line.startswith(("const ", "pub const ")):
@@ -128,17 +160,18 @@ def source_items(crate):
 
 
 class Specs:
-    """The spec files and sources of the repository."""
+    """The spec files and sources of the repository, with the laws and statements that stand in proofs/."""
 
     def __init__(self):
         self.crates = list(uses())
-        self.files = {(f.crate, f.module): f for f in map(File, glob.glob("crates/*/specs/**/*.antt", recursive=True))}
+        paths = sorted(path for crate in self.crates for path in [*shared_proofs(crate), *glob.glob(f"crates/{crate}/specs/**/*.antt", recursive=True)])
+        self.files = {(f.crate, f.module): f for f in map(File, paths)}
         self.source = {item.key: item for crate in self.crates for item in source_items(crate)}
         self.source_imports = {}
         for crate in self.crates:
             text = "\n".join(open(path).read() for path in glob.glob(f"crates/{crate}/src/*.rt"))
             self.source_imports[crate] = imports(text)
-            self.source_imports[crate].update((name, (lower, "src", name, False)) for lower, name in re.findall(r"^use (\w+)::([A-Z]\w*);", text, flags=re.M))
+            self.source_imports[crate].update((name, (lower, "src", name, False)) for lower, name in used(text))
         self.makers = {}
         for file in self.files.values():
             for item in file.items.values():
@@ -161,14 +194,15 @@ class Specs:
         return self.home(*lower[:3]) if lower and lower[3] else None
 
     def words(self, item):
-        """The words of an item's text that name an item, each with it, in the order of the text."""
+        """The words of an item's text that name a definition or a type, each with it, in the order of the text. A function that has the name of its
+        definition is called nowhere in what counts."""
         known = self.source_imports[item.crate] if item.module == "src" else self.files[item.crate, item.module].imports
         text = " ".join(re.sub(r"(--|//).*", "", line) for line in item.parameters + item.says())
         for word in WORD.findall(text):
             found = self.home(item.crate, item.module, word)
-            if not found and word in known:
+            if (not found or found.kind == "function") and word in known:
                 found = self.home(*known[word][:3])
-            if found and found is not item:
+            if found and found is not item and found.kind != "function":
                 yield word, found
 
     def named(self, item):
@@ -198,28 +232,62 @@ class Specs:
 
     def delivered(self):
         """The delivered calls, and the statements of demand 3."""
-        return [call for crate in DELIVERED for call in self.calls(crate)] + [self.files[crate, module].items[name] for crate, module, name in DEMAND_3]
+        return [call for crate in DELIVERED for call in self.calls(crate)] + [self.named_item(*place) for place in DEMAND_3]
+
+    def named_item(self, crate, module, name):
+        """A definition or statement as documents name it: crate / module . name."""
+        found = (self.files.get((crate, place)) for place in (module, f"proofs/{module}"))
+        return next(file.items[name] for file in found if file and name in file.items)
+
+    def statements(self):
+        """All statements that a buyer may want to read."""
+        files = (file for file in self.files.values() if for_a_buyer(file.crate, file.module))
+        return [item for file in files for item in file.items.values() if item.kind == "statement"]
 
     def known_names(self, items):
         """The names of the kit's libraries that these items use, by module."""
         kit = collections.defaultdict(set)
         for path in {item.path for item in items if item.module != "src"}:
             text = " ".join(line for item in items if item.path == path for line in item.says())
-            for module, names in re.findall(r"^use ((?:mathlib|lib|Prim)[\w.]*)\.\{(.*?)\}$", open(path).read(), flags=re.M):
-                kit[module] |= {name.strip() for name in names.split(",") if any(part and part in text for part in name.strip().split("_"))}
+            for module, crate, names in OF_KIT.findall(open(path).read()):
+                if crate not in self.crates:
+                    kit[module] |= {name.strip() for name in names.split(",") if any(part and part in text for part in name.strip().split("◌"))}
         return kit
 
 
+def used(text):
+    """The types and constants that a source file imports, each with the crate that it names."""
+    for crate, names, name in USE.findall(text):
+        yield from ((crate, one.strip()) for one in (names or name).split(",") if one.strip()[:1].isupper())
+
+
 def uses():
-    """Each crate of crates.txt, in its order, with those that it lists."""
-    return {m.group(1): m.group(2).split() for m in re.finditer(r"^(\w+):(.*)$", open("crates.txt").read(), flags=re.M)}
+    """Each crate of crates.txt, in its order, with those that it lists. Between a name and its colon stands what marks it, as `staticlib`."""
+    return {m.group(1): m.group(2).split() for m in re.finditer(r"^(\w+)(?: [^:#\n]*)?:(.*)$", open("crates.txt").read(), flags=re.M)}
+
+
+def shared_proofs(crate):
+    """The files of proofs/ that are no proof of one function."""
+    paths = glob.glob(f"crates/{crate}/proofs/**/*.antt", recursive=True)
+    return [path for path in paths if path.count("/") == 3 or os.path.basename(path) not in ("Answers.antt", "Invariants.antt", "Proof.antt")]
+
+
+def listed_in(lib):
+    """The modules that a Lib.antt names, in its order."""
+    return re.findall(r"^(?:pub )?mod (\w+)", open(lib).read(), flags=re.M) if os.path.exists(lib) else []
 
 
 def read_files(crate):
-    """The spec files of a crate that a buyer reads, in the order of its Lib."""
-    lib = f"crates/{crate}/specs/Lib.antt"
-    names = re.findall(r"^pub mod (\w+)", open(lib).read(), flags=re.M) if os.path.exists(lib) else []
-    return [n for n in names if n not in ("Code", "Laws")]
+    """The modules of a crate that a buyer reads, in the order of its Lib: those of specs/, then the statements of proofs/. A crate without the first has
+    in proofs/ only what serves the proofs of its functions."""
+    names = [name for name in listed_in(f"crates/{crate}/specs/Lib.antt") if name not in ("Code", "Laws")]
+    stated = [f"proofs/{name}" for name in listed_in(f"crates/{crate}/proofs/Lib.antt") if name not in ("Code", "Laws")]
+    return [*names, *(module for module in stated if names and for_a_buyer(crate, module))]
+
+
+def path_of(crate, module):
+    """Where a module stands."""
+    return f"crates/{crate}/{module if module.startswith('proofs/') else f'specs/{module}'}.antt"
 
 
 def summary(items):

@@ -1,13 +1,16 @@
 #!/usr/bin/env python3
-"""Figures of the repository, from its root. Lines do not count blank ones, comments and imports.
+"""Figures of the repository, from its root. Lines do not count blank ones, comments, attributes and imports.
 
-    figures.py LOG                  functions, lines, edits and seconds of each crate; LOG is what `rt ci` printed
-    figures.py --path [--write]     the buyer's path: the spec files in reading order with their lines, those that must be believed first, and
+    figures.py [LOG]                functions, lines, edits and seconds of each crate; LOG is what .ci/run printed
+    figures.py --path [--write]     the buyer's path: the files in reading order with their lines, those that must be believed first, and
                                     the definitions that the contracts of the delivered calls name; --write puts it into README.md
     figures.py --above CRATE [LOG]  the crates that are proved anew after a change of CRATE, with the seconds of LOG
-    figures.py --seconds LOG        the table tools/seconds.txt, which tools/progress.py reads; LOG is what .ci/run printed
+    figures.py --seconds LOG        the table tools/seconds.txt, which tools/progress.py reads; LOG is what .ci/run printed where nothing was kept
+
+The seconds of a crate are those from when the last of its libraries was proved until it was: `rt ci` tells no others.
 """
 import glob
+import os
 import re
 import sys
 
@@ -18,29 +21,29 @@ BELIEVED = "### Must be believed"
 
 
 def lines(files):
-    return sum(1 for f in files for line in open(f) if line.strip() and not line.strip().startswith(closure.PASSED_OVER))
+    return sum(len(closure.counted(open(f).read().split("\n"))) for f in files)
 
 
 def seconds(log):
-    return gate_log.proofs(open(log).read())
+    return gate_log.proofs(open(log).read(), closure.uses())
 
 
 def table(log):
-    took = seconds(log)
+    took = seconds(log) if log else {}
     print("| Crate | Functions | Code lines | Definitions and trials | Steps of the code | Laws | Proof lines | Proof lines a code line | Edits | Seconds |")
     print("|---|---|---|---|---|---|---|---|---|---|")
     total = [0] * 7
     for crate in closure.uses():
         source = glob.glob(f"crates/{crate}/src/*.rt")
         functions = sum(len(re.findall(r'^(?:pub )?(?:extern "C" )?fn ', open(f).read(), flags=re.M)) for f in source)
-        specs = set(glob.glob(f"crates/{crate}/specs/**/*.antt", recursive=True))
-        code, laws = ({f for f in specs if f"/{part}/" in f} for part in ("Code", "Laws"))
-        proofs = glob.glob(f"crates/{crate}/proofs/**/*.antt", recursive=True)
+        every = set(glob.glob(f"crates/{crate}/specs/**/*.antt", recursive=True)) | set(glob.glob(f"crates/{crate}/proofs/**/*.antt", recursive=True))
+        code, laws = ({f for f in every if f"/{part}/" in f and f.split("/")[3] == part} for part in ("Code", "Laws"))
+        read = {closure.path_of(crate, module) for module in closure.read_files(crate)}
         edits = glob.glob(f"crates/{crate}/must-fail/*.edit")
-        row = [functions, lines(source), lines(specs - code - laws), lines(code), lines(laws), lines(proofs), len(edits)]
+        row = [functions, lines(source), lines(read), lines(code), lines(laws), lines(every - code - laws - read), len(edits)]
         total = [a + b for a, b in zip(total, row)]
         print(line_of(crate, row, took.get(crate, "")))
-    print(line_of("all", total, sum(took.values())))
+    print(line_of("all", total, sum(took.values()) if took else ""))
 
 
 def line_of(crate, row, took):
@@ -54,16 +57,16 @@ def contract_names(specs, crate):
     named = {}
     for call in specs.calls(crate):
         for item in specs.named(call):
-            names = named.setdefault(f"{item.crate} / {item.module}", [])
+            names = named.setdefault(f"{item.crate} / {closure.shown(item.module)}", [])
             if item.module != "src" and item.name not in names:
                 names.append(item.name)
     return [f"{home} . {', '.join(names)}" for home, names in named.items() if names]
 
 
 def kinds(specs):
-    """The spec files that a buyer may read, in reading order, by what they are to him, each with its lines: what the delivered contracts rest on,
+    """The files that a buyer may read, in reading order, by what they are to him, each with its lines: what the delivered contracts rest on,
     must be believed; statements, with what only they name; examples."""
-    below, general = specs.below(specs.delivered()), [i for f in specs.files.values() if "/" not in f.module for i in f.items.values() if i.general()]
+    below, general = specs.below(specs.delivered()), [item for item in specs.statements() if item.general()]
     believed = {item.key for item in below}
     stated = {item.key for item in [*specs.below(general), *general]} - believed
     parts = {"believed": {}, "stated": {}, "example": {}}
@@ -73,8 +76,8 @@ def kinds(specs):
             keys, whole = {item.key for item in file.items.values()}, lines([file.path])
             needed = whole - sum(item.counted() for item in file.items.values() if item.key not in believed)
             part = "believed" if keys & believed else "stated" if keys & stated else "example"
-            shown = f"{module} ({needed} of {whole})" if part == "believed" and needed < whole else f"{module} ({whole})"
-            parts[part].setdefault(crate, []).append((shown, needed if part == "believed" else whole))
+            counted = f"{needed} of {whole}" if part == "believed" and needed < whole else str(whole)
+            parts[part].setdefault(crate, []).append((f"{closure.shown(module)} ({counted})", needed if part == "believed" else whole))
     return parts
 
 
@@ -101,7 +104,7 @@ def lines_in(part):
 def path():
     specs = closure.Specs()
     parts = kinds(specs)
-    whole = sum(lines([f"crates/{crate}/specs/{module}.antt"]) for crate in delivered() for module in closure.read_files(crate))
+    whole = sum(lines([closure.path_of(crate, module)]) for crate in delivered() for module in closure.read_files(crate))
     believed = lines_in(parts["believed"])
     types = sum(item.counted() for item in specs.below(specs.delivered()) if item.module == "src")
     counted = f"{believed} of {whole} lines, and {types} lines of types and constants of the sources."
@@ -133,21 +136,28 @@ def above(crate, log):
 
 def seconds_table(log):
     text = open(log).read()
-    print("# Seconds of each crate, of each must-fail edit and of the tests, by python3 tools/figures.py --seconds LOG.")
-    for name, took in [*gate_log.proofs(text).items(), *gate_log.edits(text).items(), ("tests", gate_log.tests(text))]:
-        print(name, took)
+    took = seconds(log)
+    lacking = [crate for crate in closure.uses() if crate not in took]
+    if lacking:
+        sys.exit(f"figures: {log} has no seconds of {', '.join(lacking)}: kept from an earlier run, or not proved")
+    print("# Seconds of each crate, of what `rt ci` does besides, and of the tests, by python3 tools/figures.py --seconds LOG.")
+    whole = ("rest", gate_log.rest(text)), ("tests", gate_log.tests(text)), ("gate", gate_log.whole(text)), ("processors", os.cpu_count())
+    for name, seen in [*took.items(), *whole]:
+        print(name, seen)
 
 
 def main():
     asked = sys.argv[1:]
     if not asked:
-        sys.exit(__doc__)
-    if asked[0] == "--path":
+        table(None)
+    elif asked[0] == "--path":
         write_path() if "--write" in asked else print(path(), end="")
     elif asked[0] == "--above":
         above(asked[1], asked[2] if len(asked) > 2 else None)
     elif asked[0] == "--seconds":
         seconds_table(asked[1])
+    elif asked[0].startswith("-"):
+        sys.exit(__doc__)
     else:
         table(asked[0])
 

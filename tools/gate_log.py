@@ -1,23 +1,32 @@
-"""The seconds in a log of `rt ci`, `rt check` or .ci/run: as rt prints them, or as tools/progress.py shortens them."""
+"""The seconds in a log of .ci/run, as tools/progress.py prints them: `rt` tells none, so each line of progress.py says how long after the start
+it came."""
 import re
 
-PROVED = re.compile(r"^(?:rt: (\w+) proved \((\d+) s\)|\[ *\d+/\d+\] (\w+) +(\d+) s\b.*)$", re.M)
-REFUSED = re.compile(r"^(?:rt: must-fail (\S+): refused, as it must be \(.*?(\d+) s\)|\[ *\d+/\d+\] edit (\S+) +(\d+) s\b.*)$", re.M)
+# A crate that this run proved, the end of `rt ci`, and a part of the tests behind it.
+PROVED = re.compile(r"^\[ *\d+/\d+\] (\w+) +proved at +(\d+) s\b", re.M)
+ENDED = re.compile(r"^rt ci ended at (\d+) s$", re.M)
 PART = re.compile(r"^gate: (\d+) s:", re.M)
 
 
-def named(pattern, text):
-    return {a or c: int(b or d) for a, b, c, d in pattern.findall(text)}
+def moments(text):
+    """When each crate was proved, in seconds after the start."""
+    return {crate: int(at) for crate, at in PROVED.findall(text)}
 
 
-def proofs(text):
-    """The seconds of each crate's proof."""
-    return named(PROVED, text)
+def proofs(text, uses):
+    """The seconds of each crate's proof: from when the last of its libraries was proved until it was."""
+    at = moments(text)
+    return {crate: at[crate] - max((at.get(lower, 0) for lower in uses[crate]), default=0) for crate in at}
 
 
-def edits(text):
-    """The seconds of each edit that was refused, by crate/name."""
-    return named(REFUSED, text)
+def whole(text):
+    """The seconds of all of `rt ci`."""
+    return sum(map(int, ENDED.findall(text)))
+
+
+def rest(text):
+    """The seconds of `rt ci` behind the last crate: edits that were left, programs run."""
+    return whole(text) - max(moments(text).values(), default=0)
 
 
 def tests(text):

@@ -4,13 +4,15 @@
     landing.py BEFORE AFTER                 what moved and what stayed of each kind in crates/, by name, with the lines gained and lost; lines elsewhere by folder
     landing.py --seconds BEFORE AFTER       the seconds of each crate and of the gate, from two logs of .ci/run (`time bash .ci/run`)
 
-A definition is marked unfoldable, abbrev, record or data; any other name of specs/ is a statement, below Laws a law, below Code a step of the code. A
-contract is the `requires` and `ensures` of a function, a body what else the function has; a proof is the file of a function, or another file of proofs/.
-Comments, imports and blank lines are left out: what differs only in them has stayed."""
+A definition is marked unfoldable, abbrev, record or data; any other name of specs/ is a statement, below Laws a law, below Code a step of the code; so are
+those of proofs/ in a crate of definitions, and those below Laws there. A contract is the `requires` and `ensures` of a function, a body what
+else the function has; a proof is what stands in the folder of a function, or another file of proofs/. Comments, attributes, imports and blank lines are
+left out: what differs only in them has stayed."""
 import re
 import subprocess
 import sys
 
+import closure
 import gate_log
 
 SPEC = re.compile(r"^\s*((?:(?:unfoldable|abbrev|opaque|pub|data|record)\s+)*)([^\s:({]+)(?:\s+(?:[({].*?[)}]))*\s*:(?!:)")
@@ -57,18 +59,21 @@ def source_items(text):
 
 def items(commit):
     """All that a commit's crates have: by kind, crate and name the lines."""
-    found = {}
-    for path in git("ls-tree", "-r", "--name-only", commit, "crates").split():
+    found, paths = {}, [path for path in git("ls-tree", "-r", "--name-only", commit, "crates").split() if path.split("/")[2] != "out"]
+    # the crates with definitions that are no step of the code
+    of_definitions = {path.split("/")[1] for path in paths if re.fullmatch(r"crates/\w+/specs/\w+\.antt", path) and not path.endswith(("Lib.antt", "Laws.antt", "Code.antt"))}
+    for path in paths:
         crate, part = path.split("/")[1:3]
-        if part not in ("specs", "src", "proofs", "must-fail") or path.endswith(("specs/Lib.antt", "specs/Laws.antt", "specs/Code.antt")):
+        if part not in ("specs", "src", "proofs", "must-fail") or path.endswith(("specs/Lib.antt", "specs/Laws.antt", "specs/Code.antt", "proofs/Lib.antt")):
             continue
-        text = git("show", f"{commit}:{path}")
-        if part == "specs":
+        text, inner = git("show", f"{commit}:{path}"), path.split("/", 3)[3]
+        stated = "/" not in inner and crate in of_definitions and closure.for_a_buyer(crate, inner.removesuffix(".antt"))
+        if part == "specs" or part == "proofs" and (inner.startswith(("Laws/", "Code/")) or stated):
             new = spec_items(path, text)
         elif part == "src":
             new = source_items(text)
         else:
-            name = path.split("/")[-1].removesuffix(".edit") if part == "must-fail" else path.split("/", 3)[3].removesuffix("/Proof.antt").removesuffix(".antt")
+            name = re.sub(r"(/(Proof|Answers|Invariants))?\.antt$|\.edit$", "", inner)
             new = [("edit" if part == "must-fail" else "proof", name, [line for lines in blocks(text) for line in lines])]
         for kind, name, lines in new:
             found.setdefault((kind, crate, name), []).extend(lines)
@@ -121,12 +126,11 @@ def outside(before, after):
 
 def times(log):
     text = open(log).read()
-    took, edits = gate_log.proofs(text), gate_log.edits(text)
+    took = gate_log.proofs(text, closure.uses())
     whole = re.search(r"^real\s+(\d+)m([\d.]+)s", text, flags=re.M)
     return took, {
         "proofs, added up": sum(took.values()),
-        "edits, added up": sum(edits.values()),
-        "number of edits": len(edits),
+        "all of rt ci": gate_log.whole(text),
         "tests": gate_log.tests(text),
         "the gate": f"{whole.group(1)} min {float(whole.group(2)):.0f} s" if whole else "",
     }

@@ -5,7 +5,7 @@
 #     bash tools/needs.sh [gate]
 set -euo pipefail
 cd "$(dirname "$0")/.."
-kit="rattle-kit-5b-plain logic 097e4c862dff5811"
+kit="rattle-kit-13f logic dac8208d650f15bf"
 rust=$(sed -n 's/^rust-version = "\(.*\)"$/\1/p' hep-tools/Cargo.toml)
 python=3.10
 missing=()

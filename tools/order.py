@@ -2,22 +2,26 @@
 """The lines of crates.txt.
 
     python3 tools/order.py [LOG]      prints them: each crate with the dependencies that it needs, by level and, within a level, by falling
-                                      seconds of LOG (what `rt ci` printed), without LOG in the order of today
+                                      seconds of LOG (what .ci/run printed), without LOG in the order of today
     python3 tools/order.py --check    fails where crates.txt lists more or fewer dependencies than are needed, or where the picture of
                                       docs/ARCHITECTURE.md has a crate beside other definitions than the highest that it uses
 
 A crate needs the crates that it names in its code, specs and proofs, and those whose types it reaches: through the fields of the types that
 it names, and through the parameters and answers of the functions of a crate that it calls.
 """
+import functools
 import glob
+import os
 import re
+import subprocess
 import sys
 
+import closure
 import gate_log
 
-KIT = ("io", "libc", "bytes", "os", "check")
 text = open("crates.txt").read()
-listed = {m.group(1): m.group(2).split() for m in re.finditer(r"^(\w+):(.*)$", text, flags=re.M)}
+listed = closure.uses()
+heads = {m.group(1): m.group(0) for m in re.finditer(r"^(\w+)(?: [^:#\n]*)?(?=:)", text, flags=re.M)}
 
 
 def read(crate, *patterns):
@@ -31,7 +35,7 @@ def without_comments(code):
 code = {c: without_comments(read(c, "src/*.rt")) for c in listed}
 all_text = {c: code[c] + without_comments(read(c, "specs/**/*.antt", "proofs/**/*.antt")) for c in listed}
 declared = {c: set(re.findall(r"(?m)^pub (?:struct|enum) (\w+)", code[c])) for c in listed}
-imported = {c: {name: d for d, name in re.findall(r"(?m)^use (\w+)::(\w+);", code[c]) if d in listed} for c in listed}
+imported = {c: {name: d for d, name in closure.used(code[c]) if d in listed} for c in listed}
 
 
 def home(crate, name):
@@ -60,14 +64,23 @@ def signatures(crate):
 
 
 def needed(crate):
-    names = set(re.findall(r"Rattle·(\w+?)(?=[·.])", all_text[crate])) | set(re.findall(r"(?<![\w:])(\w+)::", code[crate]))
+    of_std = set(re.findall(r"\w+", " ".join(re.findall(r"(?m)^use std::([^;]+);", code[crate]))))
+    names = set(re.findall(r"\bRattle\.(\w+)\.", all_text[crate])) | set(re.findall(r"(?<![\w:])(\w+)::", code[crate])) - of_std
     seen = set()
     for name in types_in(crate, code[crate]):
         reach(home(crate, name), name, seen)
     for other in set(re.findall(r"(?<![\w:])(\w+)::[a-z_]+\(", code[crate])) & set(listed):
         for name in signatures(other):
             reach(home(other, name), name, seen)
-    return {d for d in names if d in listed or d in KIT} | {d for d, _ in seen} - {crate}
+    return {d for d in names if d in listed or d in of_kit()} | {d for d, _ in seen} - {crate}
+
+
+@functools.lru_cache
+def of_kit():
+    """The libraries of the kit that a crate lists where it uses them: all but std and what comes with it."""
+    kit = os.path.dirname(subprocess.run(["rt", "doc"], capture_output=True, text=True, check=True).stdout.strip())
+    names = {name.removesuffix(".rlib") for name in os.listdir(f"{kit}/rlibs")}
+    return {name for name in names if name != "core" and not name.startswith("std")}
 
 
 uses = {c: needed(c) - {c} for c in listed}
@@ -108,10 +121,10 @@ def level(crate):
 
 
 log = open(sys.argv[1]).read() if len(sys.argv) > 1 else ""
-seconds = gate_log.proofs(log)
+seconds = gate_log.proofs(log, listed)
 today = list(listed)
 order = sorted(uses, key=lambda c: (level(c), -seconds.get(c, 0), today.index(c)))
 place = {c: i for i, c in enumerate(order)}
 print(text.split("\n")[0])
 for crate in order:
-    print(f"{crate}: {' '.join(sorted(uses[crate], key=lambda d: place.get(d, len(order))))}".rstrip())
+    print(f"{heads[crate]}: {' '.join(sorted(uses[crate], key=lambda d: place.get(d, len(order))))}".rstrip())

@@ -1,87 +1,89 @@
 #!/usr/bin/env python3
-"""A line for each crate and edit that `rt` is through with, and how long the rest will take. From the repository's root.
+"""A line for each crate that `rt` is through with, and how long the rest will take. From the repository's root.
 
-    rt check CRATE.. 2>&1 | progress.py CRATE..     what rt prints, made short
-    rt ci | progress.py --gate                      the same for every crate, then every edit, without the last line, which .ci/run prints in the end;
-                                                    what rt printed is kept in target/log/gate.txt
-    progress.py --forecast [--gate | CRATE..]       how long it takes where nothing is proved yet, and how much memory
+    rt ci | progress.py --gate                      what `rt ci` prints, made short, without the last line, which .ci/run prints in the end
+    rt lib 2>&1 | progress.py CRATE                 the same of a build of CRATE and the libraries below it (tools/archive.sh, tools/proved.sh)
+    progress.py --forecast [--gate | CRATE..]       how long it takes where nothing is proved yet
 
-Of a crate that is not proved, or an edit that is not refused, all is shown that rt says. Seconds come from tools/seconds.txt (figures.py
---seconds makes it); what they say of the rest is scaled by what the part that is done took here.
+A line says how many seconds after the start it came: `rt` itself tells no time. With --gate all that `rt ci` printed is kept in
+target/log/gate.txt, and what it said of the proof of each crate in target/log/CRATE.say; a crate that is kept from an earlier run has nothing new there.
+Of a crate that is not proved, or an edit that is not refused, all is shown that rt says. The time that is left comes from tools/seconds.txt
+(figures.py --seconds makes it), scaled by what the part that is done took here.
 """
-import glob
-import math
 import os
 import re
 import sys
 import time
 
 import closure
-import gate_log
 
 TABLE = "tools/seconds.txt"
 KEPT = "target/log/gate.txt"
-# The greatest resident set of a crate's proof in GB, by getrusage for each crate alone; of every other it is less than that of OTHERS.
-RESIDENT = {"hep_c": 3.9, "hep": 3.7, "trials": 3.0, "batch": 2.4, "hep_batch": 2.3, "run_schedule": 2.2}
-OTHERS = 1.4
-QUIET = re.compile(r"^rt: (\S+ proved \(|must-fail \S+: refused, as it must be|ok, |target/|\S+ ran\b)")
+SAID = "target/log/{}.say"
+# What `rt ci` says of a crate or an edit where all is well.
+PROVED = re.compile(r"rt: (\w+) proved$")
+GIVEN = re.compile(r"rt: (\w+) is kept: ")
+REFUSED = re.compile(r"rt: must-fail (\w+)/(\S+?)(?:\.edit)?: refused, as it must be")
+TESTS = re.compile(r"rt: \w+: its tests (are proved|passed)$")
+QUIET = re.compile(
+    r"rt: (chose --jobs"
+    r"|\w+: (trying its must-fail edits|begins with what a check kept|\d+ of its \d+ must-fail edits were tried by an earlier run)"
+    r"|\S+ ran\b.*, and wrote what its file stdout has"
+    r"|running out/"
+    r"|.*: another run on this machine is proving the same)"
+)
+# The verdict of a check, and the crate that it is of.
+OF_CRATE = re.compile(r"crate (\w+): modules loaded=")
+VERDICT = re.compile(r"logic=proved ")
 
 
-def levels(wanted):
-    """The crates that the wanted ones rest on, themselves among them, each with its level, in rt's order."""
-    listed, level = closure.uses(), {}
-
-    def visit(crate):
-        if crate not in level:
-            level[crate] = 1 + max((visit(d) for d in listed[crate] if d in listed), default=0)
-        return level[crate]
-
-    for crate in wanted or listed:
-        visit(crate)
-    return sorted(level.items(), key=lambda item: item[1])
+def below(wanted):
+    """The crates that the wanted ones rest on, themselves among them, in the order of crates.txt; all where none is wanted."""
+    listed = closure.uses()
+    found, waiting = set(), list(wanted or listed)
+    while waiting:
+        crate = waiting.pop()
+        if crate in listed and crate not in found:
+            found.add(crate)
+            waiting += listed[crate]
+    return [crate for crate in listed if crate in found]
 
 
 def table():
-    """Seconds by crate, by crate/edit and of the tests."""
+    """Seconds by crate, of what `rt ci` does behind the last of them, of the tests and of all of `rt ci`; and how many processors they were seen on."""
     return {name: int(n) for name, n in re.findall(r"^(\S+) (\d+)$", open(TABLE).read(), flags=re.M)}
 
 
-def jobs():
-    return int(os.environ.get("RT_JOBS") or min(os.cpu_count(), 4))
-
-
-def groups(items):
-    """What rt has under way at a time: neighbours of one level, as many as there are jobs."""
-    made = []
-    for name, level in items:
-        if not made or made[-1][0] != level or len(made[-1][1]) == jobs():
-            made.append((level, []))
-        made[-1][1].append(name)
-    return [names for _, names in made]
-
-
 class Plan:
-    """What is to be done, in rt's order, and how long it takes by the table."""
+    """What is to be done, and how long it takes by the table."""
 
     def __init__(self, wanted, gate):
-        self.took = table()
-        crates = levels(wanted)
-        edits = [(f"{c}/{os.path.basename(e)[:-5]}", 0) for c, _ in crates for e in sorted(glob.glob(f"crates/{c}/must-fail/*.edit"))] if gate else []
-        self.crates, self.edits = [c for c, _ in crates], [e for e, _ in edits]
-        self.groups = groups(crates) + groups(edits)
+        self.took, self.gate, self.crates = table(), gate, below(wanted)
+        self.rest = self.took.get("rest", 0) if gate else 0
         self.tests = self.took.get("tests", 0) if gate else 0
 
-    def seconds(self, name):
-        """An edit that the table doesn't have takes as long as its crate."""
-        return self.took.get(name, self.took.get(name.split("/")[0], 0))
+    def seconds(self, names):
+        return sum(self.took.get(name, 0) for name in names)
 
-    def left(self, done):
-        """The seconds of what is not done."""
-        rest = ([n for n in group if n not in done] for group in self.groups)
-        return self.tests + sum(max((self.seconds(n) for n in names), default=0) for names in rest)
+    def chain(self):
+        """The longest chain of crates, each above the one before."""
+        ends, listed = {}, closure.uses()
+        for crate in listed:
+            ends[crate] = self.took.get(crate, 0) + max((ends.get(lower, 0) for lower in listed[crate]), default=0)
+        return max((ends[crate] for crate in self.crates), default=0)
 
-    def under_way(self, done):
-        return next((names for names in ([n for n in group if n not in done] for group in self.groups) if names), [])
+    def whole(self):
+        """The seconds of all of it, where nothing is proved yet."""
+        if self.gate:
+            return self.took.get("gate", 0)
+        return max(self.chain(), self.seconds(self.crates) / max(1, self.took.get("processors", 1)))
+
+    def left(self, done, given, elapsed):
+        """The seconds that are left, at the pace of what this run proved so far; what was kept from an earlier run took no time."""
+        work = self.seconds(self.crates) + self.rest
+        proved, rest = self.seconds(done - given), work - self.seconds(done)
+        pace = elapsed / proved if proved > 20 and elapsed > 1 else self.whole() / work if work else 1
+        return rest * pace + self.tests
 
 
 def duration(seconds):
@@ -89,83 +91,99 @@ def duration(seconds):
 
 
 class Filter:
-    def __init__(self, plan, kept):
-        self.plan, self.kept, self.file = plan, kept, None
-        self.done, self.saved, self.said, self.start = set(), 0, [], time.monotonic()
+    def __init__(self, plan, gate):
+        self.plan, self.gate, self.file, self.start = plan, gate, None, time.monotonic()
+        self.done, self.given, self.refused, self.said, self.crate = set(), set(), 0, [], None
+
+    def elapsed(self):
+        return time.monotonic() - self.start
 
     def keep(self, line):
-        """The log opens with the first line: `rt ci` removes target/ before it says anything."""
-        if self.kept and not self.file:
-            os.makedirs(os.path.dirname(self.kept), exist_ok=True)
-            self.file = open(self.kept, "w")
+        if self.gate and not self.file:
+            os.makedirs(os.path.dirname(KEPT), exist_ok=True)
+            self.file = open(KEPT, "w")
         if self.file:
             self.file.write(line)
             self.file.flush()
 
-    def time_left(self):
-        """By the table, at the pace of what was done here; crates that were proved before took no time."""
-        left = self.plan.left(self.done)
-        done = self.plan.left(set()) - left - self.saved
-        elapsed = time.monotonic() - self.start
-        return left * (elapsed / done if done > 20 and elapsed > 1 else 1)
+    def report(self, crate):
+        """Keeps what was said of a crate's proof."""
+        os.makedirs(os.path.dirname(SAID), exist_ok=True)
+        with open(SAID.format(crate), "w") as file:
+            file.writelines(self.said)
 
-    def end(self, name, mark, names, seconds):
-        before = self.plan.left(self.done)
-        self.done.add(name)
-        if seconds is None:
-            self.saved += before - self.plan.left(self.done)
-            return
+    def end(self, crate, how):
+        self.done.add(crate)
+        names = self.plan.crates
         place = f"[{sum(n in self.done for n in names):{len(str(len(names)))}}/{len(names)}]"
-        self.print(f"{place} {mark}{name:<{40 if mark else 20}} {seconds:4} s   (about {duration(self.time_left())} left)")
-
-    def under_way(self):
-        """On a terminal what is under way stands in a line of its own below, until the next line."""
-        if sys.stdout.isatty() and (names := self.plan.under_way(self.done)):
-            print(f"  {', '.join(names)} ..", end="\r")
-        sys.stdout.flush()
+        left = duration(self.plan.left(self.done, self.given, self.elapsed()))
+        self.print(f"{place} {crate:<20} {how} at {self.elapsed():5.0f} s   (about {left} left)")
 
     def print(self, text):
-        print(("\r\x1b[2K" if sys.stdout.isatty() else "") + text)
-        self.under_way()
+        print(text, flush=True)
 
     def line(self, line):
         self.keep(line)
-        proved, refused = gate_log.proofs(line), gate_log.edits(line)
-        unchanged = re.match(r"rt: (\w+) proved \(unchanged", line)
-        if not line.startswith("rt: "):
+        text = line.rstrip("\n")
+        if found := OF_CRATE.match(text):
+            self.crate = found.group(1)
+        if not self.gate and VERDICT.match(text) and self.crate:
             self.said.append(line)
-            return
-        if not QUIET.match(line):
-            self.print("".join(self.said) + line.rstrip("\n"))
-        elif unchanged:
-            self.end(unchanged.group(1), "", self.plan.crates, None)
-        elif proved:
-            self.end(*proved, "", self.plan.crates, *proved.values())
-        elif refused:
-            self.end(*refused, "edit ", self.plan.edits, *refused.values())
+            self.report(self.crate)
+            self.end(self.crate, "proved")
+            self.said = []
+        elif self.gate and text.startswith("rt: "):
+            self.told(text)
+        elif "waiting for" in text and text.startswith("rt: "):
+            self.print(text)
         else:
-            self.print(line.rstrip("\n"))
+            self.said.append(line)
+
+    def told(self, text):
+        """A line of `rt ci` of its own."""
+        if (found := PROVED.match(text)) and found.group(1) in self.plan.crates:
+            self.report(found.group(1))
+            self.end(found.group(1), "proved")
+        elif found := GIVEN.match(text):
+            self.given.add(found.group(1))
+            self.end(found.group(1), "kept  ")
+        elif REFUSED.match(text):
+            self.refused += 1
+        elif QUIET.match(text):
+            self.said.append(text + "\n")
+            return
+        elif not TESTS.match(text):
+            self.print("".join(line for line in self.said if not QUIET.match(line)) + text)
         self.said = []
 
+    def close(self):
+        """What came last: an end without a verdict is shown whole."""
+        if self.gate and self.refused:
+            self.print(f"must-fail edits: {self.refused} refused")
+        if self.gate:
+            self.print(f"rt ci ended at {self.elapsed():.0f} s")
+        rest = self.said[:-1] if self.gate else self.said
+        wrong = re.compile(r".*\berror\b|logic=not-proved|rt: (?!chose --jobs|running |note: |rt |must-fail)")
+        if any(wrong.match(line) for line in rest):
+            self.print("".join(rest).rstrip("\n"))
 
-def forecast(plan, gate):
-    what = f"{len(plan.crates)} crates" + (f", {len(plan.edits)} must-fail edits and the tests" if gate else "")
-    most = sum(sorted((RESIDENT.get(crate, OTHERS) for crate in plan.crates), reverse=True)[:jobs()])
-    return f"{what}: about {duration(plan.left(set()))} on {jobs()} idle processors where nothing is proved yet, {math.ceil(most)} GB of memory"
+
+def forecast(plan):
+    what = f"{len(plan.crates)} crates" + (", their must-fail edits and the tests" if plan.gate else "")
+    time_taken = duration(plan.whole() + plan.tests)
+    return f"{what}: about {time_taken} on {max(1, plan.took.get('processors', 1))} idle processors where nothing is proved yet"
 
 
 def main():
     gate = "--gate" in sys.argv
     plan = Plan([word for word in sys.argv[1:] if not word.startswith("--")], gate)
     if "--forecast" in sys.argv:
-        print(forecast(plan, gate))
+        print(forecast(plan))
         return
-    shown = Filter(plan, KEPT if gate else None)
-    shown.under_way()
+    shown = Filter(plan, gate)
     for line in sys.stdin:
         shown.line(line)
-    if rest := shown.said[:-1] if gate else shown.said:
-        shown.print("".join(rest).rstrip("\n"))
+    shown.close()
 
 
 if __name__ == "__main__":

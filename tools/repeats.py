@@ -1,14 +1,14 @@
 #!/usr/bin/env python3
 """repeats.py [LINES [FOLDER]]: places of .rt and .antt files below FOLDER (crates) that share LINES (6) or more lines in a row: the same lines, or in
-src/ and specs/ also LINES + 2 lines of one shape, with other names and numbers. Imports, comments, blank lines, lines of a proof's skeleton and of a
-struct or enum do not count. The 40 largest of each kind."""
+src/ and specs/ also LINES + 2 lines of one shape, with other names and numbers. Imports, comments, blank lines, the heads of a proof's answers and the
+lines of a struct or enum do not count. The 40 largest of each kind."""
 import pathlib
 import re
 import sys
 
-WORD = re.compile(r"[A-Za-z_′″·ℕ][A-Za-z0-9_′″·\-]*|\d+")
+WORD = re.compile(r"[A-Za-z_ℕ][A-Za-z0-9_'\-]*|\d+")
 KEPT = {"fn", "pub", "let", "if", "else", "match", "while", "return", "record", "cond", "λ", "refl", "simp", "omega", "rw", "unfolding", "unfold"}
-SKELETON = re.compile(r"(ghost )?use |pub mod |[{}\])(;,]+$|[\w-]+ : tie\.Need|[\w-]+( c)?( κs)? = search needs$|\(?tie\.")
+SKELETON = re.compile(r"(ghost )?use |pub mod |#|[{}\])(;,]+$|(abbrev )?(pub )?[\w-]+ : (goal|given)\.|[\w-]+( c)? = search rules$")
 FIELD = re.compile(r"(pub )?\w+: [\w\[\]; ]+,$|\w+(\([\w, ]*\))?,$")
 
 
@@ -56,7 +56,7 @@ def runs(files, key, least):
 def main():
     least = int(sys.argv[1]) if len(sys.argv) > 1 else 6
     root = pathlib.Path(sys.argv[2] if len(sys.argv) > 2 else "crates")
-    files = {str(p): lines_of(p) for p in sorted(root.rglob("*")) if p.suffix in (".rt", ".antt") and "target" not in p.parts}
+    files = {str(p): lines_of(p) for p in sorted(root.rglob("*")) if p.suffix in (".rt", ".antt") and not {"target", "out"} & set(p.parts)}
     same = runs(files, 1, least)
     known = {run[1:] for run in same}
     plain = {path: lines for path, lines in files.items() if "/proofs/" not in path}

@@ -28,12 +28,12 @@ w is the word and t the tag of S2, psw the running PSW. The names behind the lin
 | Definition | Code | Meaning |
 |---|---|---|
 | word / Tests . negative | word `negative` | the signed value is below 0: the leftmost bit is one |
-| word / Tests . emptyTag, fullTag | word `empty_tag`, `full_tag` | the tag is from 8 up, below 8 |
-| word / Fields . riOf, ciOf | word `ri`, `ci` | the field of the PSW |
-| word / Bits . parityOf | word `parity` | the number of ones modulo 2 |
+| word / Tests . empty_tag, full_tag | word `empty_tag`, `full_tag` | the tag is from 8 up, below 8 |
+| word / Fields . ri_of, ci_of | word `ri`, `ci` | the field of the PSW |
+| word / Bits . parity_of | word `parity` | the number of ones modulo 2 |
 
 That the code answers what the definition says, for every code, word, tag and PSW, is the contract of word `holds`. Codes 0 to 3 each give the
-opposite of 7 less the code, and each even code from 8 the opposite of the next: word / Opposites . low-opposite, even-opposite.
+opposite of 7 less the code, and each even code from 8 the opposite of the next: word / Opposites . low_opposite, even_opposite.
 """
 
 
