@@ -266,6 +266,17 @@ def uses():
     return {m.group(1): m.group(2).split() for m in re.finditer(r"^(\w+)(?: [^:#\n]*)?:(.*)$", open("crates.txt").read(), flags=re.M)}
 
 
+def with_below(crates):
+    """These crates and all that they use, in the order of crates.txt."""
+    listed, found, waiting = uses(), set(), list(crates)
+    while waiting:
+        crate = waiting.pop()
+        if crate in listed and crate not in found:
+            found.add(crate)
+            waiting += listed[crate]
+    return [crate for crate in listed if crate in found]
+
+
 def shared_proofs(crate):
     """The files of proofs/ that are no proof of one function."""
     paths = glob.glob(f"crates/{crate}/proofs/**/*.antt", recursive=True)

@@ -70,7 +70,7 @@ def kinds(specs):
     believed = {item.key for item in below}
     stated = {item.key for item in [*specs.below(general), *general]} - believed
     parts = {"believed": {}, "stated": {}, "example": {}}
-    for crate in delivered():
+    for crate in closure.with_below(closure.DELIVERED):
         for module in closure.read_files(crate):
             file = specs.files[crate, module]
             keys, whole = {item.key for item in file.items.values()}, lines([file.path])
@@ -79,18 +79,6 @@ def kinds(specs):
             counted = f"{needed} of {whole}" if part == "believed" and needed < whole else str(whole)
             parts[part].setdefault(crate, []).append((f"{closure.shown(module)} ({counted})", needed if part == "believed" else whole))
     return parts
-
-
-def delivered():
-    """The crates whose promises are delivered, and all that they use, in the order of crates.txt."""
-    uses, found = closure.uses(), set()
-    todo = list(closure.DELIVERED)
-    while todo:
-        crate = todo.pop()
-        if crate in uses and crate not in found:
-            found.add(crate)
-            todo += uses[crate]
-    return [c for c in uses if c in found]
 
 
 def listed(part, mark):
@@ -104,7 +92,7 @@ def lines_in(part):
 def path():
     specs = closure.Specs()
     parts = kinds(specs)
-    whole = sum(lines([closure.path_of(crate, module)]) for crate in delivered() for module in closure.read_files(crate))
+    whole = sum(lines([closure.path_of(crate, module)]) for crate in closure.with_below(closure.DELIVERED) for module in closure.read_files(crate))
     believed = lines_in(parts["believed"])
     types = sum(item.counted() for item in specs.below(specs.delivered()) if item.module == "src")
     counted = f"{believed} of {whole} lines, and {types} lines of types and constants of the sources."

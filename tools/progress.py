@@ -37,18 +37,6 @@ OF_CRATE = re.compile(r"crate (\w+): modules loaded=")
 VERDICT = re.compile(r"logic=proved ")
 
 
-def below(wanted):
-    """The crates that the wanted ones rest on, themselves among them, in the order of crates.txt; all where none is wanted."""
-    listed = closure.uses()
-    found, waiting = set(), list(wanted or listed)
-    while waiting:
-        crate = waiting.pop()
-        if crate in listed and crate not in found:
-            found.add(crate)
-            waiting += listed[crate]
-    return [crate for crate in listed if crate in found]
-
-
 def table():
     """Seconds by crate, of what `rt ci` does behind the last of them, of the tests and of all of `rt ci`; and how many processors they were seen on."""
     return {name: int(n) for name, n in re.findall(r"^(\S+) (\d+)$", open(TABLE).read(), flags=re.M)}
@@ -58,7 +46,7 @@ class Plan:
     """What is to be done, and how long it takes by the table."""
 
     def __init__(self, wanted, gate):
-        self.took, self.gate, self.crates = table(), gate, below(wanted)
+        self.took, self.gate, self.crates = table(), gate, closure.with_below(wanted or closure.uses())
         self.rest = self.took.get("rest", 0) if gate else 0
         self.tests = self.took.get("tests", 0) if gate else 0
 

@@ -135,19 +135,17 @@ def turn(path, text, table, steps):
             return table[name] + tail
         return m[0]
 
-    def quiet(part):
-        return WORD.sub(word, part)
-
     if path.endswith(".rt"):
         at, out = 0, []
         for m in STRING.finditer(text):
-            out += [quiet_from(text, at, m.start(), word), m[0]]
+            out += [spelled(text, at, m.start(), word), m[0]]
             at = m.end()
-        return "".join(out) + quiet_from(text, at, len(text), word)
-    return quiet_from(text, 0, len(text), word)
+        return "".join(out) + spelled(text, at, len(text), word)
+    return spelled(text, 0, len(text), word)
 
 
-def quiet_from(text, start, end, word):
+def spelled(text, start, end, word):
+    """The text from start to end, with each word as `word` has it."""
     out, at = [], start
     for m in WORD.finditer(text, start, end):
         out += [text[at : m.start()], word(m)]
