@@ -6,7 +6,7 @@
 #     bash tests/bench.sh [--write]    --write: the tables go to docs/BENCHMARKS.md, below its line "## Measured"
 set -euo pipefail
 cd "$(dirname "$0")/.."
-inlined="operation_decide::decide run_schedule::attempt run_schedule::next::settle"
+inlined="operation_decide::decide run_schedule::attempt run_schedule::Carried::settle"
 # A function that is inlined at every call has no symbol of its own in the archive.
 check_inlined() {
     local function symbols

@@ -3,7 +3,7 @@
 
     python3 tests/names.py [-v] [DOCUMENT..]        -v: every name that was looked up
 
-docs/PORT.md, which sets names that were beside those that are, is passed over.
+docs/PORT.md and docs/DESIGN-PASS.md, which set names that were beside those that are, are passed over.
 
 What counts as a name, in the text of a paragraph or of a table's cell:
 - a definition or statement: `crate / File . name, name`, `crate/File.name`, `crate/File: name, name`, `crate File.name`; behind it more names
@@ -20,7 +20,7 @@ import re
 import sys
 
 ROOT = pathlib.Path(__file__).resolve().parent.parent
-DOCUMENTS = ["README.md", "CONTRIBUTING.md", "hep-tools/FORMAT.md", "examples/README.md", *sorted(f"docs/{p.name}" for p in (ROOT / "docs").glob("*.md") if p.name != "PORT.md")]
+DOCUMENTS = ["README.md", "CONTRIBUTING.md", "hep-tools/FORMAT.md", "examples/README.md", *sorted(f"docs/{p.name}" for p in (ROOT / "docs").glob("*.md") if p.name not in ("PORT.md", "DESIGN-PASS.md"))]
 KEYWORDS = {"requires", "ensures"}
 FOREIGN = {"main.c", "stdio.h", "first.hep"}         # files of whoever calls the library
 SUFFIXES = ("py", "sh", "rs", "hep", "out", "table", "h", "c", "md", "rt", "antt", "trials", "toml", "txt", "edit")

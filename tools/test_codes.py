@@ -67,7 +67,7 @@ def of_definition():
 
 def of_code():
     """The last arm is the default of the match, marked as code F."""
-    arms = column(part(CODE, "    match code {", "    }"), r" +(?P<line>(?:0x)?(?P<code>\w) => .*), // (?P<words>.*)")
+    arms = column(part(CODE, "    match c % 16 {", "    }"), r" +(?P<line>(?:0x)?(?P<code>\w) => .*), // (?P<words>.*)")
     return [("F", line, words.removesuffix(MARK)) if code == "_" and words.endswith(MARK) else (code, line, words) for code, line, words in arms]
 
 

@@ -11,7 +11,7 @@ ghost use Rattle.report.specs.Report.{output_read, output_of};
 ghost use Rattle.report_text.specs.Texts.{report_room, TextPromise};
 ghost use Rattle.batch.specs.Output.{run_text, bytes_copied, copied_into};
 
-use library::{ReadAnswer, RunAnswer, Sizes};
+use library::Sizes;
 use refusal::Refusal;
 use report_text::REPORT_ROOM;
 use step::ProcessTable;
@@ -22,7 +22,7 @@ pub const MOST_INPUT: usize = 65536;
 
 const MEMORY_ROOM: usize = 8192;
 
-// The text of a run on the state in buffers: its report, or the line of its refusal.
+// The text of a run on the state in buffers: its report, or the line of its refusal. The buffers go one by one, as hep's calls take them.
 fn run_text(
     rows: [Row; TASKS],
     table: ProcessTable,
@@ -58,10 +58,8 @@ fn run_text(
     let own = result.own;
     let answer = result.answer;
     match answer {
-        RunAnswer::Refused(e) => report_text::refusal_text(e, out),
-        RunAnswer::Counted(counts) => report_text::report_text(
-            rows_left, n.rows, table_left, counts, own, out,
-        ),
+        Err(e) => report_text::refusal_text(e, out),
+        Ok(counts) => report_text::report_text(rows_left, n.rows, table_left, counts, own, out),
     }
 }
 
@@ -93,8 +91,8 @@ fn image_text(schedule: &[u8], image: &[u8], out: &mut [u8]) -> usize
     let rows = x.rows.at;
     let table = x.table;
     match answer {
-        ReadAnswer::Refused(e) => report_text::refusal_text(e, out),
-        ReadAnswer::Read(n) => run_text(
+        Err(e) => report_text::refusal_text(e, out),
+        Ok(n) => run_text(
             rows,
             table,
             &constant_tags,
@@ -144,12 +142,8 @@ fn copy(text: &[u8], out: &mut [u8]) -> usize
     if out.len() < text.len() {
         return 0;
     }
-    let mut i = 0;
-    while i < text.len() {
-        out[i] = text[i];
-        i += 1;
-    }
-    i
+    out[..text.len()].copy_from_slice(text);
+    text.len()
 }
 
 // The output goes to the front of a buffer that is long enough. The answer is how many bytes were copied.

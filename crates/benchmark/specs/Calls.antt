@@ -1,16 +1,15 @@
 -- The buffers and the sizes of the calls for other languages: the memories are lent, rows and process table are the call's own.
-use Rattle.std.specs.Prelude.{ℕ, Bool, true, false, List}
+use Rattle.std.specs.Prelude.{ℕ, Bool, true, false, List, Result, Ok, Err}
 use Rattle.library.specs.declared.Sizes.{Sizes}
-use Rattle.library.specs.declared.ReadAnswer.{ReadAnswer}
-use Rattle.library.specs.declared.ReadAnswer.TheVariants.{Refused, Read}
 use Rattle.library.specs.Buffers.{Buffers}
 use Rattle.library.specs.Held.{lent_buffers}
 use Rattle.library.specs.Empty.{no_rows, no_processes}
+use Rattle.refusal.specs.declared.Refusal.{Refusal}
 
 -- whether an image was read
-unfoldable pub is_read : ReadAnswer → Bool
-is_read (Refused e) = false
-is_read (Read n) = true
+unfoldable pub is_read : Result Sizes Refusal → Bool
+is_read (Err e) = false
+is_read (Ok n) = true
 
 -- the lent memories beside seven rows of no task and no processes
 unfoldable pub memories_in : (constant_tags constant_words register_tags register_words program data_tags data_words : List ℕ) → Buffers

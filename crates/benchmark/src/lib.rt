@@ -4,62 +4,33 @@
 ghost use Rattle.std.specs.Prelude.{◌≡◌, length};
 ghost use Rattle.library.specs.Buffers.{room_of};
 ghost use Rattle.library.specs.Calls.{read_answer, read_leaves, write_answer, write_leaves};
-ghost use Rattle.library.specs.Empty.{no_rows, no_processes};
+ghost use Rattle.library.specs.Empty.{no_rows};
 ghost use Rattle.library.specs.Held.{lent_buffers};
 ghost use Rattle.library.specs.Promises.{read_answered, write_answered};
 ghost use Rattle.image_write.specs.Code.Lengths.{length_written};
 ghost use Rattle.benchmark.specs.Calls.{is_read, memories_in, memory_sizes};
+ghost use Rattle.window.specs.Limits.{tasks};
 
-use library::{ReadAnswer, Rows, Sizes};
-use step::{NO_TRAP, NUMBERS, PLACES, PTS, ProcessTable, Processes, QUEUES, Queue};
-use window::{Row, TASKS};
+use library::{Rows, Sizes};
+use refusal::Refusal;
+use window::TASKS;
 
-fn no_rows() -> Rows
-    ensures { result ≡ record { at = no_rows; n = 7 } }
+// Seven rows of no task.
+fn own_rows() -> Rows
+    ensures { result ≡ record { at = no_rows; n = tasks } }
 {
-    let empty = Row {
-        task: 0,
-        cb: 0,
-        rb: 0,
-        rl: 0,
-        pb: 0,
-        pl: 0,
-        db: 0,
-        dl: 0,
-        kind: NO_TRAP,
-        psw: 0,
-    };
     Rows {
-        at: [empty; TASKS],
+        at: library::no_rows(),
         n: TASKS,
     }
 }
 
-fn no_processes() -> ProcessTable
-    ensures { result ≡ no_processes }
-{
-    let none = Queue {
-        pts: [0; PLACES],
-        head: 0,
-        len: 0,
-    };
-    ProcessTable {
-        users: Processes {
-            psw: [0; PTS],
-            queues: [none; QUEUES],
-            flag: 0,
-            live: [0; NUMBERS],
-            count: 0,
-        },
-    }
-}
-
-fn is_read(x: ReadAnswer) -> bool
+fn is_read(x: Result<Sizes, Refusal>) -> bool
     ensures { result ≡ is_read x }
 {
     match x {
-        ReadAnswer::Refused(_) => false,
-        ReadAnswer::Read(_) => true,
+        Err(_) => false,
+        Ok(_) => true,
     }
 }
 
@@ -79,8 +50,8 @@ pub extern "C" fn benchmark_read(
     ensures data_words_after { let left = read_leaves (memories_in constant_tags.old constant_words.old register_tags.old register_words.old program.old data_tags.old data_words.old) image.now in lent_buffers left.rows left.table constant_tags.new constant_words.new register_tags.new register_words.new program.new data_tags.new data_words.new ≡ left }
 {
     let left = image_read::read(
-        no_rows(),
-        no_processes(),
+        own_rows(),
+        library::no_processes(),
         constant_tags,
         constant_words,
         register_tags,
@@ -117,8 +88,8 @@ pub extern "C" fn benchmark_write(
         data_words: data_words.len(),
     };
     let answer = image_write::write(
-        no_rows(),
-        no_processes(),
+        own_rows(),
+        library::no_processes(),
         constant_tags,
         constant_words,
         register_tags,

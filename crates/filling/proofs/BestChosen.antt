@@ -1,10 +1,9 @@
 -- What is promised of a filling: it is the first of the best tried; if all were tried, no other choice that keeps the rules has a larger sum,
 -- otherwise none has one above the ceiling.
-use Rattle.std.specs.Prelude.{ℕ, ◌^◌, ◌≤◌, ◌<◌, ◌≡◌, true, List, length}
+use Rattle.std.specs.Prelude.{ℕ, ◌^◌, ◌≤◌, ◌<◌, ◌≡◌, true, List, length, Ok}
 use Rattle.std.proofs.Common.{sym}
 use Rattle.std.proofs.Math.Path.{subst}
 use Rattle.filling.specs.declared.Filling.{Filling}
-use Rattle.filling.specs.declared.FillAnswer.TheVariants.{Filled}
 use Rattle.filling.specs.Filling.{sum_of, keeps_rules, tries_of, filling_of, fill_answer}
 use Rattle.filling.proofs.Laws.Best as laws
 use Rattle.filling.proofs.Laws.Ceiling.{under_ceiling}
@@ -17,7 +16,7 @@ pub record FirstOfTheBest (needs : List ℕ) (f : Filling) : Type 0 where
   pub most : (x : ℕ) → x < f.tries → keeps_rules needs x ≡ true → sum_of needs x ≤ f.sum
   pub first : (x : ℕ) → x < f.choice → keeps_rules needs x ≡ true → sum_of needs x < f.sum
 
-module _ (needs : List ℕ) (tries : ℕ) (f : Filling) (filled : fill_answer needs tries ≡ Filled f) where
+module _ (needs : List ℕ) (tries : ℕ) (f : Filling) (filled : fill_answer needs tries ≡ Ok f) where
   pub first_of_the_best : FirstOfTheBest needs f
   unfolding filling_of
   first_of_the_best = subst (FirstOfTheBest needs) (laws.answered needs tries f filled).0 found

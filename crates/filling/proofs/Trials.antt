@@ -1,13 +1,13 @@
 -- Fillings as instances that compute: choice, sum, tries, ceiling.
-use Rattle.std.specs.Prelude.{◌≡◌, refl, [], ◌∷◌, ◌++◌, ℕ, replicate}
+use Rattle.std.specs.Prelude.{Result, Ok, Err, ◌≡◌, refl, [], ◌∷◌, ◌++◌, ℕ, replicate}
+use Rattle.refusal.specs.declared.Refusal.{Refusal}
 use Rattle.refusal.specs.declared.Refusal.TheVariants.{BadJobs, NoTries}
-use Rattle.filling.specs.declared.FillAnswer.{FillAnswer}
-use Rattle.filling.specs.declared.FillAnswer.TheVariants.{Refused, Filled}
+use Rattle.filling.specs.declared.Filling.{Filling}
 use Rattle.filling.specs.Filling.{fill_answer}
 use Rattle.filling.proofs.Laws.Opened.{opened}
 
-abbrev pub filled : (choice sum tries ceiling : ℕ) → FillAnswer
-filled choice sum tries ceiling = Filled (record { choice = choice; sum = sum; tries = tries; ceiling = ceiling })
+abbrev pub filled : (choice sum tries ceiling : ℕ) → Result Filling Refusal
+filled choice sum tries ceiling = Ok (record { choice = choice; sum = sum; tries = tries; ceiling = ceiling })
 
 pub record FillTrials : Type 0 where
   -- no jobs: choice 0, sum 0, one try, ceiling 0
@@ -33,18 +33,18 @@ pub record FillTrials : Type 0 where
 pub record RefusalTrials : Type 0 where
   -- 15 jobs, 16
   pub most : fill_answer (replicate 15 2) 1 ≡ filled 0 0 1 14
-  pub more : fill_answer (replicate 16 2) 1 ≡ Refused BadJobs
+  pub more : fill_answer (replicate 16 2) 1 ≡ Err BadJobs
   -- needs of 2 and 2,048, and those beside them; a bad need in any place
   pub smallest : fill_answer (2 ∷ []) 2 ≡ filled 1 2 2 2
-  pub nothing : fill_answer (0 ∷ 2 ∷ []) 1 ≡ Refused BadJobs
-  pub odd : fill_answer (2 ∷ 3 ∷ []) 1 ≡ Refused BadJobs
+  pub nothing : fill_answer (0 ∷ 2 ∷ []) 1 ≡ Err BadJobs
+  pub odd : fill_answer (2 ∷ 3 ∷ []) 1 ≡ Err BadJobs
   pub largest : fill_answer (2048 ∷ []) 2 ≡ filled 1 2048 2 2048
-  pub larger : fill_answer (replicate 14 2 ++ (2050 ∷ [])) 1 ≡ Refused BadJobs
+  pub larger : fill_answer (replicate 14 2 ++ (2050 ∷ [])) 1 ≡ Err BadJobs
   -- zero tries; a bad need and more than 15 jobs come before it
-  pub no_tries : fill_answer (2048 ∷ []) 0 ≡ Refused NoTries
-  pub none : fill_answer [] 0 ≡ Refused NoTries
-  pub need_first : fill_answer (2 ∷ 0 ∷ []) 0 ≡ Refused BadJobs
-  pub jobs_first : fill_answer (replicate 16 2) 0 ≡ Refused BadJobs
+  pub no_tries : fill_answer (2048 ∷ []) 0 ≡ Err NoTries
+  pub none : fill_answer [] 0 ≡ Err NoTries
+  pub need_first : fill_answer (2 ∷ 0 ∷ []) 0 ≡ Err BadJobs
+  pub jobs_first : fill_answer (replicate 16 2) 0 ≡ Err BadJobs
 
 pub fill_trials : FillTrials
 unfolding opened

@@ -1,11 +1,11 @@
 -- Filling a module: which of the jobs given go in together, by their register needs (document 02, L13).
-use Rattle.std.specs.Prelude.{ℕ, zero, suc, ◌+◌, ◌/◌, ◌%◌, ◌^◌, min, Bool, true, cond, not, ◌&&◌, List, [], ◌∷◌, leb, ltb, eqb, length, take}
+use Rattle.std.specs.Prelude.{ℕ, zero, suc, ◌+◌, ◌/◌, ◌%◌, ◌^◌, min, Bool, cond, not, ◌&&◌, List, [], ◌∷◌, leb, ltb, eqb, length, take, Result, Ok, Err}
+use Rattle.std.specs.List.{list_all}
+use Rattle.refusal.specs.declared.Refusal.{Refusal}
 use Rattle.refusal.specs.declared.Refusal.TheVariants.{BadJobs, NoTries}
 use Rattle.window.specs.Limits.{most_registers}
 use Rattle.filling.specs.declared.Best.{Best}
 use Rattle.filling.specs.declared.Filling.{Filling}
-use Rattle.filling.specs.declared.FillAnswer.{FillAnswer}
-use Rattle.filling.specs.declared.FillAnswer.TheVariants.{Refused, Filled}
 
 -- the most jobs that are given, and the most that are chosen
 abbrev pub most_jobs : ℕ
@@ -21,8 +21,7 @@ unfoldable pub need_sound : ℕ → Bool
 need_sound n = eqb (n % 2) 0 && (leb 2 n && leb n most_registers)
 
 unfoldable pub needs_sound : List ℕ → Bool
-needs_sound [] = true
-needs_sound (n ∷ ns) = need_sound n && needs_sound ns
+needs_sound needs = list_all need_sound needs
 
 -- up to 15 jobs, each with a sound need
 unfoldable pub jobs_sound : List ℕ → Bool
@@ -86,8 +85,8 @@ filling_of needs tries =
     record { choice = best.choice; sum = best.sum; tries = tries_of needs tries; ceiling = ceiling_of needs }
 
 -- 17 for more than 15 jobs or a bad need, then 18 for zero tries
-unfoldable pub fill_answer : List ℕ → (tries : ℕ) → FillAnswer
+unfoldable pub fill_answer : List ℕ → (tries : ℕ) → Result Filling Refusal
 fill_answer needs tries =
-    cond (not (jobs_sound needs)) (Refused BadJobs)
-    (cond (eqb tries 0) (Refused NoTries)
-    (Filled (filling_of needs tries)))
+    cond (not (jobs_sound needs)) (Err BadJobs)
+    (cond (eqb tries 0) (Err NoTries)
+    (Ok (filling_of needs tries)))

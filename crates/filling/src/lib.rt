@@ -1,8 +1,6 @@
 // The types of filling a module: which jobs go in together (document 02, L13).
 #![tactic(auto)]
 
-use refusal::Refusal;
-
 // The most jobs that are given, and the most that are chosen.
 pub const MOST_JOBS: usize = 15;
 
@@ -22,11 +20,4 @@ pub struct Filling {
     pub sum: u64,
     pub tries: u64,
     pub ceiling: u64,
-}
-
-// What filling answers: why it is refused, or the filling.
-#[derive(Clone, Copy)]
-pub enum FillAnswer {
-    Refused(Refusal),
-    Filled(Filling),
 }

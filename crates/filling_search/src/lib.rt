@@ -4,120 +4,82 @@
 ghost use Rattle.std.specs.Prelude.{◌≡◌, true, ◌^◌, min, ◌≤◌};
 ghost use Rattle.window.specs.Limits.{most_registers};
 ghost use Rattle.filling.specs.Filling.{most_jobs, need_sound, needs_sound, jobs_sound, better_of, best_of, total, ceiling_of, fill_answer};
-ghost use Rattle.filling_search.specs.Code.Steps.{tried_of, taken_of, larger_of, smaller_of, pushed};
+ghost use Rattle.filling_search.specs.Code.Steps.{tried_of, pushed};
 
-use filling::{Best, FillAnswer, Filling, MOST_CHOSEN, MOST_JOBS};
+use filling::{Best, Filling, MOST_CHOSEN, MOST_JOBS};
 use refusal::Refusal;
 use window::MOST_REGISTERS;
 
-// The most jobs that are chosen, and the registers of a module.
-const CHOSEN: u64 = MOST_CHOSEN as u64;
-
+// The registers of a module, in the type of a sum.
 const REGISTERS: u64 = MOST_REGISTERS as u64;
-
-// A choice that was tried: it keeps the rules and has a sum, or it breaks them.
-#[derive(Clone, Copy)]
-enum Tried {
-    Kept(u64),
-    Broken,
-}
 
 // ---- the jobs
 
 // An even need from 2 to 2,048.
+#[tactic(auto, unfolding(filling::specs::Filling::need_sound))]
 fn need_sound(n: u64) -> bool
     ensures { result ≡ need_sound n }
 {
-    if n % 2 != 0 {
-        return false;
-    }
-    2 <= n && n <= REGISTERS
+    n % 2 == 0 && 2 <= n && n <= REGISTERS
 }
 
 // Every need is sound.
+#[tactic(auto, unfolding(filling::specs::Filling::needs_sound))]
 fn needs_sound(needs: &[u64]) -> bool
     ensures { result ≡ needs_sound needs.now }
 {
-    let mut i = 0;
-    while i < needs.len() {
-        if !need_sound(needs[i]) {
-            return false;
-        }
-        i += 1;
-    }
-    true
+    needs.iter().all(|need| need_sound(*need))
 }
 
 // At most 15 jobs, each with a sound need.
+#[tactic(auto, unfolding(filling::specs::Filling::jobs_sound))]
 fn jobs_sound(needs: &[u64]) -> bool
     ensures { result ≡ jobs_sound needs.now }
 {
-    if MOST_JOBS < needs.len() {
-        return false;
-    }
-    needs_sound(needs)
+    needs.len() <= MOST_JOBS && needs_sound(needs)
 }
 
 // ---- a choice
 
-// What a job adds to the sum where its bit is 1.
-fn taken(bit: u64, need: u64) -> u64
-    ensures { result ≡ taken_of bit need }
-{
-    if bit == 1 {
-        return need;
-    }
-    0
-}
-
-// A choice: its sum where it keeps the rules.
-fn try_choice(choice: u64, needs: &[u64]) -> Tried
+// A choice's sum where it keeps the rules.
+fn try_choice(choice: u64, needs: &[u64]) -> Option<u64>
     requires { jobs_sound needs.now ≡ true }
     ensures { result ≡ tried_of needs.now choice }
 {
     let mut rest = choice;
     let mut count = 0;
     let mut sum = 0;
-    let mut i = 0;
-    while i < needs.len() {
-        count = count + rest % 2;
-        sum = sum + taken(rest % 2, needs[i]);
-        rest = rest / 2;
-        i += 1;
+    for need in needs {
+        if rest % 2 == 1 {
+            count += 1;
+            sum += *need;
+        }
+        rest /= 2;
     }
-    if CHOSEN < count {
-        return Tried::Broken;
-    }
-    if REGISTERS < sum {
-        return Tried::Broken;
-    }
-    Tried::Kept(sum)
+    (count <= MOST_CHOSEN && sum <= REGISTERS).then_some(sum)
 }
 
 // A choice where it is better than the best before it, else that one.
+#[tactic(auto, unfolding(filling::specs::Filling::better_of, crate::specs::Code::Steps::tried_of))]
 fn better_of(choice: u64, needs: &[u64], best: Best) -> Best
     requires { jobs_sound needs.now ≡ true }
     ensures { result ≡ better_of needs.now choice best }
 {
-    let Tried::Kept(sum) = try_choice(choice, needs) else {
-        return best;
-    };
-    if best.sum < sum {
-        return Best { choice, sum };
+    match try_choice(choice, needs) {
+        Some(sum) if best.sum < sum => Best { choice, sum },
+        _ => best,
     }
-    best
 }
 
 // The first of the best of so many choices, tried from 0 upward.
+#[tactic(auto, using(crate::specs::Laws::Choices::best_next), unfolding(filling::specs::Filling::best_of))]
 fn best_of(needs: &[u64], tries: u64) -> Best
     requires { jobs_sound needs.now ≡ true }
     ensures { result ≡ best_of needs.now tries }
 {
     let mut best = Best { choice: 0, sum: 0 };
-    let mut x = 0;
-    while x < tries {
-        best = better_of(x, needs, best);
-        x += 1;
+    for choice in 0..tries {
+        best = better_of(choice, needs, best);
     }
     best
 }
@@ -127,44 +89,20 @@ fn tries_made(jobs: usize, tries: u64) -> u64
     requires { jobs ≤ most_jobs }
     ensures { result ≡ min tries (2 ^ jobs) }
 {
-    let all = 1u64 << jobs;
-    if tries < all {
-        return tries;
-    }
-    all
+    tries.min(1 << jobs)
 }
 
 // ---- the ceiling
-
-fn larger(m: u64, n: u64) -> u64
-    ensures { result ≡ larger_of m n }
-{
-    if m <= n {
-        return n;
-    }
-    m
-}
-
-fn smaller(m: u64, n: u64) -> u64
-    ensures { result ≡ smaller_of m n }
-{
-    if m <= n {
-        return m;
-    }
-    n
-}
 
 // A number goes into places in descending order; the smallest is lost.
 fn push(n: u64, tops: &mut [u64])
     ensures { tops.new ≡ pushed n tops.old }
 {
     let mut carry = n;
-    let mut j = 0;
-    while j < tops.len() {
-        let m = tops[j];
-        tops[j] = larger(m, carry);
-        carry = smaller(m, carry);
-        j += 1;
+    for top in tops.iter_mut() {
+        if *top <= carry {
+            std::mem::swap(top, &mut carry);
+        }
     }
 }
 
@@ -172,16 +110,11 @@ fn push(n: u64, tops: &mut [u64])
 fn capped(tops: &[u64]) -> u64
     ensures { result ≡ min most_registers (total tops.now) }
 {
-    let mut sum = 0;
-    let mut i = 0;
-    while i < tops.len() {
-        if REGISTERS - sum <= tops[i] {
-            return REGISTERS;
-        }
-        sum = sum + tops[i];
-        i += 1;
+    let mut sum: u64 = 0;
+    for top in tops {
+        sum = sum.saturating_add(*top);
     }
-    sum
+    sum.min(REGISTERS)
 }
 
 // The smaller of 2,048 and the sum of the seven largest needs.
@@ -189,10 +122,8 @@ fn ceiling(needs: &[u64]) -> u64
     ensures { result ≡ ceiling_of needs.now }
 {
     let mut tops = [0u64; MOST_CHOSEN];
-    let mut i = needs.len();
-    while 0 < i {
-        i -= 1;
-        push(needs[i], &mut tops);
+    for need in needs.iter().rev() {
+        push(*need, &mut tops);
     }
     capped(&tops)
 }
@@ -200,18 +131,19 @@ fn ceiling(needs: &[u64]) -> u64
 // ---- the call
 
 // The first of the best choices of jobs with these register needs, of so many tries: 17 for more than 15 jobs or a bad need, then 18 for zero tries.
-pub fn fill(needs: &[u64], tries: u64) -> FillAnswer
+#[tactic(auto, using(crate::specs::Laws::Jobs::few_jobs), unfolding(filling::specs::Filling::fill_answer, filling::specs::Filling::filling_of, filling::specs::Filling::tries_of))]
+pub fn fill(needs: &[u64], tries: u64) -> Result<Filling, Refusal>
     ensures { result ≡ fill_answer needs.now tries }
 {
     if !jobs_sound(needs) {
-        return FillAnswer::Refused(Refusal::BadJobs);
+        return Err(Refusal::BadJobs);
     }
     if tries == 0 {
-        return FillAnswer::Refused(Refusal::NoTries);
+        return Err(Refusal::NoTries);
     }
     let made = tries_made(needs.len(), tries);
     let best = best_of(needs, made);
-    FillAnswer::Filled(Filling {
+    Ok(Filling {
         choice: best.choice,
         sum: best.sum,
         tries: made,

@@ -11,7 +11,8 @@ use std::io::{Read, Write};
 // An input that fills it is refused for its length, whatever follows.
 const INPUT_ROOM: usize = batch::MOST_INPUT + 1;
 
-// Reads until the buffer is full or the input ends. The answer is how many bytes were read, which lie at the buffer's front.
+// Reads until the buffer is full or the input ends. The answer is how many bytes were read, which lie at the buffer's front. The loop is written out,
+// since std has no method that stops at the input's end and says how much of a lent buffer it filled.
 fn read_full<R: Read>(input: &mut R, buffer: &mut [u8]) -> io::Result<usize>
     ensures fits { IfOk result (λ n. n ≤ length buffer.new) }
     ensures bytes { IfOk result (λ n. Consumes (R.remaining input.old) (R.remaining input.new) (take n buffer.new)) }

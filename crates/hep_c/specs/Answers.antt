@@ -1,17 +1,12 @@
 -- What the calls for C and Rust answer, and what they leave in the lent slices. A call answers the number of its refusal, 0 where there is
 -- none; on a refusal every lent number stays.
-use Rattle.std.specs.Prelude.{ℕ, ◌+◌, ◌*◌, ◌≡◌, Bool, cond, ◌&&◌, List, [], ◌∷◌, ◌++◌, leb, ltb, length, drop}
-use Rattle.std.proofs.Math.Option.{Option, none, some}
+use Rattle.std.specs.Prelude.{ℕ, ◌+◌, ◌*◌, ◌≡◌, Bool, cond, ◌&&◌, List, [], ◌∷◌, ◌++◌, Result, Ok, Err, leb, ltb, length, drop, Option, None, Some}
 use Rattle.refusal.specs.declared.Refusal.{Refusal}
 use Rattle.refusal.specs.declared.Refusal.TheVariants.{ShortBuffer}
 use Rattle.filling.specs.declared.Filling.{Filling}
-use Rattle.filling.specs.declared.FillAnswer.{FillAnswer}
-use Rattle.filling.specs.declared.FillAnswer.TheVariants as fill
 use Rattle.run.specs.declared.Counts.{Counts}
 use Rattle.run.specs.Schedule.{schedule_refusal}
 use Rattle.run.specs.Run.{Tally, Ran, no_counts, run}
-use Rattle.library.specs.declared.RunAnswer.{RunAnswer}
-use Rattle.library.specs.declared.RunAnswer.TheVariants.{Refused, Counted}
 use Rattle.image.specs.Image.{state_of, Decoded, bad, good, decode, encode, process_length}
 use Rattle.image.specs.Fields.{over}
 use Rattle.library.specs.declared.Sizes.{Sizes}
@@ -29,7 +24,7 @@ use Rattle.window.specs.Limits.{tasks}
 -- ---- numbers that go to the front of a slice: 7 where it is too short
 
 unfoldable pub listed_answer : (slots : ℕ) → List ℕ → Answer (List ℕ)
-listed_answer slots numbers = unless (cond (ltb slots (length numbers)) (some ShortBuffer) none) numbers
+listed_answer slots numbers = unless (cond (ltb slots (length numbers)) (Some ShortBuffer) None) numbers
 
 unfoldable pub listed_left : Answer (List ℕ) → (slice : List ℕ) → List ℕ
 listed_left (refuses e) slice = slice
@@ -51,9 +46,9 @@ sizes_answer slots (good i) = listed_answer slots (sizes_listed (sizes_of (state
 unfoldable pub filling_listed : Filling → List ℕ
 filling_listed f = f.choice ∷ f.sum ∷ f.tries ∷ f.ceiling ∷ []
 
-unfoldable pub filling_answer : (slots : ℕ) → FillAnswer → Answer (List ℕ)
-filling_answer slots (fill.Refused e) = refuses e
-filling_answer slots (fill.Filled f) = listed_answer slots (filling_listed f)
+unfoldable pub filling_answer : (slots : ℕ) → Result Filling Refusal → Answer (List ℕ)
+filling_answer slots (Err e) = refuses e
+filling_answer slots (Ok f) = listed_answer slots (filling_listed f)
 
 -- ---- hep_run: the image's refusals, then 7, then 9 and 10
 
@@ -107,7 +102,12 @@ results_fit image output counts report = leb (image + growth) output && (leb cou
 -- 7: a memory is too short for the state, or a slice for its result; then 9 and 10. The call has places for seven rows itself
 unfoldable pub lengths_refusal : (schedule : List ℕ) → Sizes → Room → (image output counts report : ℕ) → Option Refusal
 lengths_refusal schedule n memories image output counts report =
-    or_else (cond (fits n memories && results_fit image output counts report) none (some ShortBuffer)) (schedule_refusal schedule)
+    or_else (cond (fits n memories && results_fit image output counts report) None (Some ShortBuffer)) (schedule_refusal schedule)
+
+-- what a check answers: its refusal, if any
+unfoldable pub unless_refused : Option Refusal → Result Unit Refusal
+unless_refused None = Ok tt
+unless_refused (Some e) = Err e
 
 unfoldable pub image_run_refusal : (image schedule : List ℕ) → Sizes → Slices → Option Refusal
 image_run_refusal image schedule n l =
@@ -155,6 +155,6 @@ pub record ImageRunPromise (image schedule : List ℕ) (before : Slices) (r : �
 -- ---- what the calls below it answered
 
 -- no counts where a run was refused
-unfoldable pub counts_answered : RunAnswer → Counts
-counts_answered (Refused e) = no_counts
-counts_answered (Counted c) = c
+unfoldable pub counts_answered : Result Counts Refusal → Counts
+counts_answered (Err e) = no_counts
+counts_answered (Ok c) = c

@@ -1,6 +1,5 @@
 -- The image that hep_run leaves in the output.
-use Rattle.std.specs.Prelude.{ℕ, ◌≡◌, List, length}
-use Rattle.std.proofs.Math.Option.{none}
+use Rattle.std.specs.Prelude.{ℕ, ◌≡◌, List, length, None}
 use Rattle.run.specs.Run.{run}
 use Rattle.run.proofs.Kept.{run_keeps_sound}
 use Rattle.image.specs.Codec.{Bytes}
@@ -13,7 +12,7 @@ use Rattle.hep_c.specs.Answers.{Slices, image_run_refusal, image_run_answer, ima
 
 -- it is accepted and reads as the state after the run
 pub output_holds : (image schedule : List ℕ) (l : Slices) (i : Image) → Bytes image → decode image ≡ good i
-    → image_run_refusal image schedule (sizes_of (state_of i)) l ≡ none
+    → image_run_refusal image schedule (sizes_of (state_of i)) l ≡ None
     → HoldsImage (run schedule (state_of i)).state (length (encode (run schedule (state_of i)).state))
     (image_run_left (image_run_answer image schedule l (decode image)) l).output
 unfolding image_run_answer image_run_left unless

@@ -2,25 +2,22 @@
 #![tactic(auto)]
 
 ghost use Rattle.std.specs.Prelude.{◌≡◌, ◌*◌, ◌≤◌, length, drop};
-ghost use Rattle.std.proofs.Math.Option.{none};
 ghost use Rattle.image.specs.Image.{decode};
 ghost use Rattle.image.specs.Fields.{over};
 ghost use Rattle.run.specs.Schedule.{schedule_refusal};
-ghost use Rattle.library.specs.declared.ReadAnswer.TheVariants.{Read};
 ghost use Rattle.library.specs.Calls.{check_answer};
 ghost use Rattle.library.specs.Promises.{read_answered};
-ghost use Rattle.library.specs.Numbers.{numbered};
 ghost use Rattle.library.specs.Held.{room_from};
 ghost use Rattle.report.specs.Report.{output_of};
 ghost use Rattle.report_text.specs.Texts.{tally};
 ghost use Rattle.batch.specs.Output.{bytes_copied, copied_into};
 ghost use Rattle.filling.specs.Filling.{fill_answer};
-ghost use Rattle.hep_c.specs.Answers.{number_answered, listed_answer, listed_left, sizes_listed, sizes_answer, filling_listed, filling_answer, slices, results_fit, lengths_refusal, image_run_refusal, image_run_answer, count_kinds, count_numbers, kinds_listed, own_listed, counts_listed, image_run_left, ImageRunPromise, counts_answered};
+ghost use Rattle.hep_c.specs.Answers.{number_answered, listed_answer, listed_left, sizes_listed, sizes_answer, filling_listed, filling_answer, slices, results_fit, unless_refused, lengths_refusal, image_run_refusal, image_run_answer, count_kinds, count_numbers, kinds_listed, own_listed, counts_listed, image_run_left, ImageRunPromise, counts_answered};
 ghost use Rattle.window.specs.Limits.{tasks};
 
-use filling::{FillAnswer, Filling};
+use filling::Filling;
 use image::PROCESS_BYTES;
-use library::{ReadAnswer, RunAnswer, Sizes};
+use library::Sizes;
 use refusal::Refusal;
 use report_text::REPORT_ROOM;
 use run::{Counts, MOST_ITEMS, TASK_NUMBERS};
@@ -46,11 +43,7 @@ fn put_numbers(numbers: &[u64], out: &mut [u64])
     requires { length numbers.now ≤ length out.old }
     ensures { out.new ≡ over numbers.now out.old }
 {
-    let mut i = 0;
-    while i < numbers.len() {
-        out[i] = numbers[i];
-        i += 1;
-    }
+    out[..numbers.len()].copy_from_slice(numbers);
 }
 
 // Puts numbers to the front of a slice: 7 where it has no room for them.
@@ -74,8 +67,8 @@ pub extern "C" fn hep_check(image: &[u8]) -> u32
 {
     let found = image_check::check(image);
     match found {
-        ReadAnswer::Refused(e) => refusal::number(e) as u32,
-        ReadAnswer::Read(_) => 0,
+        Err(e) => refusal::number(e) as u32,
+        Ok(_) => 0,
     }
 }
 
@@ -102,25 +95,25 @@ pub extern "C" fn hep_sizes(image: &[u8], sizes: &mut [u64]) -> u32
 {
     let found = image_check::check(image);
     match found {
-        ReadAnswer::Refused(e) => refusal::number(e) as u32,
-        ReadAnswer::Read(n) => put_sizes(n, sizes),
+        Err(e) => refusal::number(e) as u32,
+        Ok(n) => put_sizes(n, sizes),
     }
 }
 
 // ---- a run
 
-fn counts_answered(answer: RunAnswer) -> Counts
+fn counts_answered(answer: Result<Counts, Refusal>) -> Counts
     ensures { result ≡ counts_answered answer }
 {
     match answer {
-        RunAnswer::Refused(_) => Counts {
+        Err(_) => Counts {
             executed: 0,
             waved: 0,
             trapped: 0,
             idle: 0,
             tries: 0,
         },
-        RunAnswer::Counted(c) => c,
+        Ok(c) => c,
     }
 }
 
@@ -128,33 +121,24 @@ fn counts_answered(answer: RunAnswer) -> Counts
 fn results_fit(image: usize, output: usize, counts: usize, report: usize) -> bool
     ensures { result ≡ results_fit image output counts report }
 {
-    if output < GROWTH {
-        return false;
-    }
-    if output - GROWTH < image {
-        return false;
-    }
-    if counts < COUNTS {
-        return false;
-    }
-    REPORT_ROOM <= report
+    GROWTH <= output && image <= output - GROWTH && COUNTS <= counts && REPORT_ROOM <= report
 }
 
-// The number of 9 or 10; 0 where the schedule is accepted.
-fn schedule_number(schedule: &[u8]) -> u32
-    ensures { result ≡ numbered (schedule_refusal schedule.now) }
+// 9 and 10.
+fn check_schedule(schedule: &[u8]) -> Result<(), Refusal>
+    ensures { result ≡ unless_refused (schedule_refusal schedule.now) }
 {
     if MOST_ITEMS < schedule.len() {
-        return refusal::number(Refusal::ListTooLong) as u32;
+        return Err(Refusal::ListTooLong);
     }
     if !run_schedule::items_sound(schedule) {
-        return refusal::number(Refusal::ItemOutOfRange) as u32;
+        return Err(Refusal::ItemOutOfRange);
     }
-    0
+    Ok(())
 }
 
-// The number of 7, then 9, then 10; 0 where none applies.
-fn lengths_number(
+// 7, then 9 and 10.
+fn check_lengths(
     schedule: &[u8],
     n: Sizes,
     constant_tags: usize,
@@ -168,8 +152,8 @@ fn lengths_number(
     output: usize,
     counts: usize,
     report: usize,
-) -> u32
-    ensures { result ≡ numbered (lengths_refusal schedule.now n (room_from tasks constant_tags constant_words register_tags register_words program data_tags data_words) image output counts report) }
+) -> Result<(), Refusal>
+    ensures { result ≡ unless_refused (lengths_refusal schedule.now n (room_from tasks constant_tags constant_words register_tags register_words program data_tags data_words) image output counts report) }
 {
     if !library_state::fits(
         n,
@@ -182,12 +166,12 @@ fn lengths_number(
         data_tags,
         data_words,
     ) {
-        return refusal::number(Refusal::ShortBuffer) as u32;
+        return Err(Refusal::ShortBuffer);
     }
     if !results_fit(image, output, counts, report) {
-        return refusal::number(Refusal::ShortBuffer) as u32;
+        return Err(Refusal::ShortBuffer);
     }
-    schedule_number(schedule)
+    check_schedule(schedule)
 }
 
 // The counts of a run, or of a task.
@@ -210,10 +194,8 @@ fn put_own(own: [Counts; TASK_NUMBERS], out: &mut [u64])
     requires { tasks * count_kinds ≤ length out.old }
     ensures { out.new ≡ over (own_listed (drop 1 own)) out.old }
 {
-    let mut i = 0;
-    while i < TASKS {
+    for i in 0..TASKS {
         put_kinds(own[i + 1], &mut out[i * COUNT_KINDS..]);
-        i += 1;
     }
 }
 
@@ -234,7 +216,7 @@ fn put_counts(
     put_own(own, &mut counts[RUN_NUMBERS..]);
 }
 
-// Reads, runs, writes and reports, where nothing is refused.
+// Reads, runs, writes and reports, where nothing is refused. The slices go one by one, as C lends them and as hep's calls take them.
 fn run_accepted(
     image: &[u8],
     n: Sizes,
@@ -250,8 +232,8 @@ fn run_accepted(
     counts: &mut [u64],
     report: &mut [u8],
 )
-    requires found { read_answered (check_answer (decode image.now)) ≡ Read n }
-    requires fine { image_run_refusal image.now schedule.now n (slices constant_tags.old constant_words.old register_tags.old register_words.old program.old data_tags.old data_words.old output.old counts.old report.old) ≡ none }
+    requires found { read_answered (check_answer (decode image.now)) ≡ Ok n }
+    requires fine { image_run_refusal image.now schedule.now n (slices constant_tags.old constant_words.old register_tags.old register_words.old program.old data_tags.old data_words.old output.old counts.old report.old) ≡ None }
     ensures { slices constant_tags.new constant_words.new register_tags.new register_words.new program.new data_tags.new data_words.new output.new counts.new report.new ≡ image_run_left (image_run_answer image.now schedule.now (slices constant_tags.old constant_words.old register_tags.old register_words.old program.old data_tags.old data_words.old output.old counts.old report.old) (decode image.now)) (slices constant_tags.old constant_words.old register_tags.old register_words.old program.old data_tags.old data_words.old output.old counts.old report.old) }
 {
     let x = hep::read_owned(
@@ -320,10 +302,10 @@ fn run_sound(
     counts: &mut [u64],
     report: &mut [u8],
 ) -> u32
-    requires { read_answered (check_answer (decode image.now)) ≡ Read n }
+    requires { read_answered (check_answer (decode image.now)) ≡ Ok n }
     ensures { ImageRunPromise image.now schedule.now (slices constant_tags.old constant_words.old register_tags.old register_words.old program.old data_tags.old data_words.old output.old counts.old report.old) result (slices constant_tags.new constant_words.new register_tags.new register_words.new program.new data_tags.new data_words.new output.new counts.new report.new) }
 {
-    let number = lengths_number(
+    let lengths = check_lengths(
         schedule,
         n,
         constant_tags.len(),
@@ -338,8 +320,8 @@ fn run_sound(
         counts.len(),
         report.len(),
     );
-    if number != 0 {
-        return number;
+    if let Err(e) = lengths {
+        return refusal::number(e) as u32;
     }
     run_accepted(
         image,
@@ -380,8 +362,8 @@ pub extern "C" fn hep_run(
 {
     let found = image_check::check(image);
     match found {
-        ReadAnswer::Refused(e) => refusal::number(e) as u32,
-        ReadAnswer::Read(n) => run_sound(
+        Err(e) => refusal::number(e) as u32,
+        Ok(n) => run_sound(
             image,
             n,
             schedule,
@@ -425,9 +407,8 @@ pub extern "C" fn hep_fill(needs: &[u64], tries: u64, filling: &mut [u64]) -> u3
     ensures answer { result ≡ number_answered (filling_answer (length filling.old) (fill_answer needs.now tries)) }
     ensures left { filling.new ≡ listed_left (filling_answer (length filling.old) (fill_answer needs.now tries)) filling.old }
 {
-    let found = filling_search::fill(needs, tries);
-    match found {
-        FillAnswer::Refused(e) => refusal::number(e) as u32,
-        FillAnswer::Filled(f) => put_filling(f, filling),
+    match filling_search::fill(needs, tries) {
+        Ok(f) => put_filling(f, filling),
+        Err(e) => refusal::number(e) as u32,
     }
 }

@@ -2,18 +2,17 @@
 use Prim.Native.Nat.{ℕ, suc, ◌+◌, ◌-◌, ◌*◌, ◌≤◌, ◌<◌}
 use mathlib.Core.Path.{◌≡◌, sym, ap₂, ◌∙◌}
 use mathlib.Core.List.{List, ◌++◌, append_assoc, append-nil}
-use native.Mathlib.Nat.{sub-zero, mul-suc, mul-add, add-sub_cancel_left}
+use native.Mathlib.Nat.{mul-suc}
 use native.Mathlib.Numerals.{add-one}
 use native.Mathlib.Omega.{arith}
-use lib.ListN.{length, take, drop, set, length-set, length-drop, length-append}
-use lib.Seq.{take-suc-set, take_all, take_at, length-take-le}
-use borrow.Rule.Slice.PartMut.{mid_of, post_of, put_mid, mid_len}
+use lib.ListN.{length, take, drop, set, length-set, length-drop}
+use lib.Seq.{take-suc-set, take_all}
 use borrow.Author.Tests.{le-leb, lt-leb, eq-eqb, ne_eqb}
 use Rattle.window.specs.Memories.{memory, tag_of, word_of}
 use Rattle.image.specs.Image.{memory_of, cell_length, word_length}
 use Rattle.image.specs.Fields.{paired}
 use Rattle.image_bytes.specs.Code.Reading.{field_at, listed, words_at, cell_from, cells_at, filled_words, filled_cells}
-use Rattle.image_bytes.specs.Laws.Listed.{length_listed, listed_add, map_listed}
+use Rattle.image_bytes.specs.Laws.Listed.{map_listed}
 
 -- i of n values are in l; the next stands at p of `long` bytes; what is still to come completes what is wanted
 pub record Filling (stride : ℕ) (f : ℕ → ℕ) (long at n : ℕ) (l : List ℕ) (p i : ℕ) : Type 0 where
@@ -23,49 +22,18 @@ pub record Filling (stride : ℕ) (f : ℕ → ℕ) (long at n : ℕ) (l : List 
   pub all : take i l ++ listed stride f (n - i) p ≡ listed stride f n at
 
 module _ (stride : ℕ) (f : ℕ → ℕ) (long at n : ℕ) (l : List ℕ) where
-  pub start : stride * n ≤ long - at → length l ≡ n → Filling stride f long at n l at 0
-  start h e = record { most = omega arith; inside = rw sub-zero h; size = e; all = rw sub-zero }
-
   module _ (p i : ℕ) (z : Filling stride f long at n l p i) where
-    pub fits : i < n → stride ≤ long - p
-    fits h =
-        let e : n - i ≡ suc (n - (i + 1)) = omega arith in
-        let m : stride * (n - i) ≡ stride * (n - (i + 1)) + stride = rw (e, mul-suc) in
-        omega (arith, z.inside)
-
     -- v is the next
-    pub step : {v : ℕ} → i < n → v ≡ f p → Filling stride f long at n (set l i v) (p + stride) (i + 1)
+    pub step : {v q : ℕ} → q ≡ p + stride → i < n → v ≡ f p → Filling stride f long at n (set l i v) q (i + 1)
     unfolding listed
-    step {v} h hv =
+    step {v} b h hv =
         let e : n - i ≡ suc (n - suc i) = omega arith in
         let m : stride * (n - i) ≡ stride * (n - suc i) + stride = rw (e, mul-suc) in
         record {
           most = omega arith;
-          inside = rw add-one (omega (arith, z.inside));
+          inside = rw (b, add-one) (omega (arith, z.inside));
           size = length-set l i _ ∙ z.size;
-          all = rw (hv, add-one i, take-suc-set l i (f p) (omega (arith, z.size)), append_assoc) (rw e at z.all);
-        }
-
-    -- a block of k more, put where the next k places of l were
-    pub steps : (k : ℕ) {part : List ℕ} → i + k ≤ n → part ≡ listed stride f (length (mid_of i (i + k - i) l)) p
-        → Filling stride f long at n (put_mid i (i + k - i) l part) (p + stride * k) (i + k)
-    steps k {part} h e₀ =
-        let q : length (mid_of i (i + k - i) l) ≡ k = mid_len i (i + k) l (omega (arith, z.size)) ∙ add-sub_cancel_left i k in
-        let e : part ≡ listed stride f k p = rw q at e₀ in
-        let rest = post_of i (i + k - i) l in
-        let r : length rest ≡ n - (i + k) = rw (length-drop, length-drop, z.size) (omega arith) in
-        let a : n - i ≡ k + (n - (i + k)) = omega arith in
-        let m : stride * (n - i) ≡ stride * k + stride * (n - (i + k)) = rw a (mul-add stride k (n - (i + k))) in
-        let t : length (take i l) ≡ i = length-take-le i l (omega (arith, z.size)) in
-        let g : length part ≡ k = rw e (length_listed stride f k p) in
-        let b : length (take i l ++ part) ≡ i + k = rw (length-append, t, g) in
-        let c : take (i + k) (take i l ++ (part ++ rest)) ≡ take i l ++ part = rw (← append_assoc (take i l) part rest) (take_at (take i l ++ part) rest (i + k) b) in
-        let d : listed stride f (n - i) p ≡ part ++ listed stride f (n - (i + k)) (p + stride * k) = rw (a, e) (listed_add stride f k (n - (i + k)) p) in
-        record {
-          most = h;
-          inside = omega (arith, z.inside);
-          size = rw (length-append, length-append, t, g, r) (omega arith);
-          all = rw (c, append_assoc, ← d) z.all;
+          all = rw (b, hv, add-one i, take-suc-set l i (f p) (omega (arith, z.size)), append_assoc) (rw e at z.all);
         }
 
     pub done : n ≤ i → l ≡ listed stride f n at

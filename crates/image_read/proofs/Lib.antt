@@ -1,4 +1,4 @@
-pub mod Repeated
+pub mod Listed
 pub mod Rows
 pub mod Table
 pub mod Fills

@@ -1,4 +1,5 @@
 // Reading an image: rows and process table by value, words and cells into lent buffers. All is checked before anything is filled.
+// `as` stands where Rust has no `From`: between usize and u64, and to a narrower number, which is proved to fit.
 #![tactic(auto)]
 
 ghost use Rattle.std.specs.Prelude.{◌≡◌, List, true, min, ◌+◌, ◌-◌, ◌*◌, ◌≤◌, length};
@@ -13,13 +14,12 @@ ghost use Rattle.library.specs.Calls.{check_answer};
 ghost use Rattle.library.specs.Held.{room_from, lent_buffers};
 ghost use Rattle.library.specs.Code.HeldRows.{held_rows, SamePlaces};
 ghost use Rattle.library.specs.Promises.{read_answered, ReadPromise};
-ghost use Rattle.library.specs.declared.ReadAnswer.TheVariants.{Refused, Read};
 ghost use Rattle.image_check.specs.Code.Places.{rows_at, processes_at, image_at};
 ghost use Rattle.image_read.specs.Code.Room.{Room};
 ghost use Rattle.window.specs.Limits.{tasks};
 
 use image::{CELL_BYTES, PROCESS_BYTES, ROW_BYTES, WORD_BYTES};
-use library::{AfterRead, ReadAnswer, Rows, Sizes};
+use library::{AfterRead, Rows, Sizes};
 use refusal::Refusal;
 use step::{PLACES, PTS, ProcessTable, Processes, QUEUES, Queue};
 use window::{Row, TASKS};
@@ -32,12 +32,8 @@ fn rows_at(image: &[u8], n: usize, old: [Row; TASKS]) -> [Row; TASKS]
     ensures { result ≡ over (rows_at n image.now) old }
 {
     let mut rows = old;
-    let mut p = 1;
-    let mut i = 0;
-    while i < n {
-        rows[i] = image_check::row_at(image, p);
-        p += ROW_BYTES;
-        i += 1;
+    for i in 0..n {
+        rows[i] = image_check::row_at(image, 1 + ROW_BYTES * i);
     }
     rows
 }
@@ -50,15 +46,10 @@ fn psws_at(image: &[u8], at: usize, m: usize) -> [u64; PTS]
     ensures { result ≡ psw_table (processes_at m at image.now) }
 {
     let mut psw = [0; PTS];
-    let mut p = at + PROCESS_BYTES * m;
-    let mut j = 0;
-    while j < m {
-        p -= PROCESS_BYTES;
-        j += 1;
+    for i in (0..m).rev() {
+        let p = at + PROCESS_BYTES * i;
         let pt = image_bytes::number_at(image, p, 1) as usize;
-        if pt < PTS {
-            psw[pt] = image_bytes::number_at(image, p + 2, 8);
-        }
+        window::set_at(&mut psw, pt, image_bytes::number_at(image, p + 2, 8));
     }
     psw
 }
@@ -70,15 +61,12 @@ fn queue_at(image: &[u8], at: usize, m: usize, t: u64) -> Queue
 {
     let mut pts = [0; PLACES];
     let mut len = 0;
-    let mut p = at;
-    let mut k = m;
-    while 0 < k {
+    for i in 0..m {
+        let p = at + PROCESS_BYTES * i;
         if image_check::queue_of_byte(image_bytes::number_at(image, p + 1, 1)) == t {
             pts[len] = image_bytes::number_at(image, p, 1) as u8;
             len += 1;
         }
-        p += PROCESS_BYTES;
-        k -= 1;
     }
     Queue { pts, head: 0, len }
 }
@@ -87,16 +75,9 @@ fn queues_at(image: &[u8], at: usize, m: usize) -> [Queue; QUEUES]
     requires { (at + process_length * m ≤ 65536) × (m ≤ 64) }
     ensures { result ≡ queues_of queue_count 0 (processes_at m at image.now) }
 {
-    let empty = Queue {
-        pts: [0; PLACES],
-        head: 0,
-        len: 0,
-    };
-    let mut queues = [empty; QUEUES];
-    let mut k = 0;
-    while k < QUEUES {
+    let mut queues = [library::empty_queue(); QUEUES];
+    for k in 0..QUEUES {
         queues[k] = queue_at(image, at, m, k as u64);
-        k += 1;
     }
     queues
 }
@@ -181,12 +162,12 @@ fn fill(
 // ---- the whole
 
 fn refused(e: Refusal, rows: Rows, table: ProcessTable) -> AfterRead
-    ensures { result ≡ record { rows = rows; table = table; answer = Refused e } }
+    ensures { result ≡ record { rows = rows; table = table; answer = Err e } }
 {
     AfterRead {
         rows,
         table,
-        answer: ReadAnswer::Refused(e),
+        answer: Err(e),
     }
 }
 
@@ -203,7 +184,7 @@ fn read_fitting(
     image: &[u8],
     n: Sizes,
 ) -> AfterRead
-    requires { (read_answered (check_answer (decode image.now)) ≡ Read n) × (fits n (room_from (min rows.n tasks) (length constant_tags.old) (length constant_words.old) (length register_tags.old) (length register_words.old) (length program.old) (length data_tags.old) (length data_words.old)) ≡ true) }
+    requires { (read_answered (check_answer (decode image.now)) ≡ Ok n) × (fits n (room_from (min rows.n tasks) (length constant_tags.old) (length constant_words.old) (length register_tags.old) (length register_words.old) (length program.old) (length data_tags.old) (length data_words.old)) ≡ true) }
     ensures { (table : ProcessTable) → ReadPromise (lent_buffers (held_rows rows) table constant_tags.old constant_words.old register_tags.old register_words.old program.old data_tags.old data_words.old) image.now result.answer (lent_buffers (held_rows result.rows) result.table constant_tags.new constant_words.new register_tags.new register_words.new program.new data_tags.new data_words.new) × SamePlaces rows result.rows }
 {
     let old = rows.at;
@@ -226,7 +207,7 @@ fn read_fitting(
     AfterRead {
         rows: Rows { at, n: rows.n },
         table,
-        answer: ReadAnswer::Read(n),
+        answer: Ok(n),
     }
 }
 
@@ -244,7 +225,7 @@ fn read_sound(
     image: &[u8],
     n: Sizes,
 ) -> AfterRead
-    requires { read_answered (check_answer (decode image.now)) ≡ Read n }
+    requires { read_answered (check_answer (decode image.now)) ≡ Ok n }
     ensures { ReadPromise (lent_buffers (held_rows rows) table constant_tags.old constant_words.old register_tags.old register_words.old program.old data_tags.old data_words.old) image.now result.answer (lent_buffers (held_rows result.rows) result.table constant_tags.new constant_words.new register_tags.new register_words.new program.new data_tags.new data_words.new) × SamePlaces rows result.rows }
 {
     if !library_state::fits(
@@ -291,8 +272,8 @@ pub fn read(
 {
     let found = image_check::check(image);
     match found {
-        ReadAnswer::Refused(e) => refused(e, rows, table),
-        ReadAnswer::Read(n) => read_sound(
+        Err(e) => refused(e, rows, table),
+        Ok(n) => read_sound(
             rows,
             table,
             constant_tags,

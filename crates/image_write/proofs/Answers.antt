@@ -1,4 +1,5 @@
 -- What the sizes of a sound state are, how long its image is, and the three answers of a write.
+use Rattle.std.proofs.Common.{Ok, Err}
 use Prim.Native.Nat.{ℕ, min, ◌+◌, ◌≤◌, ◌<◌}
 use mathlib.Core.Path.{◌≡◌, sym, ap, ◌∙◌}
 use mathlib.Core.Bool.{Bool, true, false}
@@ -28,7 +29,6 @@ use Rattle.step_soundness.proofs.Seeing.{zero_of}
 use Rattle.step_soundness.specs.Code.Held.{state_in}
 use Rattle.library.specs.declared.Sizes.{Sizes}
 use Rattle.library.specs.declared.Rows.{Rows}
-use Rattle.library.specs.declared.WriteAnswer.TheVariants.{Refused, Wrote}
 use Rattle.library.specs.Buffers.{Buffers, fields_in}
 use Rattle.library.specs.Calls.{unless, leaving, or_else, state_refused, state_refusal, output_refusal, write_refusal, write_answer, write_leaves}
 use Rattle.library.specs.Promises.{write_answered, WritePromise}
@@ -143,7 +143,8 @@ module _ (v : Rows) (table : ProcessTable) (constant_tags constant_words registe
       ap length bytes
       ∙ simp (
         length-append,
-        tasks_size v.at n.rows (omega (arith, few, seven)),
+        tasks_size (take n.rows v.at),
+        length-take-le n.rows v.at (omega (arith, few, seven)),
         processes_size table.users.psw table.users.flag table.users.queues m k,
         words_size,
         cells_size 2 (take n.constants constant_words) (take n.constants constant_tags) constants_cut,
@@ -159,19 +160,19 @@ module _ (v : Rows) (table : ProcessTable) (constant_tags constant_words registe
 -- ---- the answers
 
 module _ (n : Sizes) (b : Buffers) (output : List ℕ) where
-  pub refuses_8 : state_refused n b ≡ true → WritePromise n b (Refused UnsoundState) output output
+  pub refuses_8 : state_refused n b ≡ true → WritePromise n b (Err UnsoundState) output output
   unfolding write_answered write_answer write_refusal write_leaves state_refusal or_else unless leaving
   refuses_8 e = write_promise (rw e) (rw e)
 
   module _ (e : state_refused n b ≡ false) where
-    pub refuses_7 : length output < length (encode (fields_in n b)) → WritePromise n b (Refused ShortBuffer) output output
+    pub refuses_7 : length output < length (encode (fields_in n b)) → WritePromise n b (Err ShortBuffer) output output
     unfolding write_answered write_answer write_refusal write_leaves state_refusal output_refusal or_else unless leaving
     refuses_7 h =
         let q = lt-ltb (length output) (length (encode (fields_in n b))) h in
         write_promise (rw (e, q)) (rw (e, q))
 
     pub writes : {r : ℕ} {l : List ℕ} → length (encode (fields_in n b)) ≤ length output → r ≡ length (encode (fields_in n b))
-        → l ≡ put_at 0 (encode (fields_in n b)) output → WritePromise n b (Wrote r) output l
+        → l ≡ put_at 0 (encode (fields_in n b)) output → WritePromise n b (Ok r) output l
     unfolding write_answered write_answer write_refusal write_leaves state_refusal output_refusal or_else unless leaving laid
     writes h p i =
         let q = le-ltb (length output) (length (encode (fields_in n b))) h in

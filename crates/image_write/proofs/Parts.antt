@@ -3,8 +3,7 @@ use Prim.Native.Nat.{ℕ, suc, ◌+◌, ◌-◌, ◌*◌, ◌%◌, ◌≤◌, �
 use mathlib.Core.Path.{◌≡◌, refl, sym, ap, ◌∙◌}
 use mathlib.Core.List.{List, [], ◌∷◌, ◌++◌, append_assoc}
 use native.Mathlib.Omega.{arith}
-use lib.ListN.{length, get_or, take, drop, length-append}
-use lib.Seq.{length-take-le}
+use lib.ListN.{length, get_or, drop, length-append}
 use Rattle.window.specs.declared.Row.{Row}
 use Rattle.step.specs.declared.Queue.{Queue}
 use Rattle.step.specs.Queues.{ring, list_of, live_pts}
@@ -16,7 +15,7 @@ use Rattle.image.specs.Image.{byte_of_queue, row_codec, process_codec, to_proces
 use Rattle.image.proofs.Laws.Numbers.{length_digits}
 use Rattle.image_bytes.specs.Laws.Bytes.{uniform_length}
 use Rattle.image_bytes.specs.Code.Writing.{put_at}
-use Rattle.step_soundness.proofs.Loops.{next_of_lem, none_of, next_in, past_count}
+use Rattle.step_soundness.proofs.Loops.{next_of_lem, none_of}
 use Rattle.library.specs.Empty.{empty_row}
 use Rattle.image_write.specs.Code.Bytes.{row_first, row_second, row_record, row_bytes, process_bytes, rows_bytes, processes_bytes}
 use Rattle.image_write.proofs.Going.{Splits, Going, start, room, goes, last}
@@ -28,10 +27,6 @@ first_length r = simp (length-append, length_digits)
 pub second_length : (r : Row) → length (row_second r) ≡ 12
 unfolding row_second
 second_length r = simp (length-append, length_digits)
-
-pub record_length : (r : Row) → length (row_record r) ≡ 9
-unfolding row_record
-record_length r = simp (length-append, length_digits)
 
 pub row_parts : (r : Row) → row_bytes r ≡ row_first r ++ (row_second r ++ row_record r)
 unfolding row_bytes row_first row_second row_record row_codec via seq num
@@ -56,9 +51,6 @@ processes_length_lem ps = uniform_length (process_codec [] 0) 10 process_length_
 pub rows_cons : (r : Row) (rows : List Row) → rows_bytes (r ∷ rows) ≡ row_bytes r ++ rows_bytes rows
 unfolding rows_bytes row_bytes enc_many
 rows_cons r rows = refl
-
-pub rows_size : (rows : List Row) (n : ℕ) → n ≤ length rows → length (rows_bytes (take n rows)) ≡ row_length * n
-rows_size rows n h = rows_length (take n rows) ∙ ap (λ (k : ℕ). row_length * k) (length-take-le n rows h)
 
 processes_cons : (p : Process) (ps : List Process) → processes_bytes (p ∷ ps) ≡ process_bytes p ++ processes_bytes ps
 unfolding processes_bytes process_bytes enc_many
@@ -85,13 +77,13 @@ from_length psw t (q ∷ qs) =
 
 -- ---- how the bytes go on
 
-module _ (rows : List Row) (n i : ℕ) where
-  pub rows_next : (d : Row) → i < n → i < length rows → Splits (rows_bytes (drop i (take n rows))) (row_bytes (get_or rows i d)) (rows_bytes (drop (i + 1) (take n rows)))
-  rows_next d h k = record { is = ap rows_bytes (next_in rows n i d h k) ∙ rows_cons (get_or rows i d) (drop (i + 1) (take n rows)) }
+module _ (rows : List Row) (i : ℕ) where
+  pub rows_next : (d : Row) → i < length rows → Splits (rows_bytes (drop i rows)) (row_bytes (get_or rows i d)) (rows_bytes (drop (i + 1) rows))
+  rows_next d h = record { is = ap rows_bytes (next_of_lem rows i d h) ∙ rows_cons (get_or rows i d) (drop (i + 1) rows) }
 
-  pub rows_none : n ≤ i → rows_bytes (drop i (take n rows)) ≡ []
+  pub rows_none : length rows ≤ i → rows_bytes (drop i rows) ≡ []
   unfolding rows_bytes enc_many
-  rows_none h = ap rows_bytes (past_count rows n i h)
+  rows_none h = ap rows_bytes (none_of rows i h)
 
 module _ (psw : List ℕ) (t : ℕ) where
   -- the processes of a queue's ring: the head, and those behind it
@@ -135,14 +127,14 @@ module _ (psw : List ℕ) (t : ℕ) where
 -- ---- the loops: room for the next part, and a turn
 
 module _ {at : ℕ} {all l₀ l : List ℕ} {p : ℕ} where
-  module _ (rows : List Row) (n i : ℕ) (z : Going at all l₀ l p (rows_bytes (drop i (take n rows)))) (h : i < n) (k : i < length rows) where
+  module _ (rows : List Row) (i : ℕ) (z : Going at all l₀ l p (rows_bytes (drop i rows))) (h : i < length rows) where
     pub rows_room : p + row_length ≤ length l
     rows_room =
-        let f : p + length (row_bytes (get_or rows i empty_row)) ≤ length l = room at all l₀ z (rows_next rows n i empty_row h k) in
+        let f : p + length (row_bytes (get_or rows i empty_row)) ≤ length l = room at all l₀ z (rows_next rows i empty_row h) in
         omega (arith, row_length_lem (get_or rows i empty_row))
 
-    pub rows_goes : (d : Row) {l₁ : List ℕ} → l₁ ≡ put_at p (row_bytes (get_or rows i d)) l → Going at all l₀ l₁ (p + row_length) (rows_bytes (drop (i + 1) (take n rows)))
-    rows_goes d e = goes at all l₀ z (rows_next rows n i d h k) (ap (λ (n : ℕ). p + n) (sym (row_length_lem (get_or rows i d)))) e
+    pub rows_goes : (d : Row) {l₁ : List ℕ} → l₁ ≡ put_at p (row_bytes (get_or rows i d)) l → Going at all l₀ l₁ (p + row_length) (rows_bytes (drop (i + 1) rows))
+    rows_goes d e = goes at all l₀ z (rows_next rows i d h) (ap (λ (n : ℕ). p + n) (sym (row_length_lem (get_or rows i d)))) e
 
   module _ (psw : List ℕ) (t : ℕ) (a : List ℕ) (h n : ℕ) (z : Going at all l₀ l p (ring_bytes psw t a h n)) (k : h < 64) (m : 0 < n) where
     pub ring_room : p + process_length ≤ length l

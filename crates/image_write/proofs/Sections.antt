@@ -4,8 +4,7 @@ use mathlib.Core.Path.{◌≡◌, refl, sym, ap, ◌∙◌}
 use mathlib.Core.Bool.{Bool, true, false, cond}
 use mathlib.Core.List.{List, ◌++◌}
 use native.Mathlib.Omega.{arith}
-use lib.ListN.{length, take, length-append}
-use lib.Seq.{length-take-le}
+use lib.ListN.{length, length-append}
 use lib.Dec.{leb}
 use borrow.Author.Tests.{eq-eqb}
 use Rattle.word.proofs.Laws.Bools.{Le?, below, above, le?}
@@ -20,7 +19,7 @@ use Rattle.image_bytes.specs.Laws.Bytes.{word_bytes_length, cell_bytes_length}
 use Rattle.image_bytes.specs.Laws.Laid.{length_laid}
 use Rattle.image_write.specs.Code.Bytes.{rows_bytes, processes_bytes, tasks_section, processes_section, words_section, cells_section}
 use Rattle.image_write.proofs.Going.{start, goes, last}
-use Rattle.image_write.proofs.Parts.{rows_size, processes_length_lem, from_length}
+use Rattle.image_write.proofs.Parts.{rows_length, processes_length_lem, from_length}
 
 put_length : (at : ℕ) (xs l : List ℕ) → length (put_at at xs l) ≡ length l
 unfolding put_at
@@ -40,17 +39,15 @@ counted at w v body l₀ h e e₁ e₂ =
 
 -- ---- tasks
 
-module _ (rows : List Row) (n : ℕ) (h : n ≤ length rows) where
-  pub tasks_size : length (tasks_section (take n rows)) ≡ tasks_length n
+module _ (rows : List Row) where
+  pub tasks_size : length (tasks_section rows) ≡ tasks_length (length rows)
   unfolding tasks_section
-  tasks_size = simp (length-append, length_digits, rows_size rows n h)
+  tasks_size = simp (length-append, length_digits, rows_length rows)
 
-  pub tasks_put : (l₀ : List ℕ) {l₁ l₂ : List ℕ} → tasks_length n ≤ length l₀ → l₁ ≡ put_at 0 (digits 1 n) l₀ → l₂ ≡ put_at 1 (rows_bytes (take n rows)) l₁
-      → l₂ ≡ put_at 0 (tasks_section (take n rows)) l₀
+  pub tasks_put : (l₀ : List ℕ) {l₁ l₂ : List ℕ} → tasks_length (length rows) ≤ length l₀ → l₁ ≡ put_at 0 (digits 1 (length rows)) l₀ → l₂ ≡ put_at 1 (rows_bytes rows) l₁
+      → l₂ ≡ put_at 0 (tasks_section rows) l₀
   unfolding tasks_section
-  tasks_put l₀ f e₁ e₂ =
-      rw (length-take-le n rows h)
-      (counted 0 1 n (rows_bytes (take n rows)) l₀ (omega (arith, rows_size rows n h)) refl e₁ e₂)
+  tasks_put l₀ f e₁ e₂ = counted 0 1 (length rows) (rows_bytes rows) l₀ (omega (arith, rows_length rows)) refl e₁ e₂
 
 -- ---- processes
 

@@ -1,6 +1,6 @@
 -- Which images reading accepts, and when the state in the buffers is refused with 8.
+use Rattle.std.proofs.Common.{None}
 use Rattle.std.specs.Prelude.{ℕ, ◌≡◌, true, List, ◌↔◌}
-use Rattle.std.proofs.Math.Option.{none}
 use Rattle.step.proofs.LiveCounts.{Counted}
 use Rattle.image.specs.Image.{Image, good, decode}
 use Rattle.image.specs.Fields.{SomeImageReads, shaped}
@@ -15,11 +15,11 @@ use Rattle.library.proofs.Laws.Refused.{state_parts}
 use Rattle.library.proofs.Laws.Accepted.{room_for, room_fits, read_decoded, run_refused_8, step_refused_8, write_refused_8}
 
 -- an image is accepted if reading it into long enough buffers isn't refused
-pub accepted_iff : (bytes : List ℕ) → ((i : Image) × (decode bytes ≡ good i)) ↔ ((room : Room) × (read_refusal room bytes ≡ none))
+pub accepted_iff : (bytes : List ℕ) → ((i : Image) × (decode bytes ≡ good i)) ↔ ((room : Room) × (read_refusal room bytes ≡ None))
 accepted_iff bytes = (λ p. (room_for p.0, read_unrefused (room_for p.0) bytes p.0 p.1 (room_fits p.0)), λ p. read_decoded p.0 bytes p.1)
 
 -- and then it isn't refused in any buffers that are long enough
-pub accepted_by_any_room : (room : Room) (bytes : List ℕ) (i : Image) → decode bytes ≡ good i → fits (sizes_read i) room ≡ true → read_refusal room bytes ≡ none
+pub accepted_by_any_room : (room : Room) (bytes : List ℕ) (i : Image) → decode bytes ≡ good i → fits (sizes_read i) room ≡ true → read_refusal room bytes ≡ None
 accepted_by_any_room room bytes i d f = read_unrefused room bytes i d f
 
 -- what the buffers hold is a state: no buffer is shorter than its size, the arrays have the machine's lengths, the live counts are those found
@@ -31,7 +31,7 @@ pub record SomeImageHeld (n : Sizes) (b : Buffers) : Type 0 where
   pub read : SomeImageReads (fields_in n b)
 
 -- a state in buffers is accepted exactly then
-pub state_accepted_iff : (n : Sizes) (b : Buffers) → (state_refusal n b ≡ none) ↔ SomeImageHeld n b
+pub state_accepted_iff : (n : Sizes) (b : Buffers) → (state_refusal n b ≡ None) ↔ SomeImageHeld n b
 unfolding fields_in
 state_accepted_iff n b = (
   (λ e. let p = state_parts n b e in let u = (sound_iff (fields_in n b)).0 p.1 in record { fitting = p.0; lengths = u.0; counted = u.1.0; read = u.1.1 }),

@@ -1,7 +1,6 @@
 -- The calls one after another: read, then run; read, then written; run, then written; one item, then the others.
 use Rattle.std.specs.Prelude.{ℕ, ◌≤◌, ◌≡◌, true, List, ◌∷◌, length, take, drop}
-use Rattle.std.proofs.Common.{sym, ap, ◌∙◌, subst}
-use Rattle.std.proofs.Math.Option.{none}
+use Rattle.std.proofs.Common.{sym, ap, ◌∙◌, subst, None}
 use Rattle.std.proofs.Math.Seq.{take-append_seam}
 use Rattle.step.specs.State.{State}
 use Rattle.step.specs.Step.{account_of, item}
@@ -29,7 +28,7 @@ read_and_run b bytes schedule i = run_leaves (sizes_read i) (read_leaves b bytes
 -- neither call is refused, and the buffers then hold the state after the run
 pub record ReadThenRun (b : Buffers) (bytes schedule : List ℕ) (i : Image) : Type 0 where
   pub read : read_answer (room_of b) bytes ≡ answers (sizes_read i)
-  pub unrefused : run_refusal (sizes_read i) (read_leaves b bytes) schedule ≡ none
+  pub unrefused : run_refusal (sizes_read i) (read_leaves b bytes) schedule ≡ None
   pub ran : run_answer (sizes_read i) (read_leaves b bytes) schedule ≡ answers (run schedule (state_of i)).notes
   pub held : fields_in (sizes_read i) (read_and_run b bytes schedule i) ≡ (run schedule (state_of i)).state
 
@@ -76,7 +75,7 @@ pub record RunThenWrite (n : Sizes) (b : Buffers) (schedule output : List ℕ) (
   pub answer : write_answer n (run_leaves n b schedule) (length output) ≡ answers (length (encode after))
   pub holds : HoldsImage after (length (encode after)) (write_leaves n (run_leaves n b schedule) output)
 
-pub run_then_write : (n : Sizes) (b : Buffers) (schedule output : List ℕ) → run_refusal n b schedule ≡ none
+pub run_then_write : (n : Sizes) (b : Buffers) (schedule output : List ℕ) → run_refusal n b schedule ≡ None
     → length (encode (run schedule (fields_in n b)).state) ≤ length output
     → RunThenWrite n b schedule output (run schedule (fields_in n b)).state
 run_then_write n b schedule output e h =
@@ -96,7 +95,7 @@ pub record StepThenRun (n : Sizes) (b : Buffers) (t : ℕ) (ts : List ℕ) : Typ
   pub answer : run_answer n b (t ∷ ts) ≡ answers (tallied t (account_of (item t (fields_in n b))) others)
   pub leaves : run_leaves n (step_leaves n b t) ts ≡ run_leaves n b (t ∷ ts)
 
-pub step_then_run : (n : Sizes) (b : Buffers) (t : ℕ) (ts : List ℕ) → run_refusal n b (t ∷ ts) ≡ none → StepThenRun n b t ts
+pub step_then_run : (n : Sizes) (b : Buffers) (t : ℕ) (ts : List ℕ) → run_refusal n b (t ∷ ts) ≡ None → StepThenRun n b t ts
 step_then_run n b t ts e = record {
   others = (run ts (item t (fields_in n b)).state).notes;
   stepped = step_answers n b t ts e;

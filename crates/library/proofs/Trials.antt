@@ -1,4 +1,5 @@
 -- The refusals of the library's calls at both sides of their boundaries.
+use Rattle.std.proofs.Common.{Ok, Err}
 use Rattle.std.specs.Prelude.{◌≡◌, refl, List, [], ◌∷◌, ◌++◌, ℕ, ◌-◌, length, get_or, take, drop, replicate}
 use Rattle.refusal.specs.declared.Refusal.TheVariants.{ItemOutOfRange}
 use Rattle.window.specs.Memories.{cell}
@@ -13,7 +14,6 @@ use Rattle.library.specs.Numbers.{numbered}
 use Rattle.library.specs.declared.Sizes.{Sizes}
 use Rattle.library.specs.Buffers.{Buffers, Room, spare_in, holding}
 use Rattle.library.specs.Calls.{answers, read_refusal, read_answer, read_leaves, run_refusal, run_answer, run_leaves, step_refusal, step_answer, step_leaves, write_refusal, write_answer, write_leaves}
-use Rattle.library.specs.declared.RunAnswer.TheVariants.{Refused, Counted}
 use Rattle.library.specs.Promises.{run_answered}
 use Rattle.library.proofs.Laws.Opened.{opened}
 
@@ -206,10 +206,10 @@ pub record RunTrials : Type 0 where
   pub left : run_leaves trial_sizes (buffers_of exact) (2 ∷ 0 ∷ []) ≡ buffers_of exact
   -- and no task has counts
   pub refused : run_answered (run_answer trial_sizes (buffers_of exact) (2 ∷ 0 ∷ []))
-      ≡ record { answer = Refused ItemOutOfRange; own = replicate 8 no_counts }
+      ≡ record { answer = Err ItemOutOfRange; own = replicate 8 no_counts }
   -- the NOP of task 2, and an item of task 3, which has no row: each under its task's number
   pub ran : run_answered (run_answer trial_sizes (buffers_of exact) (2 ∷ 3 ∷ []))
-      ≡ record { answer = Counted (counts 1 0 0 1 0); own = no_counts ∷ no_counts ∷ counts 1 0 0 0 0 ∷ counts 0 0 0 1 0 ∷ replicate 4 no_counts }
+      ≡ record { answer = Ok (counts 1 0 0 1 0); own = no_counts ∷ no_counts ∷ counts 1 0 0 0 0 ∷ counts 0 0 0 1 0 ∷ replicate 4 no_counts }
 
 pub record StepTrials : Type 0 where
   -- a state that no image reads as: 8, before 10; a state that is one, and a task that isn't: 10

@@ -1,7 +1,6 @@
 -- The calls of the library: what each answers, and what it leaves in the lent buffers. The first refusal that applies is returned, with
 -- nothing else, and every lent byte stays.
-use Rattle.std.specs.Prelude.{ℕ, Bool, cond, not, ◌&&◌, List, ltb, length}
-use Rattle.std.proofs.Math.Option.{Option, none, some}
+use Rattle.std.specs.Prelude.{ℕ, Bool, cond, not, ◌&&◌, List, ltb, length, Option, None, Some}
 use Rattle.refusal.specs.declared.Refusal.{Refusal}
 use Rattle.refusal.specs.declared.Refusal.TheVariants.{ShortBuffer, UnsoundState, ItemOutOfRange}
 use Rattle.step.specs.declared.Ending.{Ending}
@@ -21,8 +20,8 @@ pub data Answer (A : Type 0) : Type 0 where
 
 -- a refusal, or else a value
 unfoldable pub unless : {A : Type 0} → Option Refusal → A → Answer A
-unless (some e) a = refuses e
-unless none a = answers a
+unless (Some e) a = refuses e
+unless None a = answers a
 
 -- what a call leaves: on a refusal all stays
 unfoldable pub leaving : {A B : Type 0} → Answer A → (before after : B) → B
@@ -38,8 +37,8 @@ check_answer (good i) = answers (sizes_of (state_of i))
 -- ---- reading: the image's refusals, then 7. Its answer is the sizes of the state
 
 unfoldable pub decoded_refusal : Room → Decoded → Option Refusal
-decoded_refusal room (bad e) = some e
-decoded_refusal room (good i) = cond (not (fits (sizes_of (state_of i)) room)) (some ShortBuffer) none
+decoded_refusal room (bad e) = Some e
+decoded_refusal room (good i) = cond (not (fits (sizes_of (state_of i)) room)) (Some ShortBuffer) None
 
 unfoldable pub read_refusal : Room → (bytes : List ℕ) → Option Refusal
 read_refusal room bytes = decoded_refusal room (decode bytes)
@@ -67,12 +66,12 @@ state_refused n b = not (fits n (room_of b) && sound (fields_in n b))
 
 -- 8
 unfoldable pub state_refusal : Sizes → Buffers → Option Refusal
-state_refusal n b = cond (state_refused n b) (some UnsoundState) none
+state_refusal n b = cond (state_refused n b) (Some UnsoundState) None
 
 -- the first of two refusals
 unfoldable pub or_else : Option Refusal → Option Refusal → Option Refusal
-or_else (some e) f = some e
-or_else none f = f
+or_else (Some e) f = Some e
+or_else None f = f
 
 -- ---- a run: 8, then 9, then 10. Its answer is the counts of the endings, in all and of each task number
 
@@ -88,7 +87,7 @@ run_leaves n b schedule = leaving (run_answer n b schedule) b (holding (run sche
 -- ---- one item of a task: 8, then 10. Its answer is how the item ends
 
 unfoldable pub task_refusal : (t : ℕ) → Option Refusal
-task_refusal t = cond (not (item_sound t)) (some ItemOutOfRange) none
+task_refusal t = cond (not (item_sound t)) (Some ItemOutOfRange) None
 
 unfoldable pub step_refusal : Sizes → Buffers → (t : ℕ) → Option Refusal
 step_refusal n b t = or_else (state_refusal n b) (task_refusal t)
@@ -102,7 +101,7 @@ step_leaves n b t = leaving (step_answer n b t) b (holding (item t (fields_in n 
 -- ---- writing into a buffer of bytes: 8, then 7. Its answer is the length of the image
 
 unfoldable pub output_refusal : (room : ℕ) → (image : List ℕ) → Option Refusal
-output_refusal room image = cond (ltb room (length image)) (some ShortBuffer) none
+output_refusal room image = cond (ltb room (length image)) (Some ShortBuffer) None
 
 unfoldable pub write_refusal : Sizes → Buffers → (room : ℕ) → Option Refusal
 write_refusal n b room = or_else (state_refusal n b) (output_refusal room (encode (fields_in n b)))

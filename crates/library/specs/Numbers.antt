@@ -1,6 +1,5 @@
 -- Document 01's numbers in the answers of the calls: the number of the refusal, 0 where there is none.
-use Rattle.std.specs.Prelude.{ℕ}
-use Rattle.std.proofs.Math.Option.{Option, none, some}
+use Rattle.std.specs.Prelude.{ℕ, Option, None, Some}
 use Rattle.refusal.specs.declared.Refusal.{Refusal}
 use Rattle.refusal.specs.Numbers.{number_of}
 use Rattle.library.specs.Calls.{Answer, refuses, answers}
@@ -12,5 +11,5 @@ number_answered (answers a) = 0
 
 -- the number of a refusal, 0 where there is none
 unfoldable pub numbered : Option Refusal → ℕ
-numbered none = 0
-numbered (some e) = number_of e
+numbered None = 0
+numbered (Some e) = number_of e

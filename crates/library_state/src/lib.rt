@@ -16,7 +16,7 @@ use window::TASKS;
 pub fn row_count(n: usize) -> usize
     ensures { result ≡ min n tasks }
 {
-    if n < TASKS { n } else { TASKS }
+    n.min(TASKS)
 }
 
 // Whether each size is at most the length of its buffers.
@@ -73,22 +73,17 @@ fn cut_refused(
     requires { fits n (room_from (min rows.n tasks) (length constant_tags.now) (length constant_words.now) (length register_tags.now) (length register_words.now) (length program.now) (length data_tags.now) (length data_words.now)) ≡ true }
     ensures { result ≡ state_refused n (lent_buffers (held_rows rows) table constant_tags.now constant_words.now register_tags.now register_words.now program.now data_tags.now data_words.now) }
 {
-    let at = rows.at;
-    let constant_count = n.constants;
-    let register_count = n.registers;
-    let program_count = n.program;
-    let data_count = n.data_words;
     !step_soundness::sound(
-        at,
+        rows.at,
         n.rows,
         table,
-        &constant_tags[..constant_count],
-        &constant_words[..constant_count],
-        &register_tags[..register_count],
-        &register_words[..register_count],
-        &program[..program_count],
-        &data_tags[..data_count],
-        &data_words[..data_count],
+        &constant_tags[..n.constants],
+        &constant_words[..n.constants],
+        &register_tags[..n.registers],
+        &register_words[..n.registers],
+        &program[..n.program],
+        &data_tags[..n.data_words],
+        &data_words[..n.data_words],
     )
 }
 

@@ -1,9 +1,8 @@
 -- Each check with instances that compute, at both sides of its boundary, and one for the order of each two: the machine of OperationInstances.
+use Rattle.std.proofs.Common.{Some, None}
 use Rattle.std.specs.Prelude.{ℕ, ◌+◌, ◌-◌, ◌*◌, ◌^◌, ◌≡◌, refl, List, [], ◌∷◌, map, replicate}
 use Rattle.word.specs.Fields.{psw_of}
 use Rattle.window.specs.declared.Row.{Row}
-use Rattle.window.specs.declared.Place.TheVariants.{At, Violation}
-use Rattle.window.specs.declared.Write.TheVariants.{Nothing, Put}
 use Rattle.window.specs.Memories.{cell}
 use Rattle.window.specs.Windows.{byte_place}
 use Rattle.operation.specs.declared.Wait.TheVariants.{Access, Data, Create}
@@ -37,7 +36,7 @@ destinations d = map (λ access. decide_on 0 (instruction_word 0x611F (access * 
 
 -- register 6 or 7 gets a cell
 abbrev pub puts : (register tag word : ℕ) → Decision
-puts register tag word = does (Put register (cell tag word)) Nothing (Continues 1)
+puts register tag word = does (Some (register, cell tag word)) None (Continues 1)
 
 -- LODX and STOX of 12 at 8 + 16, the full data word 35, or at 16 + 16, the empty one 36, with B 0 and each SAC and DAC
 unfoldable pub loads : (s1 : ℕ) → List Decision
@@ -52,7 +51,7 @@ wide_row = record { task = 1; cb = 0; rb = 0; rl = 0; pb = 0; pl = 0; db = 0; dl
 
 pub record CheckTrials : Type 0 where
   -- 1: the last program word, and behind it
-  pub fetched : decide_on 15 0 ≡ does Nothing Nothing (Continues 16)
+  pub fetched : decide_on 15 0 ≡ does None None (Continues 16)
   pub unfetched : decide_on 16 0 ≡ Traps ProtectionViolation 16
   -- 2: the privileged pages; what is left to software; codes beside those listed
   pub pages : codes (
@@ -74,15 +73,15 @@ pub record CheckTrials : Type 0 where
       instruction_word 0x611F 0x4000 0x4001 0 ∷ instruction_word 0x7126 0x0002 0x4001 0x4001 ∷ instruction_word 0x7126 0 0x0002 0x4001
       ∷ instruction_word 0x7126 0 0x4001 0x0002 ∷ []) ≡ replicate 4 violation
   -- an indexed register and constant, under CI 3 and RI 1, as source and as D; under RI 2 past register 7
-  pub indexed_register : decide_on (psw_of 3 1 0 0) (instruction_word 0x611F 0 0x8000 0) ≡ does (Put 6 (cell 0 30)) Nothing (Continues (psw_of 3 1 0 1))
-  pub indexed_constant : decide_on (psw_of 3 1 0 0) (instruction_word 0x611F 0 0xC001 0) ≡ does (Put 6 (cell 0 8)) Nothing (Continues (psw_of 3 1 0 1))
-  pub indexed_d : decide_on (psw_of 3 1 0 0) (instruction_word 0x611F 0x8000 0x4001 0) ≡ does (Put 7 (cell 0 12)) Nothing (Continues (psw_of 3 1 0 1))
+  pub indexed_register : decide_on (psw_of 3 1 0 0) (instruction_word 0x611F 0 0x8000 0) ≡ does (Some (6, cell 0 30)) None (Continues (psw_of 3 1 0 1))
+  pub indexed_constant : decide_on (psw_of 3 1 0 0) (instruction_word 0x611F 0 0xC001 0) ≡ does (Some (6, cell 0 8)) None (Continues (psw_of 3 1 0 1))
+  pub indexed_d : decide_on (psw_of 3 1 0 0) (instruction_word 0x611F 0x8000 0x4001 0) ≡ does (Some (7, cell 0 12)) None (Continues (psw_of 3 1 0 1))
   pub indexed_outside : decide_on (psw_of 3 2 0 0) (instruction_word 0x611F 0 0x8000 0) ≡ Traps ProtectionViolation (psw_of 3 2 0 0)
   -- 5, and what is left: an empty source, a full one, an empty destination, a full one under each access code
   pub empty_source : sources 0 ≡ gets 0 20 ∷ Waits Access ∷ Waits Access ∷ gets 0 20 ∷ replicate 4 illegal
   pub full_source : sources 1
       ≡ gets 0 30 ∷ gets 0 30
-      ∷ Executes (record { first = Nothing; second = Put 7 (cell 11 30); third = Nothing; destination = Put 6 (cell 0 30); datum = Nothing; fate = Continues 1 })
+      ∷ Executes (record { first = None; second = Some (7, cell 11 30); third = None; destination = Some (6, cell 0 30); datum = None; fate = Continues 1 })
       ∷ Waits Access ∷ replicate 4 illegal
   pub empty_destination : destinations 0 ≡ puts 6 0 12 ∷ Waits Access ∷ puts 6 0 12 ∷ puts 6 8 12 ∷ replicate 4 illegal
   pub full_destination : destinations 1 ≡ puts 7 0 12 ∷ puts 7 0 12 ∷ Waits Access ∷ Waits Access ∷ replicate 4 illegal
@@ -90,20 +89,20 @@ pub record CheckTrials : Type 0 where
   pub masked_s1 : decide_on 0x10000000 (instruction_word 0x611F 0 0x0001 0) ≡ Traps DataException 0x10000000
   pub masked_s2 : decide_on 0x10000000 (instruction_word 0x7126 0 0x4001 0x0001) ≡ Traps DataException 0x10000000
   pub masked_s0 : decide_on 0x10000000 (instruction_word 0xFC00 0x0001 0x4004 0x4005) ≡ Traps DataException 0x10000000
-  pub unmasked_d : decide_on 0x10000000 (instruction_word 0x611F 0x0001 0x4001 0) ≡ does (Put 7 (cell 0 12)) Nothing (Continues 0x10000001)
-  pub unmasked : decide_on 0xEF000000 (instruction_word 0x611F 0 0x0001 0) ≡ does (Put 6 (cell 0 30)) Nothing (Continues 0xEF000001)
+  pub unmasked_d : decide_on 0x10000000 (instruction_word 0x611F 0x0001 0x4001 0) ≡ does (Some (7, cell 0 12)) None (Continues 0x10000001)
+  pub unmasked : decide_on 0xEF000000 (instruction_word 0x611F 0 0x0001 0) ≡ does (Some (6, cell 0 30)) None (Continues 0xEF000001)
   -- 7: byte addresses below 2^31; SAC of a full data word and of an empty one, DAC of both (the parts stand in PartInstances)
-  pub below : byte_place wide_row (2 ^ 31 - 1) ≡ At (2 ^ 31 - 1)
-  pub above : byte_place wide_row (2 ^ 31) ≡ Violation
+  pub below : byte_place wide_row (2 ^ 31 - 1) ≡ Some (2 ^ 31 - 1)
+  pub above : byte_place wide_row (2 ^ 31) ≡ None
   pub full_loaded : loads 0x4004
       ≡ gets 0 103 ∷ illegal ∷ illegal ∷ illegal ∷ gets 0 103 ∷ illegal ∷ illegal ∷ illegal
-      ∷ does (Put 6 (cell 0 103)) (Put 35 (cell 0 103)) (Continues 1) ∷ replicate 7 illegal
+      ∷ does (Some (6, cell 0 103)) (Some (35, cell 0 103)) (Continues 1) ∷ replicate 7 illegal
   pub empty_loaded : loads 0x4005 ≡ gets 0 104 ∷ illegal ∷ illegal ∷ illegal ∷ Waits Data ∷ illegal ∷ illegal ∷ illegal ∷ Waits Data ∷ replicate 7 illegal
   pub full_stored : storings 0x4004 ≡ stores 35 12 ∷ illegal ∷ Waits Data ∷ replicate 13 illegal
   pub empty_stored : storings 0x4005 ≡ stores 36 12 ∷ illegal ∷ stores 36 12 ∷ replicate 13 illegal
   -- 8: CREATE with the create fault flag up, always and never
   pub create : decide_under running 1 (instruction_word 0x3970 0 0x4000 0x4001) ≡ Waits Create
-  pub create_never : decide_under running 1 (instruction_word 0x3900 0 0x4000 0x4001) ≡ does Nothing Nothing (Continues next)
+  pub create_never : decide_under running 1 (instruction_word 0x3900 0 0x4000 0x4001) ≡ does None None (Continues next)
   -- 2 before 4: D past register 7, S1 under access code 4; 4 before 5: D waits, S2 past register 7
   pub legal_placed : decide_on 0 (instruction_word 0x611F 0x0002 0x2001 0) ≡ illegal
   pub placed_met : decide_on 0 (instruction_word 0x7126 0x0800 0x4001 0x0002) ≡ violation

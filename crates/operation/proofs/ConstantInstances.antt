@@ -1,7 +1,7 @@
 -- Check 6 and the tests of a constant of quality 5 and word 7, the only one, as instances that compute.
+use Rattle.std.proofs.Common.{Some, None}
 use Rattle.std.specs.Prelude.{ℕ, ◌+◌, ◌*◌, ◌≡◌, refl, [], ◌∷◌}
 use Rattle.word.specs.Fields.{psw_of}
-use Rattle.window.specs.declared.Write.TheVariants.{Nothing, Put}
 use Rattle.window.specs.Memories.{memory, cell}
 use Rattle.operation.specs.declared.Trap.TheVariants.{DataException}
 use Rattle.operation.specs.declared.Fate.TheVariants.{Continues}
@@ -26,10 +26,10 @@ branch_by test = instruction_word (0x3800 + test * 16) 9 0x4001 0x4000
 
 -- only the result: D gets this word with quality 0
 abbrev pub moves : (word psw : ℕ) → Decision
-moves word psw = Executes (record { first = Nothing; second = Nothing; third = Nothing; destination = Put 6 (cell 0 word); datum = Nothing; fate = Continues psw })
+moves word psw = Executes (record { first = None; second = None; third = None; destination = Some (6, cell 0 word); datum = None; fate = Continues psw })
 
 abbrev pub goes : (psw : ℕ) → Decision
-goes psw = Executes (record { first = Nothing; second = Nothing; third = Nothing; destination = Nothing; datum = Nothing; fate = Continues psw })
+goes psw = Executes (record { first = None; second = None; third = None; destination = None; datum = None; fate = Continues psw })
 
 pub record ConstantChecks : Type 0 where
   -- UTM bit 5: the data exception; all bits but 5: its word, with quality 0

@@ -1,7 +1,7 @@
 -- What document 01 excludes, as instances that compute: each environment is one in which the excluded machine would do otherwise.
+use Rattle.std.proofs.Common.{Some, None}
 use Rattle.std.specs.Prelude.{◌≡◌, refl, ℕ, ◌+◌, ◌*◌, ◌^◌}
 use Rattle.window.specs.declared.Row.{Row}
-use Rattle.window.specs.declared.Write.TheVariants.{Nothing, Put}
 use Rattle.window.specs.Memories.{cell}
 use Rattle.operation.specs.declared.Wait.TheVariants.{Access, Data}
 use Rattle.operation.specs.declared.Trap.TheVariants.{ProtectionViolation}
@@ -30,7 +30,7 @@ pub record Excluded : Type 0 where
   pub limit : decide (environment_with (instruction_word 0x411C 0x0002 0 0)) ≡ Traps ProtectionViolation 0
   -- CALL does not leave D on a false test: test 0 never holds
   pub call : decide (environment_with (instruction_word 0x7901 0x0001 0x4000 0x4000))
-      ≡ Executes (record { first = Nothing; second = Nothing; third = Nothing; destination = Put 7 (cell 0 1); datum = Nothing; fate = Continues 1 })
+      ≡ Executes (record { first = None; second = None; third = None; destination = Some (7, cell 0 1); datum = None; fate = Continues 1 })
   -- an unmet data state does not trap: LODI with SAC 1 of an empty word
   pub state : decide (environment_with (instruction_word 0x6C04 0x0000 0x4000 0)) ≡ Waits Data
 

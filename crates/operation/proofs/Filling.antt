@@ -1,13 +1,13 @@
 -- Every part that an address specifies has a width that divides 64: 64, 32, 16 or 8 bits. So the laws of word / AnyWidth hold of it.
+use Rattle.std.proofs.Common.{Some}
 use Rattle.std.specs.Prelude.{ℕ, ◌+◌, ◌*◌, ◌%◌, ◌^◌, ◌≤◌, ◌<◌, ◌≡◌, ◌≢◌}
 use Rattle.word.specs.declared.Part.{Part}
 use Rattle.word.specs.Parts.{part_at, extracted, placed, Fills}
 use Rattle.word.proofs.AnyWidth.{part_again, bits_stay, others_stay}
-use Rattle.operation.specs.declared.Specified.TheVariants as specified
 use Rattle.operation.specs.Specified.{specified_part}
 use Rattle.operation.proofs.Laws.Filling.{fills}
 
-module _ (low e : ℕ) (part : Part) (told : specified_part low e ≡ specified.Part part) where
+module _ (low e : ℕ) (part : Part) (told : specified_part low e ≡ Some part) where
   pub specified_fills : Fills part
   specified_fills = fills low e part told
 

@@ -1,8 +1,8 @@
 -- Each operation with an instance that computes, which its nearest wrong neighbour fails: which operands and which fields it takes, what it writes.
+use Rattle.std.proofs.Common.{Option, Some, None}
 use Rattle.std.specs.Prelude.{ℕ, ◌+◌, ◌-◌, ◌*◌, ◌^◌, ◌≡◌, refl, List, [], ◌∷◌, ◌++◌, map, replicate}
 use Rattle.word.specs.Fields.{psw_of}
-use Rattle.window.specs.declared.Write.{Write}
-use Rattle.window.specs.declared.Write.TheVariants.{Nothing, Put}
+use Rattle.window.specs.declared.Cell.{Cell}
 use Rattle.window.specs.Memories.{memory, cell}
 use Rattle.operation.specs.declared.Fate.{Fate}
 use Rattle.operation.specs.declared.Fate.TheVariants.{Continues, Quits, Creates}
@@ -34,8 +34,8 @@ abbrev pub next : ℕ
 next = psw_of 1 1 0x08 1
 
 -- no source is set empty
-abbrev pub does : (destination datum : Write) → Fate → Decision
-does destination datum fate = Executes (record { first = Nothing; second = Nothing; third = Nothing; destination = destination; datum = datum; fate = fate })
+abbrev pub does : (destination datum : Option (ℕ × Cell)) → Fate → Decision
+does destination datum fate = Executes (record { first = None; second = None; third = None; destination = destination; datum = datum; fate = fate })
 
 -- the instruction with these sources and D register 6
 unfoldable pub result_of : (code s1 s2 : ℕ) → Decision
@@ -43,11 +43,11 @@ result_of code s1 s2 = decide_on 0 (instruction_word code 0 s1 s2)
 
 -- D gets a word with a quality
 abbrev pub gets : (quality word : ℕ) → Decision
-gets quality word = does (Put 6 (cell quality word)) Nothing (Continues 1)
+gets quality word = does (Some (6, cell quality word)) None (Continues 1)
 
 -- the data word at this address gets a word and is left full
 abbrev pub stores : (address word : ℕ) → Decision
-stores address word = does Nothing (Put address (cell 1 word)) (Continues 1)
+stores address word = does None (Some (address, cell 1 word)) (Continues 1)
 
 -- B to 9 by each test in the table's order, on S2; S1 is zero
 unfoldable pub branches : (psw s2 : ℕ) → List Decision
@@ -55,24 +55,24 @@ branches psw s2 = map (λ c. decide_on psw (instruction_word (0x3800 + c * 16) 9
 
 -- where each of them goes: 9 where the test holds, else PC + 1
 unfoldable pub goes_to : (ci ri : ℕ) → (pcs : List ℕ) → List Decision
-goes_to ci ri pcs = map (λ pc. does Nothing Nothing (Continues (psw_of ci ri 0 pc))) pcs
+goes_to ci ri pcs = map (λ pc. does None None (Continues (psw_of ci ri 0 pc))) pcs
 
 -- CREATE always by ACT, the PSW of constant 0 as S1
 unfoldable pub create_by : (act : ℕ) → Decision
 create_by act = decide_on running (instruction_word (0x3970 + act) 0 0x4000 0x4001)
 
 abbrev pub creates : (new : ℕ) → Decision
-creates new = does Nothing Nothing (Creates next new)
+creates new = does None None (Creates next new)
 
 -- QT by this test, its S2 read under access code 2, which sets register 7 empty
 unfoldable pub quit_by : (test : ℕ) → Decision
 quit_by test = decide_on 0 (instruction_word (0x1900 + test * 16) 0 0 0x1001)
 
 abbrev pub empties_s2 : Fate → Decision
-empties_s2 fate = Executes (record { first = Nothing; second = Nothing; third = Put 7 (cell 11 30); destination = Nothing; datum = Nothing; fate = fate })
+empties_s2 fate = Executes (record { first = None; second = None; third = Some (7, cell 11 30); destination = None; datum = None; fate = fate })
 
 pub record OperationTrials : Type 0 where
-  pub nop : decide_on running 0 ≡ does Nothing Nothing (Continues next)
+  pub nop : decide_on running 0 ≡ does None None (Continues next)
   -- the result has quality 0, that of S1 being 3
   pub mov : result_of 0x611F 0x0001 0 ≡ gets 0 30
   pub clr : result_of 0x411C 0 0 ≡ gets 0 0
@@ -119,18 +119,18 @@ pub record OperationTrials : Type 0 where
   pub tests_below : branches (psw_of 1 0 0 0) 0x4007 ≡ goes_to 1 0 (1 ∷ 9 ∷ 1 ∷ 9 ∷ 1 ∷ 9 ∷ 1 ∷ 9 ∷ 1 ∷ 9 ∷ 9 ∷ 1 ∷ 1 ∷ 9 ∷ 1 ∷ 9 ∷ [])
   pub tests_empty : branches (psw_of 1 1 0 0) 0x0000 ≡ goes_to 1 1 (1 ∷ 1 ∷ 1 ∷ 1 ∷ 9 ∷ 9 ∷ 9 ∷ 9 ∷ 9 ∷ 1 ∷ 1 ∷ 9 ∷ 1 ∷ 9 ∷ 9 ∷ 1 ∷ [])
   -- B always to 9: each field of S1 is added, modulo its width; the left digit of the address stands in the code
-  pub branch : decide_on running (instruction_word 0x3870 9 0x4000 0x4001) ≡ does Nothing Nothing (Continues (psw_of 4 6 0 16))
-  pub branch_modulo : decide_on (psw_of 8190 2045 0x18 0) (instruction_word 0x387F 0xFFFF 0x4000 0x4001) ≡ does Nothing Nothing (Continues (psw_of 1 2 0x10 6))
+  pub branch : decide_on running (instruction_word 0x3870 9 0x4000 0x4001) ≡ does None None (Continues (psw_of 4 6 0 16))
+  pub branch_modulo : decide_on (psw_of 8190 2045 0x18 0) (instruction_word 0x387F 0xFFFF 0x4000 0x4001) ≡ does None None (Continues (psw_of 1 2 0x10 6))
   -- CALL always and never: D gets PC + 1, PC comes from S1
-  pub call : decide_on running (instruction_word 0x7971 0 0x4000 0x4001) ≡ does (Put 6 (cell 0 next)) Nothing (Continues (psw_of 1 1 0x08 7))
-  pub call_never : decide_on running (instruction_word 0x7901 0 0x4000 0x4001) ≡ does (Put 6 (cell 0 next)) Nothing (Continues next)
+  pub call : decide_on running (instruction_word 0x7971 0 0x4000 0x4001) ≡ does (Some (6, cell 0 next)) None (Continues (psw_of 1 1 0x08 7))
+  pub call_never : decide_on running (instruction_word 0x7901 0 0x4000 0x4001) ≡ does (Some (6, cell 0 next)) None (Continues next)
   -- CREATE always: ACT bits 8, 4, 2, 1 take CI, RI, UTM, PC; never
   pub create_none : create_by 0 ≡ creates next
   pub create_ci : create_by 8 ≡ creates (psw_of 3 1 0x08 1)
   pub create_ri : create_by 4 ≡ creates (psw_of 1 5 0x08 1)
   pub create_utm : create_by 2 ≡ creates (psw_of 1 1 0xF8 1)
   pub create_pc : create_by 1 ≡ creates (psw_of 1 1 0x08 7)
-  pub create_never : decide_on running (instruction_word 0x390F 0 0x4000 0x4001) ≡ does Nothing Nothing (Continues next)
+  pub create_never : decide_on running (instruction_word 0x390F 0 0x4000 0x4001) ≡ does None None (Continues next)
   -- QT always and never: S2 is set empty in both
   pub quit : quit_by 7 ≡ empties_s2 Quits
   pub quit_never : quit_by 0 ≡ empties_s2 (Continues 1)

@@ -1,8 +1,8 @@
 -- The sixteen meanings of B and the low three address bits, by load and by store, and the order of check 7, as instances that compute.
+use Rattle.std.proofs.Common.{Option, Some, None}
 use Rattle.std.specs.Prelude.{ℕ, ◌+◌, ◌≡◌, refl, List, [], ◌∷◌, map}
+use Rattle.window.specs.declared.Cell.{Cell}
 use Rattle.window.specs.declared.Row.{Row}
-use Rattle.window.specs.declared.Write.{Write}
-use Rattle.window.specs.declared.Write.TheVariants.{Nothing, Put}
 use Rattle.window.specs.Memories.{memory, cell}
 use Rattle.operation.specs.declared.Wait.TheVariants.{Data}
 use Rattle.operation.specs.declared.Trap.TheVariants.{IllegalInstruction, ProtectionViolation}
@@ -36,14 +36,14 @@ unfoldable pub eight : List ℕ
 eight = 0 ∷ 1 ∷ 2 ∷ 3 ∷ 4 ∷ 5 ∷ 6 ∷ 7 ∷ []
 
 -- register 0 gets the word with quality 0; data word 0 gets the word and is left full
-abbrev pub writes : (destination datum : Write) → Decision
-writes destination datum = Executes (record { first = Nothing; second = Nothing; third = Nothing; destination = destination; datum = datum; fate = Continues 1 })
+abbrev pub writes : (destination datum : Option (ℕ × Cell)) → Decision
+writes destination datum = Executes (record { first = None; second = None; third = None; destination = destination; datum = datum; fate = Continues 1 })
 
 abbrev pub loads : (word : ℕ) → Decision
-loads word = writes (Put 0 (cell 0 word)) Nothing
+loads word = writes (Some (0, cell 0 word)) None
 
 abbrev pub stores : (word : ℕ) → Decision
-stores word = writes Nothing (Put 0 (cell 1 word))
+stores word = writes None (Some (0, cell 1 word))
 
 abbrev pub illegal : Decision
 illegal = Traps IllegalInstruction 0
@@ -66,7 +66,7 @@ pub record PartTrials : Type 0 where
   pub unmet : load_at 4 4 0 ≡ illegal
   pub waits : load_at 4 1 0 ≡ Waits Data
   -- SAC 2 of a part empties the whole word, and its bits stay
-  pub emptied : load_at 8 1 1 ≡ writes (Put 0 (cell 0 0x8192)) (Put 0 (cell 0 0x8192A3B4C5D6E7F8))
+  pub emptied : load_at 8 1 1 ≡ writes (Some (0, cell 0 0x8192)) (Some (0, cell 0 0x8192A3B4C5D6E7F8))
   -- a part stored in an empty word leaves it full
   pub filled : store_at 18 7 0 ≡ stores 0x8192A3B4C5D6E788
 

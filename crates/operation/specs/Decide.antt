@@ -9,17 +9,12 @@
 -- 6 UTM bit q set, q the quality of a source     operands_masked                            trap 1E
 -- 7 the data address; the data state             Perform.data_reach; load_waits, store_waits  trap 14, 12; waved
 -- 8 a true CREATE with the flag up               Perform.create_waits                       waved
-use Rattle.std.specs.Prelude.{ℕ, Bool, cond, ◌||◌}
+use Rattle.std.specs.Prelude.{ℕ, Bool, cond, ◌||◌, Option, Some, None}
 use Rattle.word.specs.Fields.{pc_of, next_of, instruction_of}
 use Rattle.word.specs.declared.Instruction.{Instruction}
-use Rattle.window.specs.declared.Place.{Place}
-use Rattle.window.specs.declared.Place.TheVariants.{At, Violation}
 use Rattle.window.specs.Windows.{place_in, program_window}
 use Rattle.operand.specs.declared.Role.{Role}
 use Rattle.operand.specs.declared.Operand.{Operand}
-use Rattle.operand.specs.declared.Lookup.{Lookup}
-use Rattle.operand.specs.declared.Lookup.TheVariants.{Found}
-use Rattle.operand.specs.declared.Lookup.TheVariants as lookup
 use Rattle.operand.specs.Field.{access_of, lookup_of}
 use Rattle.operand.specs.Access.{waits_of, masked_of}
 use Rattle.operation.specs.declared.Operation.{Operation}
@@ -71,14 +66,14 @@ found_operands r v i a b c = record {
 }
 
 -- 4. a constant as destination, or any operand outside its window: 14. Of each, its lookup answers a violation
-unfoldable pub decide_lookups : Roles → Operation → Environment → Instruction → (first second third : Lookup) → Decision
-decide_lookups r op v i (Found a) (Found b) (Found c) = decide_found op v i (found_operands r v i a b c)
-decide_lookups r op v i (Found a) (Found b) lookup.Violation = Traps trap.ProtectionViolation v.psw
-decide_lookups r op v i (Found a) lookup.Violation third = Traps trap.ProtectionViolation v.psw
-decide_lookups r op v i lookup.Violation second third = Traps trap.ProtectionViolation v.psw
+unfoldable pub decide_lookups : Roles → Operation → Environment → Instruction → (first second third : Option Operand) → Decision
+decide_lookups r op v i (Some a) (Some b) (Some c) = decide_found op v i (found_operands r v i a b c)
+decide_lookups r op v i (Some a) (Some b) None = Traps trap.ProtectionViolation v.psw
+decide_lookups r op v i (Some a) None third = Traps trap.ProtectionViolation v.psw
+decide_lookups r op v i None second third = Traps trap.ProtectionViolation v.psw
 
 -- where a field of the instruction leads
-abbrev pub field_lookup : Environment → Role → (f : ℕ) → Lookup
+abbrev pub field_lookup : Environment → Role → (f : ℕ) → Option Operand
 field_lookup v role f = lookup_of role v.row v.psw f
 
 unfoldable pub decide_operands : Roles → Operation → Environment → Instruction → Decision
@@ -102,9 +97,9 @@ decide_code Svc v i = cond (illegal_fields svc_roles i) (Traps trap.IllegalInstr
 decide_code (Listed op) v i = decide_listed (roles_of op) op v i
 
 -- 1. PC outside the program window: 14
-unfoldable pub decide_fetched : Environment → Place → Decision
-decide_fetched v (At a) = let i : Instruction = instruction_of (v.program_word a) in decide_code (code_of i.code) v i
-decide_fetched v Violation = Traps trap.ProtectionViolation v.psw
+unfoldable pub decide_fetched : Environment → Option ℕ → Decision
+decide_fetched v (Some a) = let i : Instruction = instruction_of (v.program_word a) in decide_code (code_of i.code) v i
+decide_fetched v None = Traps trap.ProtectionViolation v.psw
 
 unfoldable pub decide : Environment → Decision
 decide v = decide_fetched v (place_in (program_window v.row) (pc_of v.psw))

@@ -1,5 +1,5 @@
 -- What an instruction decides once its operands are found, full or empty as they must be, and unmasked: checks 7 and 8, and what is written.
-use Rattle.std.specs.Prelude.{ℕ, ◌+◌, ◌*◌, ◌/◌, ◌%◌, ◌^◌, Bool, cond, not, ◌&&◌, eqb}
+use Rattle.std.specs.Prelude.{ℕ, ◌+◌, ◌*◌, ◌/◌, ◌%◌, ◌^◌, Bool, cond, not, ◌&&◌, eqb, Option, Some, None, Result, Ok, Err}
 use Rattle.word.specs.Fields.{ci_of, ri_of, utm_of, pc_of, psw_of, next_of}
 use Rattle.word.specs.Tests.{holds_of}
 use Rattle.word.specs.Parts.{extracted, placed}
@@ -7,22 +7,15 @@ use Rattle.word.specs.declared.Instruction.{Instruction}
 use Rattle.word.specs.declared.Outcome.{Outcome}
 use Rattle.word.specs.declared.Part.{Part}
 use Rattle.window.specs.declared.Cell.{Cell}
-use Rattle.window.specs.declared.Place.{Place}
-use Rattle.window.specs.declared.Place.TheVariants.{At, Violation}
-use Rattle.window.specs.declared.Write.{Write}
-use Rattle.window.specs.declared.Write.TheVariants.{Nothing, Put}
 use Rattle.window.specs.Windows.{byte_place}
 use Rattle.window.specs.Memories.{cell, empty_data, full_data}
 use Rattle.operand.specs.Access.{source_left, destination_left}
+use Rattle.operation.specs.declared.Trap.{Trap}
 use Rattle.operation.specs.declared.Operation.{Operation}
 use Rattle.operation.specs.declared.Operation.TheVariants as operation
 use Rattle.operation.specs.declared.FoundOperand.{FoundOperand}
 use Rattle.operation.specs.declared.FoundOperands.{FoundOperands}
 use Rattle.operation.specs.declared.Trap.TheVariants as trap
-use Rattle.operation.specs.declared.Specified.{Specified}
-use Rattle.operation.specs.declared.Specified.TheVariants as specified
-use Rattle.operation.specs.declared.Reach.{Reach}
-use Rattle.operation.specs.declared.Reach.TheVariants.{Reaches, Stops}
 use Rattle.operation.specs.declared.Wait.TheVariants.{Data, Create}
 use Rattle.operation.specs.declared.Fate.{Fate}
 use Rattle.operation.specs.declared.Fate.TheVariants.{Continues, Quits, Creates}
@@ -50,21 +43,21 @@ abbrev pub tag_s2 : FoundOperands → ℕ
 tag_s2 s = s.third.cell.tag
 
 -- what a field is left with as a source
-unfoldable pub left_of : FoundOperand → Write
+unfoldable pub left_of : FoundOperand → Option (ℕ × Cell)
 left_of s = source_left s.role s.access s.operand s.cell
 
 -- sources are set empty first, then the destination is written
-unfoldable pub executed : FoundOperands → (destination datum : Write) → Fate → Decision
+unfoldable pub executed : FoundOperands → (destination datum : Option (ℕ × Cell)) → Fate → Decision
 executed s destination datum fate =
     Executes (record { first = left_of s.first; second = left_of s.second; third = left_of s.third; destination = destination; datum = datum; fate = fate })
 
 -- D gets a result
-unfoldable pub result_in : FoundOperand → Outcome → Write
+unfoldable pub result_in : FoundOperand → Outcome → Option (ℕ × Cell)
 result_in s r = destination_left s.access s.operand r.word r.quality
 
 -- an operation that ends with PC + 1
 unfoldable pub perform_result : Environment → FoundOperands → Outcome → Decision
-perform_result v s r = executed s (result_in (field_d s) r) Nothing (Continues (next_of v.psw))
+perform_result v s r = executed s (result_in (field_d s) r) None (Continues (next_of v.psw))
 
 -- test C on S2 and the running PSW
 unfoldable pub test_of : Environment → FoundOperands → (c : ℕ) → Bool
@@ -76,7 +69,7 @@ branched psw p s1 = psw_of (ci_of psw + ci_of s1) (ri_of psw + ri_of s1) (utm_of
 
 unfoldable pub perform_branch : Environment → FoundOperands → (c p : ℕ) → Decision
 perform_branch v s c p =
-    executed s Nothing Nothing (Continues (cond (test_of v s c) (branched v.psw p (word_s1 s)) (next_of v.psw)))
+    executed s None None (Continues (cond (test_of v s c) (branched v.psw p (word_s1 s)) (next_of v.psw)))
 
 -- CALL: D gets the PSW with PC + 1, whatever the test says; on a true test PC comes from S1
 unfoldable pub called : (psw s1 : ℕ) → ℕ
@@ -84,7 +77,7 @@ called psw s1 = psw_of (ci_of psw) (ri_of psw) (utm_of psw) (pc_of s1)
 
 unfoldable pub perform_call : Environment → FoundOperands → (c : ℕ) → Decision
 perform_call v s c =
-    executed s (result_in (field_d s) (quality0 (next_of v.psw))) Nothing
+    executed s (result_in (field_d s) (quality0 (next_of v.psw))) None
     (Continues (cond (test_of v s c) (called v.psw (word_s1 s)) (next_of v.psw)))
 
 -- CREATE: the creator's PSW at PC + 1, where ACT bits 8, 4, 2, 1 take CI, RI, UTM, PC from S1
@@ -106,11 +99,11 @@ create_fate holds act psw s1 = cond holds (Creates (next_of psw) (created act ps
 unfoldable pub perform_create : Environment → FoundOperands → (c act : ℕ) → Decision
 perform_create v s c act =
     cond (create_waits (test_of v s c) v.flag) (Waits Create)
-    (executed s Nothing Nothing (create_fate (test_of v s c) act v.psw (word_s1 s)))
+    (executed s None None (create_fate (test_of v s c) act v.psw (word_s1 s)))
 
 -- QT: on a true test the process leaves
 unfoldable pub perform_quit : Environment → FoundOperands → (c : ℕ) → Decision
-perform_quit v s c = executed s Nothing Nothing (cond (test_of v s c) Quits (Continues (next_of v.psw)))
+perform_quit v s c = executed s None None (cond (test_of v s c) Quits (Continues (next_of v.psw)))
 
 -- the byte address: the low 32 bits of S1, for the X forms plus S2 modulo 2^32
 unfoldable pub indirect_address : FoundOperands → ℕ
@@ -124,8 +117,8 @@ unfoldable pub load_waits : (low state : ℕ) → Bool
 load_waits low state = not (eqb (sac_of low) 0) && eqb state empty_data
 
 -- the data word that a load leaves: SAC 2 sets it empty
-unfoldable pub load_leaves : (low a word : ℕ) → Write
-load_leaves low a word = cond (eqb (sac_of low) 2) (Put a (cell empty_data word)) Nothing
+unfoldable pub load_leaves : (low a word : ℕ) → Option (ℕ × Cell)
+load_leaves low a word = cond (eqb (sac_of low) 2) (Some (a, cell empty_data word)) None
 
 -- the load of a part of the data word k at the real word address a
 unfoldable pub load_part : (psw : ℕ) → FoundOperands → (low a : ℕ) → Part → (k : Cell) → Decision
@@ -141,35 +134,35 @@ store_waits low state = eqb (dac_of low) 2 && not (eqb state empty_data)
 unfoldable pub store_part : (psw : ℕ) → FoundOperands → (low word a : ℕ) → Part → (k : Cell) → Decision
 store_part psw s low word a part k =
     cond (store_waits low k.tag) (Waits Data)
-    (executed s Nothing (Put a (cell full_data (placed part word k.word))) (Continues (next_of psw)))
+    (executed s None (Some (a, cell full_data (placed part word k.word))) (Continues (next_of psw)))
 
 -- the part of the data word at the real word address a; where none is specified, 12
-unfoldable pub part_reach : (a : ℕ) → Specified → Reach
-part_reach a (specified.Part part) = Reaches a part
-part_reach a specified.Illegal = Stops trap.IllegalInstruction
+unfoldable pub part_reach : (a : ℕ) → Option Part → Result (ℕ × Part) Trap
+part_reach a (Some part) = Ok (a, part)
+part_reach a None = Err trap.IllegalInstruction
 
 -- check 7 of the byte address e, by its place: a protection violation is 14; then the part that its low three bits specify
-unfoldable pub data_reach : (low e : ℕ) → Place → Reach
-data_reach low e (At a) = part_reach (a / 8) (specified_part low e)
-data_reach low e Violation = Stops trap.ProtectionViolation
+unfoldable pub data_reach : (low e : ℕ) → Option ℕ → Result (ℕ × Part) Trap
+data_reach low e (Some a) = part_reach (a / 8) (specified_part low e)
+data_reach low e None = Err trap.ProtectionViolation
 
-unfoldable pub load_from : Environment → FoundOperands → (low : ℕ) → Reach → Decision
-load_from v s low (Reaches a part) = load_part v.psw s low a part (v.datum a)
-load_from v s low (Stops k) = Traps k v.psw
+unfoldable pub load_from : Environment → FoundOperands → (low : ℕ) → Result (ℕ × Part) Trap → Decision
+load_from v s low (Ok (a, part)) = load_part v.psw s low a part (v.datum a)
+load_from v s low (Err k) = Traps k v.psw
 
 unfoldable pub perform_load : Environment → FoundOperands → (low e : ℕ) → Decision
 perform_load v s low e = load_from v s low (data_reach low e (byte_place v.row e))
 
-unfoldable pub store_to : Environment → FoundOperands → (low word : ℕ) → Reach → Decision
-store_to v s low word (Reaches a part) = store_part v.psw s low word a part (v.datum a)
-store_to v s low word (Stops k) = Traps k v.psw
+unfoldable pub store_to : Environment → FoundOperands → (low word : ℕ) → Result (ℕ × Part) Trap → Decision
+store_to v s low word (Ok (a, part)) = store_part v.psw s low word a part (v.datum a)
+store_to v s low word (Err k) = Traps k v.psw
 
 unfoldable pub perform_store : Environment → FoundOperands → (low word e : ℕ) → Decision
 perform_store v s low word e = store_to v s low word (data_reach low e (byte_place v.row e))
 
 -- what each operation does with D, S0, S1 and S2
 unfoldable pub perform : Operation → Environment → Instruction → FoundOperands → Decision
-perform operation.Nop v i s = executed s Nothing Nothing (Continues (next_of v.psw))
+perform operation.Nop v i s = executed s None None (Continues (next_of v.psw))
 perform (operation.Three op) v i s = perform_result v s (result_three op (word_s1 s) (word_s2 s))
 perform (operation.Two op) v i s = perform_result v s (result_two op (word_s1 s))
 perform (operation.One op) v i s = perform_result v s (result_one op)

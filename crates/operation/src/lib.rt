@@ -3,9 +3,10 @@
 
 ghost use Rattle.std.specs.Prelude.{◌≡◌};
 ghost use Rattle.operation.specs.Environment.{kind_of};
+ghost use Rattle.operation.specs.Code.Courses.{trap_course};
 
 use operand::{Operand, Role};
-use window::{Cell, Write};
+use window::Cell;
 use word::Part;
 
 // An operation, with the test, the action list or the access bits that its code holds; of B also the left digit of its address.
@@ -112,20 +113,6 @@ pub enum Wait {
     Create,
 }
 
-// The part of a data word that B and the low three address bits specify, if they specify one.
-#[derive(Clone, Copy)]
-pub enum Specified {
-    Part(Part),
-    Illegal,
-}
-
-// The part of a data word that may be reached, by the word's real address, or why the step traps.
-#[derive(Clone, Copy)]
-pub enum Reach {
-    Reaches(usize, Part),
-    Stops(Trap),
-}
-
 // What becomes of the process: it goes on with a PSW, it leaves, or it goes on and a process with the second PSW joins.
 #[derive(Clone, Copy)]
 pub enum Fate {
@@ -137,11 +124,11 @@ pub enum Fate {
 // What an executed step writes, in order: the sources of the three fields, the destination, the data word; and the process's fate.
 #[derive(Clone, Copy)]
 pub struct Effects {
-    pub first: Write,
-    pub second: Write,
-    pub third: Write,
-    pub destination: Write,
-    pub datum: Write,
+    pub first: Option<(usize, Cell)>,
+    pub second: Option<(usize, Cell)>,
+    pub third: Option<(usize, Cell)>,
+    pub destination: Option<(usize, Cell)>,
+    pub datum: Option<(usize, Cell)>,
     pub fate: Fate,
 }
 
@@ -169,6 +156,45 @@ pub enum Course {
     SupervisorCall,
     SimulatedInstruction,
     DataException,
+}
+
+// A window of a task by its numbers: its real addresses go from base on and end below end.
+#[derive(Clone, Copy)]
+pub struct Bounds {
+    pub base: u32,
+    pub end: u32,
+}
+
+// The windows of a task by their numbers; of its constants the base doubled.
+#[derive(Clone, Copy)]
+pub struct Windows {
+    pub constants: u32,
+    pub registers: Bounds,
+    pub program: Bounds,
+    pub data: Bounds,
+}
+
+// The process that acts: its PT and its PSW.
+#[derive(Clone, Copy)]
+pub struct Process {
+    pub pt: usize,
+    pub psw: u64,
+}
+
+impl From<Trap> for Course {
+    ghost from_gives = { λ trap course. course ≡ trap_course trap };
+
+    fn from(trap: Trap) -> Course {
+        match trap {
+            Trap::CreateFault => Course::CreateFault,
+            Trap::IllegalInstruction => Course::IllegalInstruction,
+            Trap::ProtectionViolation => Course::ProtectionViolation,
+            Trap::PrivilegedInstruction => Course::PrivilegedInstruction,
+            Trap::SupervisorCall => Course::SupervisorCall,
+            Trap::SimulatedInstruction => Course::SimulatedInstruction,
+            Trap::DataException => Course::DataException,
+        }
+    }
 }
 
 // The trap kind as document 01 numbers it.

@@ -1,104 +1,75 @@
 // What operations share, by the roles of their fields: D, S0, S1, S2 or unused.
-// illegal: check 2, an illegal access code or a nonzero unused field. waits: check 5, each source with its tag, D by its address.
-// masked: check 6, each source with its address and its tag, a constant by its quality. release: sources are set empty, each by its address and its tag before the step.
-// write: that, then the destination gets a word of a quality.
+// illegal_fields: check 2, an illegal access code or a nonzero unused field. found: the operand of check 4. waits: check 5. masked: check 6, a constant by its quality.
+// release: sources are set empty. write: that, then the destination gets a word of a quality.
 #![tactic(auto)]
 
 ghost use Rattle.std.specs.Prelude.{◌≡◌, ◌/◌, ◌%◌, ◌^◌, ◌&&◌, ◌||◌, eqb, get_or, set};
-ghost use Rattle.operand.specs.declared.Role.TheVariants.{Unused, Destination, Source};
+ghost use Rattle.window.specs.Memories.{memory};
+ghost use Rattle.operand.specs.declared.Role.TheVariants.{Destination, Source};
 ghost use Rattle.operand.specs.Field.{access_of, illegal_field};
 ghost use Rattle.operand.specs.Access.{waits_of, masked_of, destination_tag};
 ghost use Rattle.operand.specs.Code.Cells.{source_tag};
 ghost use Rattle.operand.specs.Code.Spans.{released};
 ghost use Rattle.operation.specs.declared.Course.TheVariants.{Continues};
+ghost use Rattle.operation_checks.specs.Code.Operands.{source_at, destination_at};
 
-use operand::Role;
+use operand::{Operand, Role};
 use operation::Course;
 
-// Two unused fields.
-pub fn illegal_two_unused(a: u16, b: u16) -> bool
-    ensures { result ≡ illegal_field Unused a || illegal_field Unused b }
-{
-    if operand::illegal_field(Role::Unused, a) {
-        return true;
-    }
-    operand::illegal_field(Role::Unused, b)
+// A source that was found: its field, its place, and the tag and the word that stand there, of a constant the tag of a full register.
+#[derive(Clone, Copy)]
+pub struct FoundSource {
+    pub field: u16,
+    pub place: usize,
+    pub tag: u8,
+    pub word: u64,
 }
 
-// No operand.
-pub fn illegal_none(first: u16, second: u16, third: u16) -> bool
-    ensures { result ≡ illegal_field Unused first || (illegal_field Unused second || illegal_field Unused third) }
-{
-    if operand::illegal_field(Role::Unused, first) {
-        return true;
-    }
-    illegal_two_unused(second, third)
+// A destination that was found: its field and its place.
+#[derive(Clone, Copy)]
+pub struct FoundDestination {
+    pub field: u16,
+    pub place: usize,
 }
 
-// D alone.
-pub fn illegal_d(first: u16, second: u16, third: u16) -> bool
-    ensures { result ≡ illegal_field Destination first || (illegal_field Unused second || illegal_field Unused third) }
+// Each field by its role.
+pub fn illegal_fields(r1: Role, first: u16, r2: Role, second: u16, r3: Role, third: u16) -> bool
+    ensures { result ≡ illegal_field r1 first || (illegal_field r2 second || illegal_field r3 third) }
 {
-    if operand::illegal_field(Role::Destination, first) {
+    if operand::illegal_field(r1, first) {
         return true;
     }
-    illegal_two_unused(second, third)
+    if operand::illegal_field(r2, second) {
+        return true;
+    }
+    operand::illegal_field(r3, third)
 }
 
-// D, S1.
-pub fn illegal_d_s1(first: u16, second: u16, third: u16) -> bool
-    ensures { result ≡ illegal_field Destination first || (illegal_field Source second || illegal_field Unused third) }
+// What stands where the field of a source leads.
+pub fn found_source(
+    field: u16,
+    o: Operand,
+    constant_words: &[u64],
+    register_tags: &[u8],
+    register_words: &[u64],
+) -> FoundSource
+    ensures { result ≡ source_at (memory register_tags.now register_words.now) constant_words.now field o }
 {
-    if operand::illegal_field(Role::Destination, first) {
-        return true;
+    let cell = operand::cell(constant_words, register_tags, register_words, o);
+    FoundSource {
+        field,
+        place: operand::number(o),
+        tag: cell.tag,
+        word: cell.word,
     }
-    if operand::illegal_field(Role::Source, second) {
-        return true;
-    }
-    operand::illegal_field(Role::Unused, third)
 }
 
-// S1, S2.
-pub fn illegal_s1_s2(second: u16, third: u16) -> bool
-    ensures { result ≡ illegal_field Source second || illegal_field Source third }
+// Where the field of a destination leads.
+pub fn found_destination(field: u16, o: Operand) -> FoundDestination
+    ensures { result ≡ destination_at field o }
 {
-    if operand::illegal_field(Role::Source, second) {
-        return true;
-    }
-    operand::illegal_field(Role::Source, third)
-}
-
-// S1, S2 after an unused field.
-pub fn illegal_unused_s1_s2(first: u16, second: u16, third: u16) -> bool
-    ensures { result ≡ illegal_field Unused first || (illegal_field Source second || illegal_field Source third) }
-{
-    if operand::illegal_field(Role::Unused, first) {
-        return true;
-    }
-    illegal_s1_s2(second, third)
-}
-
-// D, S1, S2.
-pub fn illegal_d_s1_s2(first: u16, second: u16, third: u16) -> bool
-    ensures { result ≡ illegal_field Destination first || (illegal_field Source second || illegal_field Source third) }
-{
-    if operand::illegal_field(Role::Destination, first) {
-        return true;
-    }
-    illegal_s1_s2(second, third)
-}
-
-// S2 alone.
-pub fn illegal_s2(first: u16, second: u16, third: u16) -> bool
-    ensures { result ≡ illegal_field Unused first || (illegal_field Unused second || illegal_field Source third) }
-{
-    if operand::illegal_field(Role::Unused, first) {
-        return true;
-    }
-    if operand::illegal_field(Role::Unused, second) {
-        return true;
-    }
-    operand::illegal_field(Role::Source, third)
+    let place = operand::number(o);
+    FoundDestination { field, place }
 }
 
 // The bits of AC are zero in a field: no access test, and nothing to set empty. A constant may have ones there.
@@ -127,183 +98,166 @@ fn plain_three(f: u16, g: u16, h: u16) -> bool
 }
 
 // D.
-pub fn waits_d(first: u16, d: usize, register_tags: &[u8]) -> bool
-    ensures { result ≡ waits_of Destination (access_of first) (get_or register_tags.now d 0) }
+pub fn waits_d(d: FoundDestination, register_tags: &[u8]) -> bool
+    ensures { result ≡ waits_of Destination (access_of d.field) (get_or register_tags.now d.place 0) }
 {
     operand::waits(
         Role::Destination,
-        operand::access(first),
-        window::tag_at(register_tags, d),
+        operand::access(d.field),
+        window::at_or(register_tags, d.place, 0),
     )
 }
 
-// D, S1.
-pub fn waits_d_s1(first: u16, d: usize, second: u16, x: u8, register_tags: &[u8]) -> bool
-    ensures { result ≡ waits_of Destination (access_of first) (get_or register_tags.now d 0) || waits_of Source (access_of second) x }
+// A source.
+pub fn waits_source(s: FoundSource) -> bool
+    ensures { result ≡ waits_of Source (access_of s.field) s.tag }
 {
-    if plain_two(first, second) {
-        return false;
-    }
-    if waits_d(first, d, register_tags) {
-        return true;
-    }
-    operand::waits(Role::Source, operand::access(second), x)
+    operand::waits(Role::Source, operand::access(s.field), s.tag)
 }
 
-fn sources_wait(second: u16, x: u8, third: u16, y: u8) -> bool
-    ensures { result ≡ waits_of Source (access_of second) x || waits_of Source (access_of third) y }
+// D, S1.
+pub fn waits_d_s1(d: FoundDestination, s1: FoundSource, register_tags: &[u8]) -> bool
+    ensures { result ≡ waits_of Destination (access_of d.field) (get_or register_tags.now d.place 0) || waits_of Source (access_of s1.field) s1.tag }
 {
-    if operand::waits(Role::Source, operand::access(second), x) {
+    if plain_two(d.field, s1.field) {
+        return false;
+    }
+    if waits_d(d, register_tags) {
         return true;
     }
-    operand::waits(Role::Source, operand::access(third), y)
+    waits_source(s1)
+}
+
+fn sources_wait(s1: FoundSource, s2: FoundSource) -> bool
+    ensures { result ≡ waits_of Source (access_of s1.field) s1.tag || waits_of Source (access_of s2.field) s2.tag }
+{
+    if waits_source(s1) {
+        return true;
+    }
+    waits_source(s2)
 }
 
 // S1, S2.
-pub fn waits_s1_s2(second: u16, x: u8, third: u16, y: u8) -> bool
-    ensures { result ≡ waits_of Source (access_of second) x || waits_of Source (access_of third) y }
+pub fn waits_s1_s2(s1: FoundSource, s2: FoundSource) -> bool
+    ensures { result ≡ waits_of Source (access_of s1.field) s1.tag || waits_of Source (access_of s2.field) s2.tag }
 {
-    if plain_two(second, third) {
+    if plain_two(s1.field, s2.field) {
         return false;
     }
-    sources_wait(second, x, third, y)
+    sources_wait(s1, s2)
 }
 
 // D, S1, S2.
 pub fn waits_d_s1_s2(
-    first: u16,
-    d: usize,
-    second: u16,
-    x: u8,
-    third: u16,
-    y: u8,
+    d: FoundDestination,
+    s1: FoundSource,
+    s2: FoundSource,
     register_tags: &[u8],
 ) -> bool
-    ensures { result ≡ waits_of Destination (access_of first) (get_or register_tags.now d 0) || (waits_of Source (access_of second) x || waits_of Source (access_of third) y) }
+    ensures { result ≡ waits_of Destination (access_of d.field) (get_or register_tags.now d.place 0) || (waits_of Source (access_of s1.field) s1.tag || waits_of Source (access_of s2.field) s2.tag) }
 {
-    if plain_three(first, second, third) {
+    if plain_three(d.field, s1.field, s2.field) {
         return false;
     }
-    if waits_d(first, d, register_tags) {
+    if waits_d(d, register_tags) {
         return true;
     }
-    sources_wait(second, x, third, y)
+    sources_wait(s1, s2)
 }
 
 // S0, S1, S2.
-pub fn waits_s0_s1_s2(first: u16, t: u8, second: u16, x: u8, third: u16, y: u8) -> bool
-    ensures { result ≡ waits_of Source (access_of first) t || (waits_of Source (access_of second) x || waits_of Source (access_of third) y) }
+pub fn waits_s0_s1_s2(s0: FoundSource, s1: FoundSource, s2: FoundSource) -> bool
+    ensures { result ≡ waits_of Source (access_of s0.field) s0.tag || (waits_of Source (access_of s1.field) s1.tag || waits_of Source (access_of s2.field) s2.tag) }
 {
-    if plain_three(first, second, third) {
+    if plain_three(s0.field, s1.field, s2.field) {
         return false;
     }
-    if operand::waits(Role::Source, operand::access(first), t) {
+    if waits_source(s0) {
         return true;
     }
-    sources_wait(second, x, third, y)
+    sources_wait(s1, s2)
+}
+
+// A source.
+pub fn masked(psw: u64, s: FoundSource, constant_tags: &[u8]) -> bool
+    ensures { result ≡ masked_of Source psw (source_tag s.field s.place s.tag constant_tags.now) }
+{
+    operand::masked(psw, s.field, s.place, s.tag, constant_tags)
 }
 
 // S1, S2.
-pub fn masked_s1_s2(
-    psw: u64,
-    second: u16,
-    a: usize,
-    x: u8,
-    third: u16,
-    b: usize,
-    y: u8,
-    constant_tags: &[u8],
-) -> bool
-    ensures { result ≡ masked_of Source psw (source_tag second a x constant_tags.now) || masked_of Source psw (source_tag third b y constant_tags.now) }
+pub fn masked_s1_s2(psw: u64, s1: FoundSource, s2: FoundSource, constant_tags: &[u8]) -> bool
+    ensures { result ≡ masked_of Source psw (source_tag s1.field s1.place s1.tag constant_tags.now) || masked_of Source psw (source_tag s2.field s2.place s2.tag constant_tags.now) }
 {
-    if operand::masked(psw, second, a, x, constant_tags) {
+    if masked(psw, s1, constant_tags) {
         return true;
     }
-    operand::masked(psw, third, b, y, constant_tags)
+    masked(psw, s2, constant_tags)
 }
 
 // S0, S1, S2.
 pub fn masked_s0_s1_s2(
     psw: u64,
-    first: u16,
-    c: usize,
-    t: u8,
-    second: u16,
-    a: usize,
-    x: u8,
-    third: u16,
-    b: usize,
-    y: u8,
+    s0: FoundSource,
+    s1: FoundSource,
+    s2: FoundSource,
     constant_tags: &[u8],
 ) -> bool
-    ensures { result ≡ masked_of Source psw (source_tag first c t constant_tags.now) || (masked_of Source psw (source_tag second a x constant_tags.now) || masked_of Source psw (source_tag third b y constant_tags.now)) }
+    ensures { result ≡ masked_of Source psw (source_tag s0.field s0.place s0.tag constant_tags.now) || (masked_of Source psw (source_tag s1.field s1.place s1.tag constant_tags.now) || masked_of Source psw (source_tag s2.field s2.place s2.tag constant_tags.now)) }
 {
-    if operand::masked(psw, first, c, t, constant_tags) {
+    if masked(psw, s0, constant_tags) {
         return true;
     }
-    masked_s1_s2(psw, second, a, x, third, b, y, constant_tags)
+    masked_s1_s2(psw, s1, s2, constant_tags)
+}
+
+// A source.
+pub fn release(s: FoundSource, register_tags: &mut [u8])
+    ensures { register_tags.new ≡ released s.field s.place s.tag register_tags.old }
+{
+    operand::release(s.field, s.place, s.tag, register_tags);
 }
 
 // S1, S2.
-pub fn release_s1_s2(
-    second: u16,
-    a: usize,
-    x: u8,
-    third: u16,
-    b: usize,
-    y: u8,
-    register_tags: &mut [u8],
-)
-    ensures { register_tags.new ≡ released third b y (released second a x register_tags.old) }
+pub fn release_s1_s2(s1: FoundSource, s2: FoundSource, register_tags: &mut [u8])
+    ensures { register_tags.new ≡ released s2.field s2.place s2.tag (released s1.field s1.place s1.tag register_tags.old) }
 {
-    if plain_two(second, third) {
+    if plain_two(s1.field, s2.field) {
         return;
     }
-    operand::release(second, a, x, register_tags);
-    operand::release(third, b, y, register_tags);
+    release(s1, register_tags);
+    release(s2, register_tags);
 }
 
 // S0, S1, S2.
-pub fn release_s0_s1_s2(
-    first: u16,
-    c: usize,
-    t: u8,
-    second: u16,
-    a: usize,
-    x: u8,
-    third: u16,
-    b: usize,
-    y: u8,
-    register_tags: &mut [u8],
-)
-    ensures { register_tags.new ≡ released third b y (released second a x (released first c t register_tags.old)) }
+pub fn release_s0_s1_s2(s0: FoundSource, s1: FoundSource, s2: FoundSource, register_tags: &mut [u8])
+    ensures { register_tags.new ≡ released s2.field s2.place s2.tag (released s1.field s1.place s1.tag (released s0.field s0.place s0.tag register_tags.old)) }
 {
-    operand::release(first, c, t, register_tags);
-    release_s1_s2(second, a, x, third, b, y, register_tags);
+    release(s0, register_tags);
+    release_s1_s2(s1, s2, register_tags);
 }
 
 // The tag and the word of a register.
 fn put(d: usize, tag: u8, word: u64, register_tags: &mut [u8], register_words: &mut [u64])
     ensures { (register_tags.new ≡ set register_tags.old d tag) × (register_words.new ≡ set register_words.old d word) }
 {
-    window::set_tag(register_tags, d, tag);
-    window::set_word(register_words, d, word);
+    window::set_at(register_tags, d, tag);
+    window::set_at(register_words, d, word);
 }
 
 // D.
 pub fn write_d(
-    first: u16,
-    d: usize,
+    d: FoundDestination,
     word: u64,
     quality: u8,
     register_tags: &mut [u8],
     register_words: &mut [u64],
 )
-    ensures { (register_tags.new ≡ set register_tags.old d (destination_tag (access_of first) quality)) × (register_words.new ≡ set register_words.old d word) }
+    ensures { (register_tags.new ≡ set register_tags.old d.place (destination_tag (access_of d.field) quality)) × (register_words.new ≡ set register_words.old d.place word) }
 {
     put(
-        d,
-        operand::destination_tag(operand::access(first), quality),
+        d.place,
+        operand::destination_tag(operand::access(d.field), quality),
         word,
         register_tags,
         register_words,
@@ -311,88 +265,69 @@ pub fn write_d(
 }
 
 // S1 is let go; the tag that D is left with.
-fn release_d_s1(
-    first: u16,
-    second: u16,
-    a: usize,
-    x: u8,
-    quality: u8,
-    register_tags: &mut [u8],
-) -> u8
-    ensures { (result ≡ destination_tag (access_of first) quality) × (register_tags.new ≡ released second a x register_tags.old) }
+fn release_d_s1(d: FoundDestination, s1: FoundSource, quality: u8, register_tags: &mut [u8]) -> u8
+    ensures { (result ≡ destination_tag (access_of d.field) quality) × (register_tags.new ≡ released s1.field s1.place s1.tag register_tags.old) }
 {
-    if plain_two(first, second) {
+    if plain_two(d.field, s1.field) {
         return quality % 8;
     }
-    operand::release(second, a, x, register_tags);
-    operand::destination_tag(operand::access(first), quality)
+    release(s1, register_tags);
+    operand::destination_tag(operand::access(d.field), quality)
 }
 
 // D, S1.
 pub fn write_d_s1(
-    first: u16,
-    d: usize,
-    second: u16,
-    a: usize,
-    x: u8,
+    d: FoundDestination,
+    s1: FoundSource,
     word: u64,
     quality: u8,
     register_tags: &mut [u8],
     register_words: &mut [u64],
 )
-    ensures { (register_tags.new ≡ set (released second a x register_tags.old) d (destination_tag (access_of first) quality)) × (register_words.new ≡ set register_words.old d word) }
+    ensures { (register_tags.new ≡ set (released s1.field s1.place s1.tag register_tags.old) d.place (destination_tag (access_of d.field) quality)) × (register_words.new ≡ set register_words.old d.place word) }
 {
-    let tag = release_d_s1(first, second, a, x, quality, register_tags);
-    put(d, tag, word, register_tags, register_words);
+    let tag = release_d_s1(d, s1, quality, register_tags);
+    put(d.place, tag, word, register_tags, register_words);
 }
 
 // S1 and S2 are let go; the tag that D is left with.
 fn release_d_s1_s2(
-    first: u16,
-    second: u16,
-    a: usize,
-    x: u8,
-    third: u16,
-    b: usize,
-    y: u8,
+    d: FoundDestination,
+    s1: FoundSource,
+    s2: FoundSource,
     quality: u8,
     register_tags: &mut [u8],
 ) -> u8
-    ensures { (result ≡ destination_tag (access_of first) quality) × (register_tags.new ≡ released third b y (released second a x register_tags.old)) }
+    ensures { (result ≡ destination_tag (access_of d.field) quality) × (register_tags.new ≡ released s2.field s2.place s2.tag (released s1.field s1.place s1.tag register_tags.old)) }
 {
-    if plain_three(first, second, third) {
+    if plain_three(d.field, s1.field, s2.field) {
         return quality % 8;
     }
-    operand::release(second, a, x, register_tags);
-    operand::release(third, b, y, register_tags);
-    operand::destination_tag(operand::access(first), quality)
+    release(s1, register_tags);
+    release(s2, register_tags);
+    operand::destination_tag(operand::access(d.field), quality)
 }
 
 // D, S1, S2.
 pub fn write_d_s1_s2(
-    first: u16,
-    d: usize,
-    second: u16,
-    a: usize,
-    x: u8,
-    third: u16,
-    b: usize,
-    y: u8,
+    d: FoundDestination,
+    s1: FoundSource,
+    s2: FoundSource,
     word: u64,
     quality: u8,
     register_tags: &mut [u8],
     register_words: &mut [u64],
 )
-    ensures { (register_tags.new ≡ set (released third b y (released second a x register_tags.old)) d (destination_tag (access_of first) quality)) × (register_words.new ≡ set register_words.old d word) }
+    ensures { (register_tags.new ≡ set (released s2.field s2.place s2.tag (released s1.field s1.place s1.tag register_tags.old)) d.place (destination_tag (access_of d.field) quality)) × (register_words.new ≡ set register_words.old d.place word) }
 {
-    let tag = release_d_s1_s2(first, second, a, x, third, b, y, quality, register_tags);
-    put(d, tag, word, register_tags, register_words);
+    let tag = release_d_s1_s2(d, s1, s2, quality, register_tags);
+    put(d.place, tag, word, register_tags, register_words);
 }
 
 // The process goes on with the PSW p.
 pub fn continues(psws: &mut [u64], pt: usize, p: u64) -> Course
     ensures { (result ≡ Continues) × (psws.new ≡ set psws.old pt p) }
 {
-    window::set_word(psws, pt, p);
+    window::set_at(psws, pt, p);
     Course::Continues
 }

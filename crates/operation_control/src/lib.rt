@@ -1,5 +1,5 @@
 // Operations on the process itself: NOP, B, CALL, CREATE, QT and SVC. Each acts at once: the public function tests the fields and looks the operands up,
-// the function `_found` tests what stands there, then writes. The operands of the three fields are d, a, b, of S1 and S2 the tags x, y (0 of a constant) and the words s1, s2.
+// the function `_found` tests what stands there, then writes. The operands that were found are d, s1 and s2.
 #![tactic(auto)]
 
 ghost use Rattle.std.specs.Prelude.{◌≡◌, cond, List, eqb, get_or, set, ℕ, ◌+◌, ◌*◌, ◌%◌, ◌^◌};
@@ -21,19 +21,27 @@ ghost use Rattle.operation.specs.Code.FoundOperands.{instruction, all_found_at};
 ghost use Rattle.operation.specs.Perform.{branched, called, created, create_waits};
 ghost use Rattle.operation.specs.Decide.{decide_found, decide_listed, decide_code};
 ghost use Rattle.step.specs.Code.Performs.{Performs};
-ghost use Rattle.operation_checks.specs.Code.Operands.{Destined, Sourced};
+ghost use Rattle.operation_checks.specs.Code.Operands.{DestinationFound, SourceFound};
 
-use operand::{Lookup, Role};
-use operation::Course;
+use operand::Role;
+use operation::{Course, Process, Windows};
+use operation_checks::{FoundDestination, FoundSource};
 
 // NOP.
-pub fn nop(psws: &mut [u64], pt: usize, psw: u64, first: u16, second: u16, third: u16) -> Course
-    ensures { (row : Row) (code flag fresh : ℕ) (program : List ℕ) (constants : Memory) (m n : Memory) → psw ≡ get_or psws.old pt 0 → Performs row (decide_listed (roles Unused Unused Unused) operation.Nop (environment_of row psw flag program constants m n) (instruction code first second third)) pt fresh result psws.old psws.new m m n n }
+pub fn nop(psws: &mut [u64], process: Process, first: u16, second: u16, third: u16) -> Course
+    ensures { (row : Row) (code flag fresh : ℕ) (program : List ℕ) (constants : Memory) (m n : Memory) → process.psw ≡ get_or psws.old process.pt 0 → Performs row (decide_listed (roles Unused Unused Unused) operation.Nop (environment_of row process.psw flag program constants m n) (instruction code first second third)) process.pt fresh result psws.old psws.new m m n n }
 {
-    if operation_checks::illegal_none(first, second, third) {
+    if operation_checks::illegal_fields(
+        Role::Unused,
+        first,
+        Role::Unused,
+        second,
+        Role::Unused,
+        third,
+    ) {
         return Course::IllegalInstruction;
     }
-    operation_checks::continues(psws, pt, word::next(psw))
+    operation_checks::continues(psws, process.pt, word::next(process.psw))
 }
 
 // B: PC = P, then each field gets S1's added.
@@ -62,42 +70,36 @@ fn branch_found(
     c: u16,
     p: u16,
     psws: &mut [u64],
-    pt: usize,
-    psw: u64,
+    process: Process,
     first: u16,
-    second: u16,
-    a: usize,
-    x: u8,
-    s1: u64,
-    third: u16,
-    b: usize,
-    y: u8,
-    s2: u64,
+    s1: FoundSource,
+    s2: FoundSource,
     constant_tags: &[u8],
     register_tags: &mut [u8],
 ) -> Course
-    ensures { (row : Row) (v : Environment) (i : Instruction) (words constant_words : List ℕ) (n : Memory) (fresh : ℕ) (oa ob : Operand) → v.psw ≡ psw → i.first ≡ first → psw ≡ get_or psws.old pt 0 → Sourced row register_tags.old words (memory constant_tags.now constant_words) second oa a x s1 → Sourced row register_tags.old words (memory constant_tags.now constant_words) third ob b y s2 → Performs row (decide_found (operation.Branch c p) v i (all_found_at (memory register_tags.old words) (memory constant_tags.now constant_words) (roles Free Source Source) first second third Absent oa ob)) pt fresh result psws.old psws.new (memory register_tags.old words) (memory register_tags.new words) n n }
+    ensures { (row : Row) (v : Environment) (i : Instruction) (words constant_words : List ℕ) (n : Memory) (fresh : ℕ) (oa ob : Operand) → v.psw ≡ process.psw → i.first ≡ first → process.psw ≡ get_or psws.old process.pt 0 → SourceFound row register_tags.old words (memory constant_tags.now constant_words) oa s1 → SourceFound row register_tags.old words (memory constant_tags.now constant_words) ob s2 → Performs row (decide_found (operation.Branch c p) v i (all_found_at (memory register_tags.old words) (memory constant_tags.now constant_words) (roles Free Source Source) first s1.field s2.field Absent oa ob)) process.pt fresh result psws.old psws.new (memory register_tags.old words) (memory register_tags.new words) n n }
 {
-    if operation_checks::waits_s1_s2(second, x, third, y) {
+    if operation_checks::waits_s1_s2(s1, s2) {
         return Course::Waits;
     }
-    if operation_checks::masked_s1_s2(psw, second, a, x, third, b, y, constant_tags) {
+    if operation_checks::masked_s1_s2(process.psw, s1, s2, constant_tags) {
         return Course::DataException;
     }
-    operation_checks::release_s1_s2(second, a, x, third, b, y, register_tags);
-    operation_checks::continues(psws, pt, branch_psw(c, p, first, psw, s1, s2, y))
+    operation_checks::release_s1_s2(s1, s2, register_tags);
+    operation_checks::continues(
+        psws,
+        process.pt,
+        branch_psw(c, p, first, process.psw, s1.word, s2.word, s2.tag),
+    )
 }
 
-// B: the right 16 bits of P, S1, S2. The registers of the task are those from base on and below end; cb is its constant base doubled.
+// B: the right 16 bits of P, S1, S2.
 pub fn branch(
     c: u16,
     p: u16,
-    cb: u32,
-    base: u32,
-    end: u32,
+    windows: Windows,
     psws: &mut [u64],
-    pt: usize,
-    psw: u64,
+    process: Process,
     first: u16,
     second: u16,
     third: u16,
@@ -106,34 +108,58 @@ pub fn branch(
     register_tags: &mut [u8],
     register_words: &[u64],
 ) -> Course
-    ensures { (row : Row) (code flag fresh : ℕ) (program : List ℕ) (n : Memory) → Spans row cb base end → psw ≡ get_or psws.old pt 0 → Performs row (decide_listed (roles Free Source Source) (operation.Branch c p) (environment_of row psw flag program (memory constant_tags.now constant_words.now) (memory register_tags.old register_words.now) n) (instruction code first second third)) pt fresh result psws.old psws.new (memory register_tags.old register_words.now) (memory register_tags.new register_words.now) n n }
+    ensures { (row : Row) (code flag fresh : ℕ) (program : List ℕ) (n : Memory) → Spans row windows.constants windows.registers.base windows.registers.end → process.psw ≡ get_or psws.old process.pt 0 → Performs row (decide_listed (roles Free Source Source) (operation.Branch c p) (environment_of row process.psw flag program (memory constant_tags.now constant_words.now) (memory register_tags.old register_words.now) n) (instruction code first second third)) process.pt fresh result psws.old psws.new (memory register_tags.old register_words.now) (memory register_tags.new register_words.now) n n }
 {
-    if operation_checks::illegal_s1_s2(second, third) {
+    if operation_checks::illegal_fields(
+        Role::Free,
+        first,
+        Role::Source,
+        second,
+        Role::Source,
+        third,
+    ) {
         return Course::IllegalInstruction;
     }
-    let Lookup::Found(a) = operand::source(cb, base, end, psw, second) else {
+    let Some(a) = operand::source(
+        windows.constants,
+        windows.registers.base,
+        windows.registers.end,
+        process.psw,
+        second,
+    ) else {
         return Course::ProtectionViolation;
     };
-    let x = operand::cell(constant_words, register_tags, register_words, a);
-    let Lookup::Found(b) = operand::source(cb, base, end, psw, third) else {
+    let s1 = operation_checks::found_source(
+        second,
+        a,
+        constant_words,
+        register_tags,
+        register_words,
+    );
+    let Some(b) = operand::source(
+        windows.constants,
+        windows.registers.base,
+        windows.registers.end,
+        process.psw,
+        third,
+    ) else {
         return Course::ProtectionViolation;
     };
-    let y = operand::cell(constant_words, register_tags, register_words, b);
+    let s2 = operation_checks::found_source(
+        third,
+        b,
+        constant_words,
+        register_tags,
+        register_words,
+    );
     branch_found(
         c,
         p,
         psws,
-        pt,
-        psw,
+        process,
         first,
-        second,
-        operand::number(a),
-        x.tag,
-        x.word,
-        third,
-        operand::number(b),
-        y.tag,
-        y.word,
+        s1,
+        s2,
         constant_tags,
         register_tags,
     )
@@ -165,56 +191,44 @@ fn call_psw(c: u16, psw: u64, s1: u64, s2: u64, y: u8) -> u64
 fn call_found(
     c: u16,
     psws: &mut [u64],
-    pt: usize,
-    psw: u64,
-    first: u16,
-    d: usize,
-    second: u16,
-    a: usize,
-    x: u8,
-    s1: u64,
-    third: u16,
-    b: usize,
-    y: u8,
-    s2: u64,
+    process: Process,
+    d: FoundDestination,
+    s1: FoundSource,
+    s2: FoundSource,
     constant_tags: &[u8],
     register_tags: &mut [u8],
     register_words: &mut [u64],
 ) -> Course
-    ensures { (row : Row) (v : Environment) (i : Instruction) (constant_words : List ℕ) (n : Memory) (fresh : ℕ) (od oa ob : Operand) → v.psw ≡ psw → psw ≡ get_or psws.old pt 0 → Destined row od d → Sourced row register_tags.old register_words.old (memory constant_tags.now constant_words) second oa a x s1 → Sourced row register_tags.old register_words.old (memory constant_tags.now constant_words) third ob b y s2 → Performs row (decide_found (operation.Call c) v i (all_found_at (memory register_tags.old register_words.old) (memory constant_tags.now constant_words) (roles Destination Source Source) first second third od oa ob)) pt fresh result psws.old psws.new (memory register_tags.old register_words.old) (memory register_tags.new register_words.new) n n }
+    ensures { (row : Row) (v : Environment) (i : Instruction) (constant_words : List ℕ) (n : Memory) (fresh : ℕ) (od oa ob : Operand) → v.psw ≡ process.psw → process.psw ≡ get_or psws.old process.pt 0 → DestinationFound row od d → SourceFound row register_tags.old register_words.old (memory constant_tags.now constant_words) oa s1 → SourceFound row register_tags.old register_words.old (memory constant_tags.now constant_words) ob s2 → Performs row (decide_found (operation.Call c) v i (all_found_at (memory register_tags.old register_words.old) (memory constant_tags.now constant_words) (roles Destination Source Source) d.field s1.field s2.field od oa ob)) process.pt fresh result psws.old psws.new (memory register_tags.old register_words.old) (memory register_tags.new register_words.new) n n }
 {
-    if operation_checks::waits_d_s1_s2(first, d, second, x, third, y, register_tags) {
+    if operation_checks::waits_d_s1_s2(d, s1, s2, register_tags) {
         return Course::Waits;
     }
-    if operation_checks::masked_s1_s2(psw, second, a, x, third, b, y, constant_tags) {
+    if operation_checks::masked_s1_s2(process.psw, s1, s2, constant_tags) {
         return Course::DataException;
     }
     operation_checks::write_d_s1_s2(
-        first,
         d,
-        second,
-        a,
-        x,
-        third,
-        b,
-        y,
-        word::next(psw),
+        s1,
+        s2,
+        word::next(process.psw),
         0,
         register_tags,
         register_words,
     );
-    operation_checks::continues(psws, pt, call_psw(c, psw, s1, s2, y))
+    operation_checks::continues(
+        psws,
+        process.pt,
+        call_psw(c, process.psw, s1.word, s2.word, s2.tag),
+    )
 }
 
 // CALL: D, S1, S2.
 pub fn call(
     c: u16,
-    cb: u32,
-    base: u32,
-    end: u32,
+    windows: Windows,
     psws: &mut [u64],
-    pt: usize,
-    psw: u64,
+    process: Process,
     first: u16,
     second: u16,
     third: u16,
@@ -223,37 +237,66 @@ pub fn call(
     register_tags: &mut [u8],
     register_words: &mut [u64],
 ) -> Course
-    ensures { (row : Row) (code flag fresh : ℕ) (program : List ℕ) (n : Memory) → Spans row cb base end → psw ≡ get_or psws.old pt 0 → Performs row (decide_listed (roles Destination Source Source) (operation.Call c) (environment_of row psw flag program (memory constant_tags.now constant_words.now) (memory register_tags.old register_words.old) n) (instruction code first second third)) pt fresh result psws.old psws.new (memory register_tags.old register_words.old) (memory register_tags.new register_words.new) n n }
+    ensures { (row : Row) (code flag fresh : ℕ) (program : List ℕ) (n : Memory) → Spans row windows.constants windows.registers.base windows.registers.end → process.psw ≡ get_or psws.old process.pt 0 → Performs row (decide_listed (roles Destination Source Source) (operation.Call c) (environment_of row process.psw flag program (memory constant_tags.now constant_words.now) (memory register_tags.old register_words.old) n) (instruction code first second third)) process.pt fresh result psws.old psws.new (memory register_tags.old register_words.old) (memory register_tags.new register_words.new) n n }
 {
-    if operation_checks::illegal_d_s1_s2(first, second, third) {
+    if operation_checks::illegal_fields(
+        Role::Destination,
+        first,
+        Role::Source,
+        second,
+        Role::Source,
+        third,
+    ) {
         return Course::IllegalInstruction;
     }
-    let Lookup::Found(d) = operand::destination(base, end, psw, first) else {
+    let Some(r) = operand::destination(
+        windows.registers.base,
+        windows.registers.end,
+        process.psw,
+        first,
+    ) else {
         return Course::ProtectionViolation;
     };
-    let Lookup::Found(a) = operand::source(cb, base, end, psw, second) else {
+    let d = operation_checks::found_destination(first, r);
+    let Some(a) = operand::source(
+        windows.constants,
+        windows.registers.base,
+        windows.registers.end,
+        process.psw,
+        second,
+    ) else {
         return Course::ProtectionViolation;
     };
-    let x = operand::cell(constant_words, register_tags, register_words, a);
-    let Lookup::Found(b) = operand::source(cb, base, end, psw, third) else {
+    let s1 = operation_checks::found_source(
+        second,
+        a,
+        constant_words,
+        register_tags,
+        register_words,
+    );
+    let Some(b) = operand::source(
+        windows.constants,
+        windows.registers.base,
+        windows.registers.end,
+        process.psw,
+        third,
+    ) else {
         return Course::ProtectionViolation;
     };
-    let y = operand::cell(constant_words, register_tags, register_words, b);
+    let s2 = operation_checks::found_source(
+        third,
+        b,
+        constant_words,
+        register_tags,
+        register_words,
+    );
     call_found(
         c,
         psws,
-        pt,
-        psw,
-        first,
-        operand::number(d),
-        second,
-        operand::number(a),
-        x.tag,
-        x.word,
-        third,
-        operand::number(b),
-        y.tag,
-        y.word,
+        process,
+        d,
+        s1,
+        s2,
         constant_tags,
         register_tags,
         register_words,
@@ -302,8 +345,8 @@ fn create_waits(holds: bool, flag: u8) -> bool
 fn creates(psws: &mut [u64], pt: usize, p: u64, fresh: usize, new: u64) -> Course
     ensures { (result ≡ Creates) × (psws.new ≡ set (set psws.old pt p) fresh new) }
 {
-    window::set_word(psws, pt, p);
-    window::set_word(psws, fresh, new);
+    window::set_at(psws, pt, p);
+    window::set_at(psws, fresh, new);
     Course::Creates
 }
 
@@ -311,50 +354,46 @@ fn create_found(
     c: u16,
     act: u16,
     psws: &mut [u64],
-    pt: usize,
-    psw: u64,
+    process: Process,
     flag: u8,
     fresh: usize,
-    second: u16,
-    a: usize,
-    x: u8,
-    s1: u64,
-    third: u16,
-    b: usize,
-    y: u8,
-    s2: u64,
+    s1: FoundSource,
+    s2: FoundSource,
     constant_tags: &[u8],
     register_tags: &mut [u8],
 ) -> Course
-    ensures { (row : Row) (v : Environment) (i : Instruction) (words constant_words : List ℕ) (n : Memory) (first : ℕ) (oa ob : Operand) → v.psw ≡ psw → v.flag ≡ flag → psw ≡ get_or psws.old pt 0 → Sourced row register_tags.old words (memory constant_tags.now constant_words) second oa a x s1 → Sourced row register_tags.old words (memory constant_tags.now constant_words) third ob b y s2 → Performs row (decide_found (operation.Create c act) v i (all_found_at (memory register_tags.old words) (memory constant_tags.now constant_words) (roles Unused Source Source) first second third Absent oa ob)) pt fresh result psws.old psws.new (memory register_tags.old words) (memory register_tags.new words) n n }
+    ensures { (row : Row) (v : Environment) (i : Instruction) (words constant_words : List ℕ) (n : Memory) (first : ℕ) (oa ob : Operand) → v.psw ≡ process.psw → v.flag ≡ flag → process.psw ≡ get_or psws.old process.pt 0 → SourceFound row register_tags.old words (memory constant_tags.now constant_words) oa s1 → SourceFound row register_tags.old words (memory constant_tags.now constant_words) ob s2 → Performs row (decide_found (operation.Create c act) v i (all_found_at (memory register_tags.old words) (memory constant_tags.now constant_words) (roles Unused Source Source) first s1.field s2.field Absent oa ob)) process.pt fresh result psws.old psws.new (memory register_tags.old words) (memory register_tags.new words) n n }
 {
-    if operation_checks::waits_s1_s2(second, x, third, y) {
+    if operation_checks::waits_s1_s2(s1, s2) {
         return Course::Waits;
     }
-    if operation_checks::masked_s1_s2(psw, second, a, x, third, b, y, constant_tags) {
+    if operation_checks::masked_s1_s2(process.psw, s1, s2, constant_tags) {
         return Course::DataException;
     }
-    let holds = word::holds(c, s2, y, psw);
+    let holds = word::holds(c, s2.word, s2.tag, process.psw);
     if create_waits(holds, flag) {
         return Course::Waits;
     }
-    operation_checks::release_s1_s2(second, a, x, third, b, y, register_tags);
+    operation_checks::release_s1_s2(s1, s2, register_tags);
     if holds {
-        return creates(psws, pt, word::next(psw), fresh, created_psw(act, psw, s1));
+        return creates(
+            psws,
+            process.pt,
+            word::next(process.psw),
+            fresh,
+            created_psw(act, process.psw, s1.word),
+        );
     }
-    operation_checks::continues(psws, pt, word::next(psw))
+    operation_checks::continues(psws, process.pt, word::next(process.psw))
 }
 
 // CREATE: S1, S2. A created process gets the PT fresh.
 pub fn create(
     c: u16,
     act: u16,
-    cb: u32,
-    base: u32,
-    end: u32,
+    windows: Windows,
     psws: &mut [u64],
-    pt: usize,
-    psw: u64,
+    process: Process,
     flag: u8,
     fresh: usize,
     first: u16,
@@ -365,35 +404,59 @@ pub fn create(
     register_tags: &mut [u8],
     register_words: &[u64],
 ) -> Course
-    ensures { (row : Row) (code : ℕ) (program : List ℕ) (n : Memory) → Spans row cb base end → psw ≡ get_or psws.old pt 0 → Performs row (decide_listed (roles Unused Source Source) (operation.Create c act) (environment_of row psw flag program (memory constant_tags.now constant_words.now) (memory register_tags.old register_words.now) n) (instruction code first second third)) pt fresh result psws.old psws.new (memory register_tags.old register_words.now) (memory register_tags.new register_words.now) n n }
+    ensures { (row : Row) (code : ℕ) (program : List ℕ) (n : Memory) → Spans row windows.constants windows.registers.base windows.registers.end → process.psw ≡ get_or psws.old process.pt 0 → Performs row (decide_listed (roles Unused Source Source) (operation.Create c act) (environment_of row process.psw flag program (memory constant_tags.now constant_words.now) (memory register_tags.old register_words.now) n) (instruction code first second third)) process.pt fresh result psws.old psws.new (memory register_tags.old register_words.now) (memory register_tags.new register_words.now) n n }
 {
-    if operation_checks::illegal_unused_s1_s2(first, second, third) {
+    if operation_checks::illegal_fields(
+        Role::Unused,
+        first,
+        Role::Source,
+        second,
+        Role::Source,
+        third,
+    ) {
         return Course::IllegalInstruction;
     }
-    let Lookup::Found(a) = operand::source(cb, base, end, psw, second) else {
+    let Some(a) = operand::source(
+        windows.constants,
+        windows.registers.base,
+        windows.registers.end,
+        process.psw,
+        second,
+    ) else {
         return Course::ProtectionViolation;
     };
-    let x = operand::cell(constant_words, register_tags, register_words, a);
-    let Lookup::Found(b) = operand::source(cb, base, end, psw, third) else {
+    let s1 = operation_checks::found_source(
+        second,
+        a,
+        constant_words,
+        register_tags,
+        register_words,
+    );
+    let Some(b) = operand::source(
+        windows.constants,
+        windows.registers.base,
+        windows.registers.end,
+        process.psw,
+        third,
+    ) else {
         return Course::ProtectionViolation;
     };
-    let y = operand::cell(constant_words, register_tags, register_words, b);
+    let s2 = operation_checks::found_source(
+        third,
+        b,
+        constant_words,
+        register_tags,
+        register_words,
+    );
     create_found(
         c,
         act,
         psws,
-        pt,
-        psw,
+        process,
         flag,
         fresh,
-        second,
-        operand::number(a),
-        x.tag,
-        x.word,
-        third,
-        operand::number(b),
-        y.tag,
-        y.word,
+        s1,
+        s2,
         constant_tags,
         register_tags,
     )
@@ -402,39 +465,32 @@ pub fn create(
 fn quit_found(
     c: u16,
     psws: &mut [u64],
-    pt: usize,
-    psw: u64,
-    third: u16,
-    b: usize,
-    y: u8,
-    s2: u64,
+    process: Process,
+    s2: FoundSource,
     constant_tags: &[u8],
     register_tags: &mut [u8],
 ) -> Course
-    ensures { (row : Row) (v : Environment) (i : Instruction) (words constant_words : List ℕ) (n : Memory) (fresh first second : ℕ) (ob : Operand) → v.psw ≡ psw → psw ≡ get_or psws.old pt 0 → Sourced row register_tags.old words (memory constant_tags.now constant_words) third ob b y s2 → Performs row (decide_found (operation.Quit c) v i (all_found_at (memory register_tags.old words) (memory constant_tags.now constant_words) (roles Unused Unused Source) first second third Absent Absent ob)) pt fresh result psws.old psws.new (memory register_tags.old words) (memory register_tags.new words) n n }
+    ensures { (row : Row) (v : Environment) (i : Instruction) (words constant_words : List ℕ) (n : Memory) (fresh first second : ℕ) (ob : Operand) → v.psw ≡ process.psw → process.psw ≡ get_or psws.old process.pt 0 → SourceFound row register_tags.old words (memory constant_tags.now constant_words) ob s2 → Performs row (decide_found (operation.Quit c) v i (all_found_at (memory register_tags.old words) (memory constant_tags.now constant_words) (roles Unused Unused Source) first second s2.field Absent Absent ob)) process.pt fresh result psws.old psws.new (memory register_tags.old words) (memory register_tags.new words) n n }
 {
-    if operand::waits(Role::Source, operand::access(third), y) {
+    if operation_checks::waits_source(s2) {
         return Course::Waits;
     }
-    if operand::masked(psw, third, b, y, constant_tags) {
+    if operation_checks::masked(process.psw, s2, constant_tags) {
         return Course::DataException;
     }
-    operand::release(third, b, y, register_tags);
-    if word::holds(c, s2, y, psw) {
+    operation_checks::release(s2, register_tags);
+    if word::holds(c, s2.word, s2.tag, process.psw) {
         return Course::Quits;
     }
-    operation_checks::continues(psws, pt, word::next(psw))
+    operation_checks::continues(psws, process.pt, word::next(process.psw))
 }
 
 // QT: S2.
 pub fn quit(
     c: u16,
-    cb: u32,
-    base: u32,
-    end: u32,
+    windows: Windows,
     psws: &mut [u64],
-    pt: usize,
-    psw: u64,
+    process: Process,
     first: u16,
     second: u16,
     third: u16,
@@ -443,37 +499,52 @@ pub fn quit(
     register_tags: &mut [u8],
     register_words: &[u64],
 ) -> Course
-    ensures { (row : Row) (code flag fresh : ℕ) (program : List ℕ) (n : Memory) → Spans row cb base end → psw ≡ get_or psws.old pt 0 → Performs row (decide_listed (roles Unused Unused Source) (operation.Quit c) (environment_of row psw flag program (memory constant_tags.now constant_words.now) (memory register_tags.old register_words.now) n) (instruction code first second third)) pt fresh result psws.old psws.new (memory register_tags.old register_words.now) (memory register_tags.new register_words.now) n n }
+    ensures { (row : Row) (code flag fresh : ℕ) (program : List ℕ) (n : Memory) → Spans row windows.constants windows.registers.base windows.registers.end → process.psw ≡ get_or psws.old process.pt 0 → Performs row (decide_listed (roles Unused Unused Source) (operation.Quit c) (environment_of row process.psw flag program (memory constant_tags.now constant_words.now) (memory register_tags.old register_words.now) n) (instruction code first second third)) process.pt fresh result psws.old psws.new (memory register_tags.old register_words.now) (memory register_tags.new register_words.now) n n }
 {
-    if operation_checks::illegal_s2(first, second, third) {
+    if operation_checks::illegal_fields(
+        Role::Unused,
+        first,
+        Role::Unused,
+        second,
+        Role::Source,
+        third,
+    ) {
         return Course::IllegalInstruction;
     }
-    let Lookup::Found(b) = operand::source(cb, base, end, psw, third) else {
+    let Some(b) = operand::source(
+        windows.constants,
+        windows.registers.base,
+        windows.registers.end,
+        process.psw,
+        third,
+    ) else {
         return Course::ProtectionViolation;
     };
-    let y = operand::cell(constant_words, register_tags, register_words, b);
-    quit_found(
-        c,
-        psws,
-        pt,
-        psw,
+    let s2 = operation_checks::found_source(
         third,
-        operand::number(b),
-        y.tag,
-        y.word,
-        constant_tags,
+        b,
+        constant_words,
         register_tags,
-    )
+        register_words,
+    );
+    quit_found(c, psws, process, s2, constant_tags, register_tags)
 }
 
 // SVC: any first field, the others unused. It traps with the PC past it.
-pub fn svc(psws: &mut [u64], pt: usize, psw: u64, second: u16, third: u16) -> Course
-    ensures { (row : Row) (v : Environment) (code first fresh : ℕ) (m n : Memory) → v.psw ≡ psw → psw ≡ get_or psws.old pt 0 → Performs row (decide_code Svc v (instruction code first second third)) pt fresh result psws.old psws.new m m n n }
+pub fn svc(psws: &mut [u64], process: Process, first: u16, second: u16, third: u16) -> Course
+    ensures { (row : Row) (v : Environment) (code fresh : ℕ) (m n : Memory) → v.psw ≡ process.psw → process.psw ≡ get_or psws.old process.pt 0 → Performs row (decide_code Svc v (instruction code first second third)) process.pt fresh result psws.old psws.new m m n n }
 {
-    if operation_checks::illegal_two_unused(second, third) {
+    if operation_checks::illegal_fields(
+        Role::Free,
+        first,
+        Role::Unused,
+        second,
+        Role::Unused,
+        third,
+    ) {
         return Course::IllegalInstruction;
     }
-    let past = word::next(psw);
-    window::set_word(psws, pt, past);
+    let past = word::next(process.psw);
+    window::set_at(psws, process.pt, past);
     Course::SupervisorCall
 }

@@ -13,20 +13,15 @@ ghost use Rattle.operation.specs.Decide.{decide_code, decide};
 ghost use Rattle.operation.specs.Code.FoundOperands.{instruction};
 ghost use Rattle.step.specs.Code.Performs.{Performs};
 
-use operation::{Code, Course, Operation};
-use window::Place;
+use operation::{Code, Course, Operation, Process, Windows};
 
-// An operation, by its operands or by itself: its checks are in the function that it is handed to.
+// An operation, by its operands or by itself: its checks are in the function that it is handed to. The three fields go on as numbers: as word's Instruction
+// they take 22 to 27 instructions more a step, and create and quit miss their bar (165.0 for 160).
 fn decide_listed(
     op: Operation,
-    cb: u32,
-    base: u32,
-    end: u32,
-    data_base: u32,
-    data_end: u32,
+    windows: Windows,
     psws: &mut [u64],
-    pt: usize,
-    psw: u64,
+    process: Process,
     flag: u8,
     fresh: usize,
     first: u16,
@@ -39,18 +34,15 @@ fn decide_listed(
     data_tags: &mut [u8],
     data_words: &mut [u64],
 ) -> Course
-    ensures { (row : Row) (code : ℕ) (program : List ℕ) → Spans row cb base end → Span (data_window row) data_base data_end → psw ≡ get_or psws.old pt 0 → Performs row (decide_code (Listed op) (environment_of row psw flag program (memory constant_tags.now constant_words.now) (memory register_tags.old register_words.old) (memory data_tags.old data_words.old)) (instruction code first second third)) pt fresh result psws.old psws.new (memory register_tags.old register_words.old) (memory register_tags.new register_words.new) (memory data_tags.old data_words.old) (memory data_tags.new data_words.new) }
+    ensures { (row : Row) (code : ℕ) (program : List ℕ) → Spans row windows.constants windows.registers.base windows.registers.end → Span (data_window row) windows.data.base windows.data.end → process.psw ≡ get_or psws.old process.pt 0 → Performs row (decide_code (Listed op) (environment_of row process.psw flag program (memory constant_tags.now constant_words.now) (memory register_tags.old register_words.old) (memory data_tags.old data_words.old)) (instruction code first second third)) process.pt fresh result psws.old psws.new (memory register_tags.old register_words.old) (memory register_tags.new register_words.new) (memory data_tags.old data_words.old) (memory data_tags.new data_words.new) }
 {
     match op {
-        Operation::Nop => operation_control::nop(psws, pt, psw, first, second, third),
+        Operation::Nop => operation_control::nop(psws, process, first, second, third),
         Operation::Three(o) => operation_registers::three(
             o,
-            cb,
-            base,
-            end,
+            windows,
             psws,
-            pt,
-            psw,
+            process,
             first,
             second,
             third,
@@ -61,12 +53,9 @@ fn decide_listed(
         ),
         Operation::Two(o) => operation_registers::two(
             o,
-            cb,
-            base,
-            end,
+            windows,
             psws,
-            pt,
-            psw,
+            process,
             first,
             second,
             third,
@@ -77,11 +66,9 @@ fn decide_listed(
         ),
         Operation::One(o) => operation_registers::one(
             o,
-            base,
-            end,
+            windows,
             psws,
-            pt,
-            psw,
+            process,
             first,
             second,
             third,
@@ -91,12 +78,9 @@ fn decide_listed(
         Operation::Branch(c, p) => operation_control::branch(
             c,
             p,
-            cb,
-            base,
-            end,
+            windows,
             psws,
-            pt,
-            psw,
+            process,
             first,
             second,
             third,
@@ -107,12 +91,9 @@ fn decide_listed(
         ),
         Operation::Call(c) => operation_control::call(
             c,
-            cb,
-            base,
-            end,
+            windows,
             psws,
-            pt,
-            psw,
+            process,
             first,
             second,
             third,
@@ -124,12 +105,9 @@ fn decide_listed(
         Operation::Create(c, act) => operation_control::create(
             c,
             act,
-            cb,
-            base,
-            end,
+            windows,
             psws,
-            pt,
-            psw,
+            process,
             flag,
             fresh,
             first,
@@ -142,12 +120,9 @@ fn decide_listed(
         ),
         Operation::Quit(c) => operation_control::quit(
             c,
-            cb,
-            base,
-            end,
+            windows,
             psws,
-            pt,
-            psw,
+            process,
             first,
             second,
             third,
@@ -158,14 +133,9 @@ fn decide_listed(
         ),
         Operation::LoadIndirect(low) => operation_data::load_indirect(
             low,
-            cb,
-            base,
-            end,
-            data_base,
-            data_end,
+            windows,
             psws,
-            pt,
-            psw,
+            process,
             first,
             second,
             third,
@@ -178,14 +148,9 @@ fn decide_listed(
         ),
         Operation::LoadIndexed(low) => operation_data::load_indexed(
             low,
-            cb,
-            base,
-            end,
-            data_base,
-            data_end,
+            windows,
             psws,
-            pt,
-            psw,
+            process,
             first,
             second,
             third,
@@ -198,14 +163,9 @@ fn decide_listed(
         ),
         Operation::StoreIndirect(low) => operation_data::store_indirect(
             low,
-            cb,
-            base,
-            end,
-            data_base,
-            data_end,
+            windows,
             psws,
-            pt,
-            psw,
+            process,
             first,
             second,
             third,
@@ -218,14 +178,9 @@ fn decide_listed(
         ),
         Operation::StoreIndexed(low) => operation_data::store_indexed(
             low,
-            cb,
-            base,
-            end,
-            data_base,
-            data_end,
+            windows,
             psws,
-            pt,
-            psw,
+            process,
             first,
             second,
             third,
@@ -242,14 +197,9 @@ fn decide_listed(
 // Checks 2 and 3 of the code; the other checks are the operation's.
 fn decide_code(
     code: Code,
-    cb: u32,
-    base: u32,
-    end: u32,
-    data_base: u32,
-    data_end: u32,
+    windows: Windows,
     psws: &mut [u64],
-    pt: usize,
-    psw: u64,
+    process: Process,
     flag: u8,
     fresh: usize,
     first: u16,
@@ -262,22 +212,17 @@ fn decide_code(
     data_tags: &mut [u8],
     data_words: &mut [u64],
 ) -> Course
-    ensures { (row : Row) (k : ℕ) (program : List ℕ) → Spans row cb base end → Span (data_window row) data_base data_end → psw ≡ get_or psws.old pt 0 → Performs row (decide_code code (environment_of row psw flag program (memory constant_tags.now constant_words.now) (memory register_tags.old register_words.old) (memory data_tags.old data_words.old)) (instruction k first second third)) pt fresh result psws.old psws.new (memory register_tags.old register_words.old) (memory register_tags.new register_words.new) (memory data_tags.old data_words.old) (memory data_tags.new data_words.new) }
+    ensures { (row : Row) (k : ℕ) (program : List ℕ) → Spans row windows.constants windows.registers.base windows.registers.end → Span (data_window row) windows.data.base windows.data.end → process.psw ≡ get_or psws.old process.pt 0 → Performs row (decide_code code (environment_of row process.psw flag program (memory constant_tags.now constant_words.now) (memory register_tags.old register_words.old) (memory data_tags.old data_words.old)) (instruction k first second third)) process.pt fresh result psws.old psws.new (memory register_tags.old register_words.old) (memory register_tags.new register_words.new) (memory data_tags.old data_words.old) (memory data_tags.new data_words.new) }
 {
     match code {
         Code::Privileged => Course::PrivilegedInstruction,
         Code::Simulated => Course::SimulatedInstruction,
-        Code::Svc => operation_control::svc(psws, pt, psw, second, third),
+        Code::Svc => operation_control::svc(psws, process, first, second, third),
         Code::Listed(op) => decide_listed(
             op,
-            cb,
-            base,
-            end,
-            data_base,
-            data_end,
+            windows,
             psws,
-            pt,
-            psw,
+            process,
             flag,
             fresh,
             first,
@@ -294,19 +239,11 @@ fn decide_code(
     }
 }
 
-// What the process with the PT pt and the PSW psw does; a created process gets the PT fresh. Each window of the task goes from its base on and ends below its end; cb is the
-// task's constant base doubled. Check 1: PC outside the program window.
+// What the process does; a created process gets the PT fresh. Check 1: PC outside the program window.
 pub fn decide(
-    cb: u32,
-    base: u32,
-    end: u32,
-    program_base: u32,
-    program_end: u32,
-    data_base: u32,
-    data_end: u32,
+    windows: Windows,
     psws: &mut [u64],
-    pt: usize,
-    psw: u64,
+    process: Process,
     flag: u8,
     fresh: usize,
     constant_tags: &[u8],
@@ -317,22 +254,21 @@ pub fn decide(
     data_tags: &mut [u8],
     data_words: &mut [u64],
 ) -> Course
-    ensures { (row : Row) → Spans row cb base end → Span (program_window row) program_base program_end → Span (data_window row) data_base data_end → psw ≡ get_or psws.old pt 0 → Performs row (decide (environment_of row psw flag program.now (memory constant_tags.now constant_words.now) (memory register_tags.old register_words.old) (memory data_tags.old data_words.old))) pt fresh result psws.old psws.new (memory register_tags.old register_words.old) (memory register_tags.new register_words.new) (memory data_tags.old data_words.old) (memory data_tags.new data_words.new) }
+    ensures { (row : Row) → Spans row windows.constants windows.registers.base windows.registers.end → Span (program_window row) windows.program.base windows.program.end → Span (data_window row) windows.data.base windows.data.end → process.psw ≡ get_or psws.old process.pt 0 → Performs row (decide (environment_of row process.psw flag program.now (memory constant_tags.now constant_words.now) (memory register_tags.old register_words.old) (memory data_tags.old data_words.old))) process.pt fresh result psws.old psws.new (memory register_tags.old register_words.old) (memory register_tags.new register_words.new) (memory data_tags.old data_words.old) (memory data_tags.new data_words.new) }
 {
-    let Place::At(a) = window::place_below(program_base, program_end, word::pc(psw)) else {
+    let Some(a) = window::place_below(
+        windows.program.base,
+        windows.program.end,
+        word::pc(process.psw),
+    ) else {
         return Course::ProtectionViolation;
     };
-    let i = word::instruction_of(window::word_at(program, a));
+    let i = word::instruction_of(window::at_or(program, a, 0));
     decide_code(
         operation_decode::decode(i.code),
-        cb,
-        base,
-        end,
-        data_base,
-        data_end,
+        windows,
         psws,
-        pt,
-        psw,
+        process,
         flag,
         fresh,
         i.first,

@@ -1,6 +1,5 @@
 // Operations on registers: those with the same operands share a function. Each acts at once: the public function tests the fields and looks
-// the operands up, the function `_found` tests what stands there, then writes. The operands of the three fields are d, a, b, of S1 and S2 the
-// tags x, y (0 of a constant) and the words s1, s2.
+// the operands up, the function `_found` tests what stands there, then writes. The operands that were found are d, s1 and s2.
 #![tactic(auto)]
 
 ghost use Rattle.std.specs.Prelude.{◌≡◌, List, get_or, ℕ};
@@ -18,10 +17,11 @@ ghost use Rattle.operation.specs.Code.FoundOperands.{instruction, all_found_at};
 ghost use Rattle.operation.specs.Results.{quality0, result_three, result_two, result_one};
 ghost use Rattle.operation.specs.Decide.{decide_found, decide_listed};
 ghost use Rattle.step.specs.Code.Performs.{Performs};
-ghost use Rattle.operation_checks.specs.Code.Operands.{Destined, Sourced};
+ghost use Rattle.operation_checks.specs.Code.Operands.{DestinationFound, SourceFound};
 
-use operand::Lookup;
-use operation::{Course, One, Three, Two};
+use operand::Role;
+use operation::{Course, One, Process, Three, Two, Windows};
+use operation_checks::{FoundDestination, FoundSource};
 use word::Outcome;
 
 // Every bit one.
@@ -75,111 +75,86 @@ fn result_three(op: Three, s1: u64, s2: u64) -> Outcome
 fn one_found(
     op: One,
     psws: &mut [u64],
-    pt: usize,
-    psw: u64,
-    first: u16,
-    d: usize,
+    process: Process,
+    d: FoundDestination,
     register_tags: &mut [u8],
     register_words: &mut [u64],
 ) -> Course
-    ensures { (row : Row) (v : Environment) (i : Instruction) (constants n : Memory) (fresh second third : ℕ) (od : Operand) → v.psw ≡ psw → psw ≡ get_or psws.old pt 0 → Destined row od d → Performs row (decide_found (operation.One op) v i (all_found_at (memory register_tags.old register_words.old) constants (roles Destination Unused Unused) first second third od Absent Absent)) pt fresh result psws.old psws.new (memory register_tags.old register_words.old) (memory register_tags.new register_words.new) n n }
+    ensures { (row : Row) (v : Environment) (i : Instruction) (constants n : Memory) (fresh second third : ℕ) (od : Operand) → v.psw ≡ process.psw → process.psw ≡ get_or psws.old process.pt 0 → DestinationFound row od d → Performs row (decide_found (operation.One op) v i (all_found_at (memory register_tags.old register_words.old) constants (roles Destination Unused Unused) d.field second third od Absent Absent)) process.pt fresh result psws.old psws.new (memory register_tags.old register_words.old) (memory register_tags.new register_words.new) n n }
 {
-    if operation_checks::waits_d(first, d, register_tags) {
+    if operation_checks::waits_d(d, register_tags) {
         return Course::Waits;
     }
     let out = result_one(op);
-    operation_checks::write_d(
-        first,
-        d,
-        out.word,
-        out.quality,
-        register_tags,
-        register_words,
-    );
-    operation_checks::continues(psws, pt, word::next(psw))
+    operation_checks::write_d(d, out.word, out.quality, register_tags, register_words);
+    operation_checks::continues(psws, process.pt, word::next(process.psw))
 }
 
 // CLR, ONE.
 pub fn one(
     op: One,
-    base: u32,
-    end: u32,
+    windows: Windows,
     psws: &mut [u64],
-    pt: usize,
-    psw: u64,
+    process: Process,
     first: u16,
     second: u16,
     third: u16,
     register_tags: &mut [u8],
     register_words: &mut [u64],
 ) -> Course
-    ensures { (row : Row) (code flag fresh cb : ℕ) (program : List ℕ) (constants n : Memory) → Spans row cb base end → psw ≡ get_or psws.old pt 0 → Performs row (decide_listed (roles Destination Unused Unused) (operation.One op) (environment_of row psw flag program constants (memory register_tags.old register_words.old) n) (instruction code first second third)) pt fresh result psws.old psws.new (memory register_tags.old register_words.old) (memory register_tags.new register_words.new) n n }
+    ensures { (row : Row) (code flag fresh : ℕ) (program : List ℕ) (constants n : Memory) → Spans row windows.constants windows.registers.base windows.registers.end → process.psw ≡ get_or psws.old process.pt 0 → Performs row (decide_listed (roles Destination Unused Unused) (operation.One op) (environment_of row process.psw flag program constants (memory register_tags.old register_words.old) n) (instruction code first second third)) process.pt fresh result psws.old psws.new (memory register_tags.old register_words.old) (memory register_tags.new register_words.new) n n }
 {
-    if operation_checks::illegal_d(first, second, third) {
+    if operation_checks::illegal_fields(
+        Role::Destination,
+        first,
+        Role::Unused,
+        second,
+        Role::Unused,
+        third,
+    ) {
         return Course::IllegalInstruction;
     }
-    let Lookup::Found(d) = operand::destination(base, end, psw, first) else {
+    let Some(r) = operand::destination(
+        windows.registers.base,
+        windows.registers.end,
+        process.psw,
+        first,
+    ) else {
         return Course::ProtectionViolation;
     };
-    one_found(
-        op,
-        psws,
-        pt,
-        psw,
-        first,
-        operand::number(d),
-        register_tags,
-        register_words,
-    )
+    let d = operation_checks::found_destination(first, r);
+    one_found(op, psws, process, d, register_tags, register_words)
 }
 
 fn two_found(
     op: Two,
     psws: &mut [u64],
-    pt: usize,
-    psw: u64,
-    first: u16,
-    d: usize,
-    second: u16,
-    a: usize,
-    x: u8,
-    s1: u64,
+    process: Process,
+    d: FoundDestination,
+    s1: FoundSource,
     constant_tags: &[u8],
     register_tags: &mut [u8],
     register_words: &mut [u64],
 ) -> Course
-    ensures { (row : Row) (v : Environment) (i : Instruction) (constant_words : List ℕ) (n : Memory) (fresh third : ℕ) (od oa : Operand) → v.psw ≡ psw → psw ≡ get_or psws.old pt 0 → Destined row od d → Sourced row register_tags.old register_words.old (memory constant_tags.now constant_words) second oa a x s1 → Performs row (decide_found (operation.Two op) v i (all_found_at (memory register_tags.old register_words.old) (memory constant_tags.now constant_words) (roles Destination Source Unused) first second third od oa Absent)) pt fresh result psws.old psws.new (memory register_tags.old register_words.old) (memory register_tags.new register_words.new) n n }
+    ensures { (row : Row) (v : Environment) (i : Instruction) (constant_words : List ℕ) (n : Memory) (fresh third : ℕ) (od oa : Operand) → v.psw ≡ process.psw → process.psw ≡ get_or psws.old process.pt 0 → DestinationFound row od d → SourceFound row register_tags.old register_words.old (memory constant_tags.now constant_words) oa s1 → Performs row (decide_found (operation.Two op) v i (all_found_at (memory register_tags.old register_words.old) (memory constant_tags.now constant_words) (roles Destination Source Unused) d.field s1.field third od oa Absent)) process.pt fresh result psws.old psws.new (memory register_tags.old register_words.old) (memory register_tags.new register_words.new) n n }
 {
-    if operation_checks::waits_d_s1(first, d, second, x, register_tags) {
+    if operation_checks::waits_d_s1(d, s1, register_tags) {
         return Course::Waits;
     }
-    if operand::masked(psw, second, a, x, constant_tags) {
+    if operation_checks::masked(process.psw, s1, constant_tags) {
         return Course::DataException;
     }
-    let out = result_two(op, s1);
-    operation_checks::write_d_s1(
-        first,
-        d,
-        second,
-        a,
-        x,
-        out.word,
-        out.quality,
-        register_tags,
-        register_words,
-    );
-    operation_checks::continues(psws, pt, word::next(psw))
+    let out = result_two(op, s1.word);
+    operation_checks::write_d_s1(d, s1, out.word, out.quality, register_tags, register_words);
+    operation_checks::continues(psws, process.pt, word::next(process.psw))
 }
 
 // MOV, NOT, ENCODE0, ENCODE1, INC, DEC.
 pub fn two(
     op: Two,
-    cb: u32,
-    base: u32,
-    end: u32,
+    windows: Windows,
     psws: &mut [u64],
-    pt: usize,
-    psw: u64,
+    process: Process,
     first: u16,
     second: u16,
     third: u16,
@@ -188,29 +163,49 @@ pub fn two(
     register_tags: &mut [u8],
     register_words: &mut [u64],
 ) -> Course
-    ensures { (row : Row) (code flag fresh : ℕ) (program : List ℕ) (n : Memory) → Spans row cb base end → psw ≡ get_or psws.old pt 0 → Performs row (decide_listed (roles Destination Source Unused) (operation.Two op) (environment_of row psw flag program (memory constant_tags.now constant_words.now) (memory register_tags.old register_words.old) n) (instruction code first second third)) pt fresh result psws.old psws.new (memory register_tags.old register_words.old) (memory register_tags.new register_words.new) n n }
+    ensures { (row : Row) (code flag fresh : ℕ) (program : List ℕ) (n : Memory) → Spans row windows.constants windows.registers.base windows.registers.end → process.psw ≡ get_or psws.old process.pt 0 → Performs row (decide_listed (roles Destination Source Unused) (operation.Two op) (environment_of row process.psw flag program (memory constant_tags.now constant_words.now) (memory register_tags.old register_words.old) n) (instruction code first second third)) process.pt fresh result psws.old psws.new (memory register_tags.old register_words.old) (memory register_tags.new register_words.new) n n }
 {
-    if operation_checks::illegal_d_s1(first, second, third) {
+    if operation_checks::illegal_fields(
+        Role::Destination,
+        first,
+        Role::Source,
+        second,
+        Role::Unused,
+        third,
+    ) {
         return Course::IllegalInstruction;
     }
-    let Lookup::Found(d) = operand::destination(base, end, psw, first) else {
+    let Some(r) = operand::destination(
+        windows.registers.base,
+        windows.registers.end,
+        process.psw,
+        first,
+    ) else {
         return Course::ProtectionViolation;
     };
-    let Lookup::Found(a) = operand::source(cb, base, end, psw, second) else {
+    let d = operation_checks::found_destination(first, r);
+    let Some(a) = operand::source(
+        windows.constants,
+        windows.registers.base,
+        windows.registers.end,
+        process.psw,
+        second,
+    ) else {
         return Course::ProtectionViolation;
     };
-    let x = operand::cell(constant_words, register_tags, register_words, a);
+    let s1 = operation_checks::found_source(
+        second,
+        a,
+        constant_words,
+        register_tags,
+        register_words,
+    );
     two_found(
         op,
         psws,
-        pt,
-        psw,
-        first,
-        operand::number(d),
-        second,
-        operand::number(a),
-        x.tag,
-        x.word,
+        process,
+        d,
+        s1,
         constant_tags,
         register_tags,
         register_words,
@@ -220,57 +215,41 @@ pub fn two(
 fn three_found(
     op: Three,
     psws: &mut [u64],
-    pt: usize,
-    psw: u64,
-    first: u16,
-    d: usize,
-    second: u16,
-    a: usize,
-    x: u8,
-    s1: u64,
-    third: u16,
-    b: usize,
-    y: u8,
-    s2: u64,
+    process: Process,
+    d: FoundDestination,
+    s1: FoundSource,
+    s2: FoundSource,
     constant_tags: &[u8],
     register_tags: &mut [u8],
     register_words: &mut [u64],
 ) -> Course
-    ensures { (row : Row) (v : Environment) (i : Instruction) (constant_words : List ℕ) (n : Memory) (fresh : ℕ) (od oa ob : Operand) → v.psw ≡ psw → psw ≡ get_or psws.old pt 0 → Destined row od d → Sourced row register_tags.old register_words.old (memory constant_tags.now constant_words) second oa a x s1 → Sourced row register_tags.old register_words.old (memory constant_tags.now constant_words) third ob b y s2 → Performs row (decide_found (operation.Three op) v i (all_found_at (memory register_tags.old register_words.old) (memory constant_tags.now constant_words) (roles Destination Source Source) first second third od oa ob)) pt fresh result psws.old psws.new (memory register_tags.old register_words.old) (memory register_tags.new register_words.new) n n }
+    ensures { (row : Row) (v : Environment) (i : Instruction) (constant_words : List ℕ) (n : Memory) (fresh : ℕ) (od oa ob : Operand) → v.psw ≡ process.psw → process.psw ≡ get_or psws.old process.pt 0 → DestinationFound row od d → SourceFound row register_tags.old register_words.old (memory constant_tags.now constant_words) oa s1 → SourceFound row register_tags.old register_words.old (memory constant_tags.now constant_words) ob s2 → Performs row (decide_found (operation.Three op) v i (all_found_at (memory register_tags.old register_words.old) (memory constant_tags.now constant_words) (roles Destination Source Source) d.field s1.field s2.field od oa ob)) process.pt fresh result psws.old psws.new (memory register_tags.old register_words.old) (memory register_tags.new register_words.new) n n }
 {
-    if operation_checks::waits_d_s1_s2(first, d, second, x, third, y, register_tags) {
+    if operation_checks::waits_d_s1_s2(d, s1, s2, register_tags) {
         return Course::Waits;
     }
-    if operation_checks::masked_s1_s2(psw, second, a, x, third, b, y, constant_tags) {
+    if operation_checks::masked_s1_s2(process.psw, s1, s2, constant_tags) {
         return Course::DataException;
     }
-    let out = result_three(op, s1, s2);
+    let out = result_three(op, s1.word, s2.word);
     operation_checks::write_d_s1_s2(
-        first,
         d,
-        second,
-        a,
-        x,
-        third,
-        b,
-        y,
+        s1,
+        s2,
         out.word,
         out.quality,
         register_tags,
         register_words,
     );
-    operation_checks::continues(psws, pt, word::next(psw))
+    operation_checks::continues(psws, process.pt, word::next(process.psw))
 }
 
-// EOR, EQV, NAND, NOR, OR, BITCLR, BITSET, ADD, SUB, MUL. The registers of the task are those from base on and below end; cb is its constant base doubled.
+// EOR, EQV, NAND, NOR, OR, BITCLR, BITSET, ADD, SUB, MUL.
 pub fn three(
     op: Three,
-    cb: u32,
-    base: u32,
-    end: u32,
+    windows: Windows,
     psws: &mut [u64],
-    pt: usize,
-    psw: u64,
+    process: Process,
     first: u16,
     second: u16,
     third: u16,
@@ -279,37 +258,66 @@ pub fn three(
     register_tags: &mut [u8],
     register_words: &mut [u64],
 ) -> Course
-    ensures { (row : Row) (code flag fresh : ℕ) (program : List ℕ) (n : Memory) → Spans row cb base end → psw ≡ get_or psws.old pt 0 → Performs row (decide_listed (roles Destination Source Source) (operation.Three op) (environment_of row psw flag program (memory constant_tags.now constant_words.now) (memory register_tags.old register_words.old) n) (instruction code first second third)) pt fresh result psws.old psws.new (memory register_tags.old register_words.old) (memory register_tags.new register_words.new) n n }
+    ensures { (row : Row) (code flag fresh : ℕ) (program : List ℕ) (n : Memory) → Spans row windows.constants windows.registers.base windows.registers.end → process.psw ≡ get_or psws.old process.pt 0 → Performs row (decide_listed (roles Destination Source Source) (operation.Three op) (environment_of row process.psw flag program (memory constant_tags.now constant_words.now) (memory register_tags.old register_words.old) n) (instruction code first second third)) process.pt fresh result psws.old psws.new (memory register_tags.old register_words.old) (memory register_tags.new register_words.new) n n }
 {
-    if operation_checks::illegal_d_s1_s2(first, second, third) {
+    if operation_checks::illegal_fields(
+        Role::Destination,
+        first,
+        Role::Source,
+        second,
+        Role::Source,
+        third,
+    ) {
         return Course::IllegalInstruction;
     }
-    let Lookup::Found(d) = operand::destination(base, end, psw, first) else {
+    let Some(r) = operand::destination(
+        windows.registers.base,
+        windows.registers.end,
+        process.psw,
+        first,
+    ) else {
         return Course::ProtectionViolation;
     };
-    let Lookup::Found(a) = operand::source(cb, base, end, psw, second) else {
+    let d = operation_checks::found_destination(first, r);
+    let Some(a) = operand::source(
+        windows.constants,
+        windows.registers.base,
+        windows.registers.end,
+        process.psw,
+        second,
+    ) else {
         return Course::ProtectionViolation;
     };
-    let x = operand::cell(constant_words, register_tags, register_words, a);
-    let Lookup::Found(b) = operand::source(cb, base, end, psw, third) else {
+    let s1 = operation_checks::found_source(
+        second,
+        a,
+        constant_words,
+        register_tags,
+        register_words,
+    );
+    let Some(b) = operand::source(
+        windows.constants,
+        windows.registers.base,
+        windows.registers.end,
+        process.psw,
+        third,
+    ) else {
         return Course::ProtectionViolation;
     };
-    let y = operand::cell(constant_words, register_tags, register_words, b);
+    let s2 = operation_checks::found_source(
+        third,
+        b,
+        constant_words,
+        register_tags,
+        register_words,
+    );
     three_found(
         op,
         psws,
-        pt,
-        psw,
-        first,
-        operand::number(d),
-        second,
-        operand::number(a),
-        x.tag,
-        x.word,
-        third,
-        operand::number(b),
-        y.tag,
-        y.word,
+        process,
+        d,
+        s1,
+        s2,
         constant_tags,
         register_tags,
         register_words,

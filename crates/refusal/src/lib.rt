@@ -25,7 +25,9 @@ pub enum Refusal {
     NoTries,
 }
 
-// Document 01's number of a refusal.
+// Document 01's number of a refusal. No `From`: `u8::from(e)` would not say which number it is, and be no shorter. No numbers at the variants:
+// an edit gives two of them one number, and no enum can have that.
+#[tactic(auto, unfolding(crate::specs::Numbers::number_of))]
 pub fn number(e: Refusal) -> u8
     ensures { result ≡ number_of e }
 {

@@ -3,8 +3,7 @@
 -- two wait for a sum. In image A its neighbour is task 2, which fills its registers
 -- and its first data word; in image B it is task 3, which creates a process, stores and loads a constant, leaves, and traps.
 use Rattle.std.specs.Prelude.{◌≡◌, refl, List, [], ◌∷◌, ◌++◌, ℕ, ◌+◌, ◌-◌, ◌*◌, ◌^◌, length, replicate}
-use Rattle.std.proofs.Math.Option.{some}
-use Rattle.std.proofs.Common.{leb-true}
+use Rattle.std.proofs.Common.{leb-true, Some}
 use Rattle.window.specs.declared.Row.{Row}
 use Rattle.window.specs.declared.Cell.{Cell}
 use Rattle.window.specs.Memories.{cell, cell_at}
@@ -196,11 +195,11 @@ pub record Instance : Type 0 where
   -- task 3 stored and loaded 100; one of its processes left, the other trapped with kind 16 at PC 8, and its last item was idle
   pub registers_b : cut (register_window (instance_row 3 1)) ran_b.state.registers.words ≡ 300 ∷ 100 ∷ 0 ∷ 0 ∷ []
   pub datum_b : cell_at ran_b.state.data_words 32 ≡ cell 1 100
-  pub trap_b : own 3 ran_b.state ≡ some (owner (trapped_row (instance_row 3 1) PrivilegedInstruction 8) (8 ∷ []) [])
+  pub trap_b : own 3 ran_b.state ≡ Some (owner (trapped_row (instance_row 3 1) PrivilegedInstruction 8) (8 ∷ []) [])
   pub counts_b : ran_b.notes.counts ≡ counts 12 2 1 1 5
   -- by demand 3 of the report; the line of task 1
   pub reported : SameLine 1 ran_a ran_b (output_of (input_of schedule_a bytes_a)) (output_of (input_of schedule_b bytes_b))
-  pub line : task_line 1 ran_a ≡ some (letters "1 3 -- ----- E5 W2 T0 I0 S5\n")
+  pub line : task_line 1 ran_a ≡ Some (letters "1 3 -- ----- E5 W2 T0 I0 S5\n")
 
 pub isolated : Instance
 unfolding images ran_a ran_b line_of task_line letters

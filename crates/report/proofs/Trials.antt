@@ -1,11 +1,11 @@
 -- The trials of document 01 that are proved of the definitions: its starred ones, and its printed case.
+use Rattle.std.proofs.Common.{None}
 use Rattle.std.specs.Prelude.{◌≡◌, refl, List, [], ◌∷◌, ◌++◌, ℕ, zero, suc, ◌+◌, ◌-◌, ◌*◌, ◌^◌, get_or, replicate}
 use Rattle.word.specs.Fields.{psw_of}
 use Rattle.window.specs.declared.Row.{Row}
 use Rattle.window.specs.declared.Cell.{Cell}
 use Rattle.window.specs.Memories.{memory, cell, cell_at}
 use Rattle.operand.specs.declared.Role.TheVariants.{Source}
-use Rattle.operand.specs.declared.Lookup.TheVariants.{Violation}
 use Rattle.operand.specs.Field.{lookup_of}
 use Rattle.operation.specs.declared.Trap.TheVariants.{CreateFault, ProtectionViolation}
 use Rattle.operation.proofs.Exclusions.{instruction_word, Excluded, excluded}
@@ -92,7 +92,7 @@ pub record Starred : Type 0 where
   pub create_63 : (item 1 (machine 63 create 0 0)).ending ≡ Trapped CreateFault 1
   pub create_63_flag : (item 1 (machine 63 create 0 0)).state.table.users.flag ≡ 1
   -- RI 2047 and displacement 1 never mean register 0
-  pub index : lookup_of Source (record { task = 1; cb = 0; rb = 0; rl = 1023; pb = 0; pl = 0; db = 0; dl = 0; kind = no_trap; psw = 0 }) (psw_of 0 2047 0 0) 0x8001 ≡ Violation
+  pub index : lookup_of Source (record { task = 1; cb = 0; rb = 0; rl = 1023; pb = 0; pl = 0; db = 0; dl = 0; kind = no_trap; psw = 0 }) (psw_of 0 2047 0 0) 0x8001 ≡ None
 
 pub starred : Starred
 unfolding opened trial_row up_to machine stepped register_d result_d branch_on instruction_word create

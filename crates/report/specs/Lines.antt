@@ -1,6 +1,5 @@
 -- The line of a task in the output of the batch program.
-use Rattle.std.specs.Prelude.{ℕ, ◌≤◌, ◌≡◌, List, ◌++◌, length}
-use Rattle.std.proofs.Math.Option.{Option, none, some}
+use Rattle.std.specs.Prelude.{ℕ, ◌≤◌, ◌≡◌, List, ◌++◌, length, Option, None, Some}
 use Rattle.window.specs.declared.Row.{Row}
 use Rattle.step.specs.declared.ProcessTable.{ProcessTable}
 use Rattle.step.specs.State.{find_row}
@@ -14,8 +13,8 @@ pub record WholeInput (input schedule bytes : List ℕ) : Type 0 where
   pub read : schedule_codec.dec input ≡ accepted schedule bytes
 
 unfoldable pub line_of : ProcessTable → Tally → Option Row → Option (List ℕ)
-line_of table n none = none
-line_of table n (some r) = some (row_line table r (own_counts r.task n))
+line_of table n None = None
+line_of table n (Some r) = Some (row_line table r (own_counts r.task n))
 
 -- the line of task t in the report of a run; none where it isn't listed
 unfoldable pub task_line : ℕ → Ran → Option (List ℕ)
@@ -29,4 +28,4 @@ pub record StandsIn (x : Ran) (line output : List ℕ) : Type 0 where
 
 -- where a run has a line of task t, it stands in the output
 abbrev pub Printed : ℕ → Ran → (output : List ℕ) → Type 0
-Printed t x output = (line : List ℕ) → task_line t x ≡ some line → StandsIn x line output
+Printed t x output = (line : List ℕ) → task_line t x ≡ Some line → StandsIn x line output

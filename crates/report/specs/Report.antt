@@ -1,6 +1,5 @@
 -- The batch program: standard input as bytes, standard output as bytes.
-use Rattle.std.specs.Prelude.{ℕ, zero, suc, ◌+◌, ◌/◌, ◌%◌, true, cond, List, [], ◌∷◌, ◌++◌, eqb, ltb, length}
-use Rattle.std.proofs.Math.Option.{Option, none, some}
+use Rattle.std.specs.Prelude.{ℕ, zero, suc, ◌+◌, ◌/◌, ◌%◌, true, cond, List, [], ◌∷◌, ◌++◌, eqb, ltb, length, Option, None, Some}
 use Rattle.word.specs.Fields.{pc_of}
 use Rattle.window.specs.declared.Row.{Row}
 use Rattle.step.specs.declared.ProcessTable.{ProcessTable}
@@ -96,8 +95,8 @@ unfoldable pub schedule_codec : Codec (List ℕ)
 schedule_codec = uniform_section item_codec 2 most_items
 
 unfoldable pub output_run : Option Refusal → (schedule : List ℕ) → Image → List ℕ
-output_run (some e) schedule i = refusal_line e
-output_run none schedule i = report_of (run schedule (state_of i))
+output_run (Some e) schedule i = refusal_line e
+output_run None schedule i = report_of (run schedule (state_of i))
 
 -- the program reads its whole input before it runs, so 10 comes last
 unfoldable pub output_read : (schedule : List ℕ) → Decoded → List ℕ

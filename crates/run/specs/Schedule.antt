@@ -1,6 +1,5 @@
 -- Which schedules are accepted.
-use Rattle.std.specs.Prelude.{ℕ, Bool, true, false, cond, not, ◌&&◌, List, leb, ltb, length}
-use Rattle.std.proofs.Math.Option.{Option, none, some}
+use Rattle.std.specs.Prelude.{ℕ, Bool, true, false, cond, not, ◌&&◌, List, leb, ltb, length, Option, None, Some}
 use Rattle.refusal.specs.declared.Refusal.{Refusal}
 use Rattle.refusal.specs.declared.Refusal.TheVariants.{ListTooLong, ItemOutOfRange}
 use Rattle.step.specs.Soundness.{every}
@@ -17,13 +16,13 @@ most_items = 65535
 -- why a schedule is refused: 9, then 10
 unfoldable pub schedule_refusal : List ℕ → Option Refusal
 schedule_refusal schedule =
-    cond (ltb most_items (length schedule)) (some ListTooLong)
-    (cond (not (every item_sound schedule)) (some ItemOutOfRange)
-    none)
+    cond (ltb most_items (length schedule)) (Some ListTooLong)
+    (cond (not (every item_sound schedule)) (Some ItemOutOfRange)
+    None)
 
 unfoldable pub accepts : Option Refusal → Bool
-accepts none = true
-accepts (some e) = false
+accepts None = true
+accepts (Some e) = false
 
 -- a schedule is accepted if neither 9 nor 10 applies
 unfoldable pub schedule_sound : List ℕ → Bool

@@ -11,8 +11,8 @@ ghost use Rattle.run_rings.specs.Code.Mask.{free_word};
 ghost use Rattle.run_rings.specs.Code.Place.{place_from};
 ghost use Rattle.run_rings.specs.Code.Rings.{queue_at, queues_in};
 ghost use Rattle.run_rings.specs.Code.Records.{row_in, rows_with};
-ghost use Rattle.run_rings.specs.Code.Spans.{span_places, all_span_places, window_numbers};
-ghost use Rattle.run_rings.specs.Code.Laid.{task_numbers, no_rings, queues_laid, no_tasks, row_laid, tasks_laid};
+ghost use Rattle.run_rings.specs.Code.Spans.{window_numbers};
+ghost use Rattle.run_rings.specs.Code.Laid.{no_rings, queues_laid, no_tasks, row_laid, tasks_laid};
 
 use step::{NUMBERS, PLACES, QUEUES, Queue};
 use window::{Row, TASKS};
@@ -31,13 +31,6 @@ pub const ALL_SPANS: usize = NUMBERS * SPANS;
 // The word in which every PT is free.
 const ALL_FREE: u64 = 0xffff_ffff_ffff_ffff;
 
-// Where the row of a task stands.
-#[derive(Clone, Copy)]
-pub enum RowPlace {
-    Listed(usize),
-    Unlisted,
-}
-
 // Queues side by side: of ring k the 64 places from 64 k on, its head and its length at k.
 #[derive(Clone, Copy)]
 pub struct Rings {
@@ -46,7 +39,7 @@ pub struct Rings {
     pub lens: [usize; RINGS],
 }
 
-// By task: the trap record, and the windows in eight numbers from 8 t on.
+// By task: the trap record, and the windows in eight numbers from 8 t on. Arrays, and no record by task: run_schedule's promises are of each array by itself.
 #[derive(Clone, Copy)]
 pub struct Tasks {
     pub kinds: [u8; NUMBERS],
@@ -56,34 +49,31 @@ pub struct Tasks {
 
 // ---- queues to rings and back
 
-// The places of ring k from those of a queue.
-fn lay(pts: &mut [u8], k: usize, q: Queue)
-    requires { places * k + places ≤ length pts.old }
-    ensures { (pts.new ≡ paste pts.old (places * k) q.pts places) × (length q.pts ≡ places) }
+// Numbers into part k of others, which has as many.
+fn lay<T: Copy>(numbers: &mut [T], k: usize, part: &[T])
+    requires { length part.now * k + length part.now ≤ length numbers.old }
+    ensures { numbers.new ≡ paste numbers.old (length part.now * k) part.now (length part.now) }
 {
-    let mut j = 0;
-    while j < PLACES {
-        pts[PLACES * k + j] = q.pts[j];
-        j += 1;
-    }
+    let n = part.len();
+    let at = n * k;
+    numbers[at..at + n].copy_from_slice(part);
 }
 
 // The queues into the rings, each into that of its number.
 pub fn rings_of(queues: [Queue; QUEUES]) -> Rings
     ensures { (result ≡ queues_laid 0 queues no_rings) × (queues_in result.pts result.heads result.lens ≡ queues) }
 {
-    let mut pts: [u8; RING_PLACES] = [0; RING_PLACES];
-    let mut heads: [usize; RINGS] = [0; RINGS];
-    let mut lens: [usize; RINGS] = [0; RINGS];
-    let mut i = 0;
-    while i < RINGS {
-        let q = queues[i];
-        lay(&mut pts, i, q);
-        heads[i] = q.head;
-        lens[i] = q.len;
-        i += 1;
+    let mut rings = Rings {
+        pts: [0; RING_PLACES],
+        heads: [0; RINGS],
+        lens: [0; RINGS],
+    };
+    for (k, q) in queues.iter().enumerate() {
+        lay(&mut rings.pts, k, &q.pts);
+        rings.heads[k] = q.head;
+        rings.lens[k] = q.len;
     }
-    Rings { pts, heads, lens }
+    rings
 }
 
 // The queue in ring k.
@@ -96,11 +86,8 @@ fn queue_of(pts: &[u8], heads: &[usize], lens: &[usize], k: usize) -> Queue
         head: heads[k],
         len: lens[k],
     };
-    let mut j = 0;
-    while j < PLACES {
-        q.pts[j] = pts[PLACES * k + j];
-        j += 1;
-    }
+    let at = PLACES * k;
+    q.pts.copy_from_slice(&pts[at..at + PLACES]);
     q
 }
 
@@ -118,10 +105,8 @@ pub fn queues_of(
         len: 0,
     };
     let mut queues = [empty; QUEUES];
-    let mut i = 0;
-    while i < QUEUES {
-        queues[i] = queue_of(&pts, &heads, &lens, i);
-        i += 1;
+    for (k, queue) in queues.iter_mut().enumerate() {
+        *queue = queue_of(&pts, &heads, &lens, k);
     }
     queues
 }
@@ -130,32 +115,20 @@ pub fn queues_of(
 pub fn free_mask(queues: [Queue; QUEUES]) -> u64
     ensures { result ≡ free_word queues }
 {
-    let mut free: u64 = ALL_FREE;
-    let mut k = 0;
-    while k < QUEUES {
-        free = step_queue::free_after(free, queues[k]);
-        k += 1;
+    let mut free = ALL_FREE;
+    for q in &queues {
+        free = step_queue::free_after(free, *q);
     }
     free
 }
 
-// ---- trap records and windows by task
+// ---- trap records and windows by task: rows in an array with their count, as library's Rows has them; the public promises are of n above 7 too
 
 // The first of the first n rows with the number t.
-pub fn find(rows: [Row; TASKS], n: usize, t: u8) -> RowPlace
+pub fn find(rows: [Row; TASKS], n: usize, t: u8) -> Option<usize>
     ensures { result ≡ place_from t 0 (take n rows) }
 {
-    let mut i = 0;
-    while i < TASKS {
-        if n <= i {
-            return RowPlace::Unlisted;
-        }
-        if rows[i].task == t {
-            return RowPlace::Listed(i);
-        }
-        i += 1;
-    }
-    RowPlace::Unlisted
+    rows.iter().take(n).position(|row| row.task == t)
 }
 
 // The address past the last of a window, 0 where it is empty.
@@ -198,57 +171,33 @@ pub fn span(row: Row) -> [u32; SPANS]
     ]
 }
 
-// The numbers of a window at those of task t.
-fn lay_span(spans: &mut [u32], t: usize, w: [u32; SPANS])
-    requires { span_places * t + span_places ≤ length spans.old }
-    ensures { spans.new ≡ paste spans.old (span_places * t) w span_places }
-{
-    let mut j = 0;
-    while j < SPANS {
-        spans[SPANS * t + j] = w[j];
-        j += 1;
-    }
-}
-
 // The trap record and the windows of task t; they stay where it is unlisted.
-fn number_task(
-    rows: [Row; TASKS],
-    n: usize,
-    t: usize,
-    kinds: &mut [u8],
-    stored: &mut [u64],
-    spans: &mut [u32],
-)
-    requires { (t < numbers) × (numbers ≤ length kinds.old) × (numbers ≤ length stored.old) × (all_span_places ≤ length spans.old) }
-    ensures { task_numbers kinds.new stored.new spans.new ≡ row_laid t (find_row t (take n rows)) (task_numbers kinds.old stored.old spans.old) }
+fn number_task(rows: [Row; TASKS], n: usize, t: usize, tasks: &mut Tasks)
+    requires { t < numbers }
+    ensures { tasks.new ≡ row_laid t (find_row t (take n rows)) tasks.old }
 {
-    let place = find(rows, n, t as u8);
-    let RowPlace::Listed(i) = place else {
+    let Some(i) = find(rows, n, t as u8) else {
         return;
     };
-    kinds[t] = rows[i].kind;
-    stored[t] = rows[i].psw;
-    let w = span(rows[i]);
-    lay_span(spans, t, w);
+    let row = rows[i];
+    tasks.kinds[t] = row.kind;
+    tasks.stored[t] = row.psw;
+    lay(&mut tasks.spans, t, &span(row));
 }
 
 // The trap records and the windows of tasks 1 to 7, of the first n rows.
 pub fn number_tasks(rows: [Row; TASKS], n: usize) -> Tasks
     ensures { result ≡ tasks_laid tasks 1 (take n rows) no_tasks }
 {
-    let mut kinds: [u8; NUMBERS] = [0; NUMBERS];
-    let mut stored: [u64; NUMBERS] = [0; NUMBERS];
-    let mut spans: [u32; ALL_SPANS] = [0; ALL_SPANS];
-    let mut t = 1;
-    while t < NUMBERS {
-        number_task(rows, n, t, &mut kinds, &mut stored, &mut spans);
-        t += 1;
+    let mut tasks = Tasks {
+        kinds: [0; NUMBERS],
+        stored: [0; NUMBERS],
+        spans: [0; ALL_SPANS],
+    };
+    for t in 1..NUMBERS {
+        number_task(rows, n, t, &mut tasks);
     }
-    Tasks {
-        kinds,
-        stored,
-        spans,
-    }
+    tasks
 }
 
 // The row with the trap record of its task.
@@ -256,15 +205,11 @@ fn row_with(row: Row, kinds: [u8; NUMBERS], stored: [u64; NUMBERS]) -> Row
     ensures { result ≡ row_in kinds stored row }
 {
     let t = row.task as usize;
-    let mut next = row;
-    if t < NUMBERS {
-        next.kind = kinds[t];
-        next.psw = stored[t];
-        return next;
+    Row {
+        kind: kinds.get(t).copied().unwrap_or(0),
+        psw: stored.get(t).copied().unwrap_or(0),
+        ..row
     }
-    next.kind = 0;
-    next.psw = 0;
-    next
 }
 
 // The first n rows with the trap records of their tasks.
@@ -277,13 +222,8 @@ pub fn rows_with(
     ensures { result ≡ rows_with kinds stored rows n }
 {
     let mut next = rows;
-    let mut i = 0;
-    while i < TASKS {
-        if n <= i {
-            return next;
-        }
+    for i in 0..n.min(TASKS) {
         next[i] = row_with(rows[i], kinds, stored);
-        i += 1;
     }
     next
 }

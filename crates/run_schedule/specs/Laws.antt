@@ -4,3 +4,4 @@ pub mod Carried
 pub mod Answers
 pub mod Cut
 pub mod OneItem
+pub mod Queued

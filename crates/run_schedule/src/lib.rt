@@ -4,7 +4,7 @@
 
 mod next;
 
-ghost use Rattle.std.specs.Prelude.{◌≡◌, true, false, ◌&&◌, List, ℕ, ◌+◌, ◌^◌, ◌≤◌, ◌<◌, ◌*◌, ◌-◌, length, get_or, take};
+ghost use Rattle.std.specs.Prelude.{◌≡◌, true, false, ◌&&◌, List, ℕ, ◌≤◌, ◌<◌, length, get_or, take};
 ghost use Rattle.window.specs.Memories.{memory};
 ghost use Rattle.operation.specs.Environment.{environment_of};
 ghost use Rattle.operation.specs.Decide.{decide};
@@ -14,11 +14,11 @@ ghost use Rattle.step.specs.Code.Performs.{Performs};
 ghost use Rattle.step.specs.Soundness.{every};
 ghost use Rattle.run.specs.Run.{no_counts, plus, summed};
 ghost use Rattle.run.specs.Schedule.{item_sound, most_items};
-ghost use Rattle.run_rings.specs.Code.Rings.{queues_in};
-ghost use Rattle.run_rings.specs.Code.Spans.{Windows, all_span_places};
+ghost use Rattle.run_rings.specs.Code.Spans.{Windows};
 ghost use Rattle.run_next.specs.Code.Numbers.{cells};
-ghost use Rattle.run_next.specs.Code.Tally.{own_in, all_own, tally_cells};
+ghost use Rattle.run_next.specs.Code.Tally.{own_in, all_own};
 ghost use Rattle.run_schedule.specs.Code.Carried.{open_state, Opens, Opened, Begins, Ends, users_of, Small};
+ghost use Rattle.run_schedule.specs.Code.Queued.{all_queues};
 ghost use Rattle.run_schedule.specs.Code.OneItem.{trap_of, ending_of, answer_of, row_at};
 ghost use Rattle.library.specs.Calls.{refuses, state_refused};
 ghost use Rattle.library.specs.Held.{lent_buffers};
@@ -26,30 +26,31 @@ ghost use Rattle.library.specs.Code.HeldRows.{held_rows, SamePlaces};
 ghost use Rattle.library.specs.Code.RowPlace.{StandsAt};
 ghost use Rattle.library.specs.Promises.{run_answered, RunPromise, StepPromise};
 
-use library::{AfterRun, AfterStep, Rows, RunAnswer, RunResult, Sizes, StepAnswer};
-use next::{EXECUTED, FRESH, IDLE, NONE, OTHER, THEN, TRAPPED, TRY, WAVED};
-use operation::{Course, Trap};
+use library::{AfterRun, AfterStep, Rows, RunResult, Sizes};
+use next::{EXECUTED, FRESH, IDLE, THEN, TRAPPED, TRY, WAVED};
+use operation::{Bounds, Course, Process, Trap};
 use refusal::Refusal;
 use run::{Counts, MOST_ITEMS, TASK_NUMBERS};
-use run_rings::{RING_PLACES, RINGS, SPANS, Tasks};
+use run_rings::{ALL_SPANS, Rings, SPANS, Tasks};
 use step::{Ending, NUMBERS, PTS, ProcessTable, Processes};
 use window::{Row, TASKS};
 
-// The places of the next attempts of all tasks, of the counts side by side, and of the PSWs: those of the processes, and that of a process just
-// created.
-const MARKS: usize = 3 * NUMBERS;
-
+// The places of the counts side by side, and of the PSWs: those of the processes, and that of a process just created.
 const CELLS: usize = 10 * NUMBERS;
 
 const PSWS: usize = PTS + 1;
 
+// The queues of all tasks side by side, and the next attempt of each: none where the item is idle.
+#[derive(Clone, Copy)]
+pub struct Queued {
+    pub rings: Rings,
+    pub next: [Option<run_next::Next>; NUMBERS],
+}
+
 // The numbers that a run carries from attempt to attempt, besides the memories.
 #[derive(Clone, Copy)]
 pub struct Carried {
-    pub marks: [u8; MARKS],
-    pub pts: [u8; RING_PLACES],
-    pub heads: [usize; RINGS],
-    pub lens: [usize; RINGS],
+    pub queued: Queued,
     pub kinds: [u8; NUMBERS],
     pub stored: [u64; NUMBERS],
     pub psws: [u64; PSWS],
@@ -62,8 +63,8 @@ pub struct Carried {
 // ---- the counts side by side
 
 // The counts of task t.
-fn own_at(tally: &[u32], t: usize) -> Counts
-    requires { (t < numbers) × (length tally.now ≡ tally_cells) × Small (own_in tally.now t) }
+fn own_at(tally: &[u32; CELLS], t: usize) -> Counts
+    requires { (t < numbers) × Small (own_in tally.now t) }
     ensures { result ≡ own_in tally.now t }
 {
     let executed_by_try = tally[TRY + EXECUTED + t];
@@ -100,10 +101,8 @@ fn own_of(tally: [u32; CELLS]) -> [Counts; TASK_NUMBERS]
     ensures { result ≡ all_own tally }
 {
     let mut own = [no_counts(); TASK_NUMBERS];
-    let mut t = 0;
-    while t < TASK_NUMBERS {
+    for t in 0..TASK_NUMBERS {
         own[t] = own_at(&tally, t);
-        t += 1;
     }
     own
 }
@@ -127,10 +126,8 @@ fn total(own: [Counts; TASK_NUMBERS]) -> Counts
     ensures { result ≡ summed own }
 {
     let mut sum = no_counts();
-    let mut t = 0;
-    while t < TASK_NUMBERS {
-        sum = plus(sum, own[t]);
-        t += 1;
+    for counts in own.iter() {
+        sum = plus(sum, *counts);
     }
     sum
 }
@@ -141,10 +138,8 @@ fn with_fresh(psw: [u64; PTS]) -> [u64; PSWS]
     ensures { take pt_count result ≡ psw }
 {
     let mut psws: [u64; PSWS] = [0; PSWS];
-    let mut k = 0;
-    while k < PTS {
+    for k in 0..PTS {
         psws[k] = psw[k];
-        k += 1;
     }
     psws
 }
@@ -153,10 +148,8 @@ fn without_fresh(psws: [u64; PSWS]) -> [u64; PTS]
     ensures { result ≡ take pt_count psws }
 {
     let mut psw: [u64; PTS] = [0; PTS];
-    let mut k = 0;
-    while k < PTS {
+    for k in 0..PTS {
         psw[k] = psws[k];
-        k += 1;
     }
     psw
 }
@@ -168,27 +161,19 @@ fn numbered(users: Processes, records: Tasks) -> Carried
     ensures { Begins users records result }
 {
     let queues = users.queues;
-    let laid = run_rings::rings_of(queues);
-    let pts = laid.pts;
-    let heads = laid.heads;
-    let lens = laid.lens;
     let kinds = records.kinds;
     let stored = records.stored;
-    let mut marks = [NONE; MARKS];
-    next::lay_next(&mut marks, &kinds, &pts, &heads, &lens);
     let psw = users.psw;
+    let rings = run_rings::rings_of(queues);
+    let queued = next::laid(rings, &kinds);
     let psws = with_fresh(psw);
-    let free = run_rings::free_mask(queues);
     Carried {
-        marks,
-        pts,
-        heads,
-        lens,
+        queued,
         kinds,
         stored,
         psws,
         flag: users.flag,
-        free,
+        free: run_rings::free_mask(queues),
         count: users.count,
         tally: [0; CELLS],
     }
@@ -199,8 +184,8 @@ fn attempt(
     t: usize,
     pt: usize,
     flag: u8,
-    spans: &[u32],
-    psws: &mut [u64],
+    spans: &[u32; ALL_SPANS],
+    psws: &mut [u64; PSWS],
     constant_tags: &[u8],
     constant_words: &[u64],
     register_tags: &mut [u8],
@@ -209,22 +194,30 @@ fn attempt(
     data_tags: &mut [u8],
     data_words: &mut [u64],
 ) -> Course
-    requires { (t < numbers) × (all_span_places ≤ length spans.now) × (pt < length psws.old) }
+    requires { (t < numbers) × (pt < 65) }
     ensures { (row : Row) → Windows spans.now t row → Performs row (decide (environment_of row (get_or psws.old pt 0) flag program.now (memory constant_tags.now constant_words.now) (memory register_tags.old register_words.old) (memory data_tags.old data_words.old))) pt pt_count result psws.old psws.new (memory register_tags.old register_words.old) (memory register_tags.new register_words.new) (memory data_tags.old data_words.old) (memory data_tags.new data_words.new) }
 {
     let psw = psws[pt];
     let at = SPANS * t;
+    let windows = operation::Windows {
+        constants: spans[at],
+        registers: Bounds {
+            base: spans[at + 1],
+            end: spans[at + 2],
+        },
+        program: Bounds {
+            base: spans[at + 3],
+            end: spans[at + 4],
+        },
+        data: Bounds {
+            base: spans[at + 5],
+            end: spans[at + 6],
+        },
+    };
     operation_decide::decide(
-        spans[at],
-        spans[at + 1],
-        spans[at + 2],
-        spans[at + 3],
-        spans[at + 4],
-        spans[at + 5],
-        spans[at + 6],
+        windows,
         psws,
-        pt,
-        psw,
+        Process { pt, psw },
         flag,
         FRESH,
         constant_tags,
@@ -255,40 +248,29 @@ fn run_items(
     ensures { (rows : List Row) → Opens rows users records (cells (memory constant_tags.now constant_words.now) (memory register_tags.old register_words.old) program.now (memory data_tags.old data_words.old)) → Ends rows records.spans schedule.now (open_state rows users (cells (memory constant_tags.now constant_words.now) (memory register_tags.old register_words.old) program.now (memory data_tags.old data_words.old))) result (cells (memory constant_tags.now constant_words.now) (memory register_tags.new register_words.new) program.now (memory data_tags.new data_words.new)) }
 {
     let spans = records.spans;
-    let start = numbered(users, records);
+    let mut carried = numbered(users, records);
     if register_tags.len() != register_words.len() {
-        return start;
+        return carried;
     }
     if data_tags.len() != data_words.len() {
-        return start;
+        return carried;
     }
-    let mut marks = start.marks;
-    let mut pts = start.pts;
-    let mut heads = start.heads;
-    let mut lens = start.lens;
-    let mut kinds = start.kinds;
-    let mut stored = start.stored;
-    let mut psws = start.psws;
-    let mut flag = start.flag;
-    let mut free = start.free;
-    let mut count = start.count;
-    let mut tally = start.tally;
     let mut i = 0;
+    // No `for`: an item that makes a try and a step goes round twice, and an inner loop over its attempts costs more a step.
     while i < schedule.len() {
         let t = schedule[i] as usize;
-        let head = marks[t];
-        if head == NONE {
-            next::count_attempt(&mut tally, IDLE, t);
+        let Some(next) = carried.queued.next[t] else {
+            next::count_attempt(&mut carried.tally, IDLE, t);
             i += 1;
             continue;
-        }
-        let pt = head as usize;
+        };
+        let pt = next.pt as usize;
         let c = attempt(
             t,
             pt,
-            flag,
+            carried.flag,
             &spans,
-            &mut psws,
+            &mut carried.psws,
             constant_tags,
             constant_words,
             register_tags,
@@ -297,44 +279,17 @@ fn run_items(
             data_tags,
             data_words,
         );
-        let p = psws[pt];
-        let place = next::settle(
-            c,
-            &mut marks,
-            &mut pts,
-            &mut heads,
-            &mut lens,
-            &mut kinds,
-            &mut stored,
-            &mut psws,
-            &mut flag,
-            &mut free,
-            &mut count,
-            t,
-            pt,
-            p,
-        );
-        next::count_attempt(&mut tally, place, t);
+        let p = carried.psws[pt];
+        let place = carried.settle(c, t, next, p);
+        next::count_attempt(&mut carried.tally, place, t);
         if place < THEN {
             i += 1;
         }
     }
-    Carried {
-        marks,
-        pts,
-        heads,
-        lens,
-        kinds,
-        stored,
-        psws,
-        flag,
-        free,
-        count,
-        tally,
-    }
+    carried
 }
 
-// Whether all items so far and this one are sound. With no early return the loop goes many at a time.
+// Whether all items so far and this one are sound.
 fn still(good: bool, t: u8) -> bool
     ensures { result ≡ (good && item_sound t) }
 {
@@ -344,28 +299,27 @@ fn still(good: bool, t: u8) -> bool
     false
 }
 
-// Whether every item is a task number 1 to 7.
+// Whether every item is a task number 1 to 7. No `all`: it leaves at the first that is not, so that the loop can't go many at a time, and create and
+// quit miss their bar by three instructions a step.
 pub fn items_sound(schedule: &[u8]) -> bool
     ensures { result ≡ every item_sound schedule.now }
 {
-    let n = schedule.len();
     let mut good = true;
-    let mut i = 0;
-    while i < n {
-        good = still(good, schedule[i]);
-        i += 1;
+    for t in schedule {
+        good = still(good, *t);
     }
     good
 }
 
 // The processes at the end of a run.
 fn users_of(left: Carried) -> Processes
-    requires { (k : ℕ) → (get_or (queues_in left.pts left.heads left.lens) k no_queue).len ≤ places }
+    requires { (k : ℕ) → (get_or (all_queues left.queued.rings) k no_queue).len ≤ places }
     ensures { result ≡ users_of left }
 {
-    let pts = left.pts;
-    let heads = left.heads;
-    let lens = left.lens;
+    let rings = left.queued.rings;
+    let pts = rings.pts;
+    let heads = rings.heads;
+    let lens = rings.lens;
     let psws = left.psws;
     let queues = run_rings::queues_of(pts, heads, lens);
     Processes {
@@ -384,7 +338,7 @@ fn refused(e: Refusal, rows: Rows, table: ProcessTable) -> AfterRun
         rows,
         table,
         result: RunResult {
-            answer: RunAnswer::Refused(e),
+            answer: Err(e),
             own: [no_counts(); TASK_NUMBERS],
         },
     }
@@ -439,7 +393,7 @@ fn run_cut(
             users: users_of(left),
         },
         result: RunResult {
-            answer: RunAnswer::Counted(total(own)),
+            answer: Ok(total(own)),
             own,
         },
     }
@@ -529,12 +483,12 @@ fn ending_of(c: Counts, row: Row) -> Ending
     Ending::Trapped(trap_of(row.kind), row.psw)
 }
 
-fn answer_of(answer: RunAnswer, row: Row) -> StepAnswer
+fn answer_of(answer: Result<Counts, Refusal>, row: Row) -> Result<Ending, Refusal>
     ensures { result ≡ answer_of answer row }
 {
     match answer {
-        RunAnswer::Refused(e) => StepAnswer::Refused(e),
-        RunAnswer::Counted(c) => StepAnswer::Stepped(ending_of(c, row)),
+        Err(e) => Err(e),
+        Ok(c) => Ok(ending_of(c, row)),
     }
 }
 

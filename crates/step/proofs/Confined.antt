@@ -1,7 +1,6 @@
 -- No item of one task changes any register or data word outside its windows.
+use Rattle.std.proofs.Common.{Some, slice_get}
 use Rattle.std.specs.Prelude.{◌≡◌, false, ℕ}
-use Rattle.std.proofs.Math.Option.{some}
-use Rattle.std.proofs.Math.ListN.{get_elem?}
 use Rattle.operation.specs.Decide.{decide}
 use Rattle.window.specs.declared.Row.{Row}
 use Rattle.window.specs.declared.Window.{Window}
@@ -14,12 +13,12 @@ use Rattle.step.proofs.Laws.Item.{item_outside}
 
 -- the real address a lies outside a window of task t; an unlisted task has no window
 abbrev pub Outside : (Row → Window) → (t : ℕ) → State → (a : ℕ) → Type 0
-Outside window t s a = (r : Row) → find_row t s.rows ≡ some r → inside (window r) a ≡ false
+Outside window t s a = (r : Row) → find_row t s.rows ≡ Some r → inside (window r) a ≡ false
 
 -- the memories have the same tag and the same word at the real address a, or both end before it
 pub record SameAt (a : ℕ) (m m' : Memory) : Type 0 where
-  pub tag : get_elem? m.tags a ≡ get_elem? m'.tags a
-  pub word : get_elem? m.words a ≡ get_elem? m'.words a
+  pub tag : slice_get m.tags a ≡ slice_get m'.tags a
+  pub word : slice_get m.words a ≡ slice_get m'.words a
 
 pub item_keeps_registers : (t : ℕ) (s : State) (a : ℕ) → Outside register_window t s a → SameAt a (item t s).state.registers s.registers
 unfolding item

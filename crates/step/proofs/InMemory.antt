@@ -1,6 +1,6 @@
 -- In a sound state every real address inside a window lies in its memory: what refusal 5 is for.
+use Rattle.std.proofs.Common.{Some}
 use Rattle.std.specs.Prelude.{◌≡◌, true, ◌&&◌, ℕ, ◌<◌, length}
-use Rattle.std.proofs.Math.Option.{some}
 use Rattle.word.proofs.Laws.Bools.{and_left, and_right}
 use Rattle.window.specs.declared.Row.{Row}
 use Rattle.window.specs.Windows.{inside, register_window, program_window, data_word_window}
@@ -15,7 +15,7 @@ pub record InMemory (s : State) (r : Row) : Type 0 where
   pub program : (a : ℕ) → inside (program_window r) a ≡ true → a < length s.program
   pub data_words : (a : ℕ) → inside (data_word_window r) a ≡ true → a < length s.data_words.words
 
-pub windows_in_memory : (s : State) (t : ℕ) (r : Row) → sound s ≡ true → find_row t s.rows ≡ some r → InMemory s r
+pub windows_in_memory : (s : State) (t : ℕ) (r : Row) → sound s ≡ true → find_row t s.rows ≡ Some r → InMemory s r
 unfolding row_ends_in
 windows_in_memory s t r e f =
     let nr = length s.registers.words in

@@ -61,13 +61,6 @@ pub enum Ending {
     Idle,
 }
 
-// What the head process of a task decides; nothing where the task is trapped or without processes.
-#[derive(Clone, Copy)]
-pub enum Decided {
-    Idle,
-    Decides(Decision),
-}
-
 // What becomes of a task's queues: of the one whose head acts, and of the other. A created PT joins the task's queue.
 #[derive(Clone, Copy)]
 pub enum Motion {

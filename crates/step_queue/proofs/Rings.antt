@@ -9,15 +9,22 @@ use Rattle.step.specs.Queues.{ring, list_of}
 use Rattle.step.proofs.Laws.Queues.{ring_same, ring_first}
 use Rattle.step_queue.specs.Code.Mask.{without, free_after}
 
-pub ring_starts : (q : Queue) (z : ℕ) → free_after (ring q.pts (q.head % 64) q.len) z ≡ free_after (list_of q) z
+pub ring_starts : (q : Queue) (z : ℕ) → free_after (ring q.pts (q.head % 64) (q.len - 0)) z ≡ free_after (list_of q) z
 unfolding list_of
-ring_starts q z = ap (λ (l : List ℕ). free_after l z) (ring_same q.pts (q.head % 64) q.head q.len (omega arith))
+ring_starts q z =
+    let none : q.len - 0 ≡ q.len = omega arith in
+    ap (λ (n : ℕ). free_after (ring q.pts (q.head % 64) n) z) none
+    ∙ ap (λ (l : List ℕ). free_after l z) (ring_same q.pts (q.head % 64) q.head q.len (omega arith))
 
-pub ring_goes : (a : List ℕ) (h n z r s : ℕ) → h < 64 → 0 < n → r ≡ without z (get_or a h 0) → free_after (ring a h n) z ≡ s
-    → free_after (ring a ((h + 1) % 64) (n - 1)) r ≡ s
+pub ring_goes : (a : List ℕ) (h n i z r s : ℕ) → h < 64 → i < n → r ≡ without z (get_or a h 0) → free_after (ring a h (n - i)) z ≡ s
+    → free_after (ring a ((h + 1) % 64) (n - (i + 1))) r ≡ s
 unfolding free_after
-ring_goes a h n z r s p q e i =
-    ap (free_after (ring a ((h + 1) % 64) (n - 1))) e ∙ sym (ap (λ (l : List ℕ). free_after l z) (ring_first a h n p q)) ∙ i
+ring_goes a h n i z r s p q e w =
+    let m : n - (i + 1) ≡ n - i - 1 = omega arith in
+    ap (free_after (ring a ((h + 1) % 64) (n - (i + 1)))) e
+    ∙ ap (λ (k : ℕ). free_after (ring a ((h + 1) % 64) k) (without z (get_or a h 0))) m
+    ∙ sym (ap (λ (l : List ℕ). free_after l z) (ring_first a h (n - i) p (omega arith)))
+    ∙ w
 
 pub ring_ends : (a : List ℕ) (h n z s : ℕ) → n ≡ 0 → free_after (ring a h n) z ≡ s → z ≡ s
 unfolding free_after ring

@@ -15,13 +15,11 @@ const FIRST_NO_PT: u8 = PTS as u8;
 fn together(own: usize, sfu: usize) -> usize
     ensures { own ≤ places → sfu ≤ places → result ≡ own + sfu }
 {
-    if PLACES < own {
-        return 0;
+    if own <= PLACES && sfu <= PLACES {
+        own + sfu
+    } else {
+        0
     }
-    if PLACES < sfu {
-        return 0;
-    }
-    own + sfu
 }
 
 // The live processes of each task, in its queue and its SFU queue, where neither is longer than its array.
@@ -29,10 +27,8 @@ pub fn live_counts(queues: [Queue; QUEUES]) -> [usize; NUMBERS]
     ensures { ((k : ℕ) → (get_or queues k no_queue).len ≤ places) → result ≡ live_counts queues }
 {
     let mut counts = [0; NUMBERS];
-    let mut k = 0;
-    while k < NUMBERS {
-        counts[k] = together(queues[2 * k].len, queues[2 * k + 1].len);
-        k += 1;
+    for (k, count) in counts.iter_mut().enumerate() {
+        *count = together(queues[2 * k].len, queues[2 * k + 1].len);
     }
     counts
 }
@@ -63,11 +59,9 @@ pub fn free_after(free: u64, q: Queue) -> u64
 {
     let mut free = free;
     let mut at = q.head % PLACES;
-    let mut left = q.len;
-    while 0 < left {
+    for _ in 0..q.len {
         free = without(free, q.pts[at]);
         at = (at + 1) % PLACES;
-        left -= 1;
     }
     free
 }

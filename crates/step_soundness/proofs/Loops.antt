@@ -4,10 +4,13 @@ use mathlib.Core.Path.{◌≡◌, refl, sym, ap, ap₂, ◌∙◌}
 use mathlib.Core.Bool.{Bool, true, false, ◌&&◌, ◌||◌}
 use mathlib.Core.List.{List, [], ◌∷◌, ◌++◌}
 use native.Mathlib.Omega.{arith}
+use native.Mathlib.Numerals.{add-one}
 use lib.ListN.{length, get_or, take, drop, length-take, length-append, drop_of_length-le}
 use lib.Seq.{drop-cons, get_or-take}
 use lib.Dec.{eqb}
 use borrow.Author.Tests.{eq-eqb, ne_eqb}
+use Rattle.std.proofs.Math.Bool.{and-false}
+use Rattle.std.specs.List.{list_any, list_all}
 use Rattle.word.proofs.Laws.Bools.{Eq?, same, differ, eq?}
 use Rattle.window.specs.declared.Row.{Row}
 use Rattle.step.specs.declared.Queue.{Queue}
@@ -42,9 +45,6 @@ module _ {A : Type 0} (l : List A) (n i : ℕ) where
   pub past_count : n ≤ i → drop i (take n l) ≡ []
   past_count h = let m : length (take n l) ≤ i = rw length-take (omega arith) in none_of (take n l) i m
 
-  pub past_end : length l ≤ i → drop i (take n l) ≡ []
-  past_end h = let m : length (take n l) ≤ i = rw length-take (omega arith) in none_of (take n l) i m
-
 -- ---- a test of every element, which may depend on a state that the elements before it have led to
 
 pub record Tested {S A : Type 0} (all : S → List A → Bool) : Type 0 where
@@ -74,55 +74,35 @@ rows_cons before r rs = refl
 abbrev pub rows_tested : Tested rows_sound
 rows_tested = record { test = row_sound; next = λ before r. r.task; nil = rows_nil; cons = rows_cons }
 
-abbrev pub windows : (registers program data_words : ℕ) → Unit {0} → List Row → Bool
-windows nr np nd u rs = windows_sound nr np nd rs
-
-pub windows_nil : (nr np nd : ℕ) → windows_sound nr np nd [] ≡ true
-unfolding windows_sound
-windows_nil nr np nd = refl
-
-pub windows_cons : (nr np nd : ℕ) (r : Row) (rs : List Row) → windows_sound nr np nd (r ∷ rs) ≡ row_ends_in nr np nd r && windows_sound nr np nd rs
-unfolding windows_sound
-windows_cons nr np nd r rs = refl
-
-abbrev pub windows_tested : (registers program data_words : ℕ) → Tested (windows registers program data_words)
-windows_tested nr np nd = record { test = λ u. row_ends_in nr np nd; next = λ u r. u; nil = λ u. windows_nil nr np nd; cons = λ u. windows_cons nr np nd }
-
 pub queues_nil : (rows : List Row) (t : ℕ) → queues_sound rows t [] ≡ true
 unfolding queues_sound
 queues_nil rows t = refl
 
-pub queues_cons : (rows : List Row) (t : ℕ) (q : Queue) (qs : List Queue) → queues_sound rows t (q ∷ qs) ≡ queue_sound rows t q && queues_sound rows (suc t) qs
+pub queues_cons : (rows : List Row) (t : ℕ) (q : Queue) (qs : List Queue) → queues_sound rows t (q ∷ qs) ≡ queue_sound rows t q && queues_sound rows (t + 1) qs
 unfolding queues_sound queue_sound
-queues_cons rows t q qs = refl
+queues_cons rows t q qs = ap (λ (k : ℕ). queue_sound rows t q && queues_sound rows k qs) (sym (add-one t))
 
 abbrev pub queues_tested : (rows : List Row) → Tested (queues_sound rows)
-queues_tested rows = record { test = queue_sound rows; next = λ t q. suc t; nil = queues_nil rows; cons = queues_cons rows }
+queues_tested rows = record { test = queue_sound rows; next = λ t q. t + 1; nil = queues_nil rows; cons = queues_cons rows }
 
--- ---- the row of a task
+-- ---- a test of every row, and of any
 
-module _ (t : ℕ) where
-  pub has_found : {x : Row} {l l' : List Row} {w : Bool} → l ≡ x ∷ l' → x.task ≡ t → has_row t l ≡ w → true ≡ w
-  unfolding has_row
-  has_found {x} {l} {l'} d e i = sym (ap (has_row t) d ∙ ap (λ (b : Bool). b || has_row t l') (eq-eqb x.task t e)) ∙ i
+pub has_any : (t : ℕ) (rows : List Row) → list_any (λ (r : Row). eqb r.task t) rows ≡ has_row t rows
+unfolding has_row
+has_any t [] = refl
+has_any t (r ∷ rs) = ap (λ (b : Bool). eqb r.task t || b) (has_any t rs)
 
-  pub has_goes : {x : Row} {l l' : List Row} {w : Bool} → l ≡ x ∷ l' → (x.task ≡ t → ⊥) → has_row t l ≡ w → has_row t l' ≡ w
-  unfolding has_row
-  has_goes {x} {l} {l'} d e i = sym (ap (has_row t) d ∙ ap (λ (b : Bool). b || has_row t l') (ne_eqb x.task t e)) ∙ i
-
-  pub has_ends : {l : List Row} {w : Bool} → l ≡ [] → has_row t l ≡ w → false ≡ w
-  unfolding has_row
-  has_ends d i = sym (ap (has_row t) d) ∙ i
+pub windows_all : (registers program data_words : ℕ) (rows : List Row)
+    → list_all (row_ends_in registers program data_words) rows ≡ windows_sound registers program data_words rows
+unfolding windows_sound
+windows_all nr np nd [] = refl
+windows_all nr np nd (r ∷ rs) = ap (λ (b : Bool). row_ends_in nr np nd r && b) (windows_all nr np nd rs)
 
 -- ---- the live counts and what is left of their total
 
 -- the counts l are those of the queues, and n is their total
 unfoldable pub tested : (l : List ℕ) → List Queue → (n : ℕ) → Bool
 tested l qs n = alike l (live_counts qs) && eqb n (live_total qs)
-
-and_none : (b : Bool) → b && false ≡ false
-and_none true = refl
-and_none false = refl
 
 -- a total less its first part
 rest_eqb : (n m k : ℕ) → m ≤ n → eqb n (m + k) ≡ eqb (n - m) k
@@ -147,7 +127,7 @@ module _ {x : ℕ} {l l' : List ℕ} {q p : Queue} {qs qs' : List Queue} (n : �
   pub count_over : n < q.len + p.len → false ≡ w
   count_over h =
       sym (ap (λ (b : Bool). (eqb x (q.len + p.len) && alike l' (live_counts qs')) && b) (ne_eqb n (q.len + (p.len + live_total qs')) (λ e. omega (arith, e, h)))
-      ∙ and_none (eqb x (q.len + p.len) && alike l' (live_counts qs')))
+      ∙ and-false (eqb x (q.len + p.len) && alike l' (live_counts qs')))
       ∙ first_told
 
   pub count_goes : x ≡ q.len + p.len → x ≤ n → tested l' qs' (n - x) ≡ w

@@ -1,7 +1,7 @@
 // Whether a state is sound: the tests of refusal 8, the stored live counts among them.
 #![tactic(auto)]
 
-ghost use Rattle.std.specs.Prelude.{◌≡◌, not, ◌&&◌, List, ℕ, take};
+ghost use Rattle.std.specs.Prelude.{◌≡◌, not, ◌&&◌, List, ℕ};
 ghost use Rattle.word.specs.Fields.{psw_sound};
 ghost use Rattle.window.specs.Memories.{memory};
 ghost use Rattle.window.specs.declared.Row.{Row};
@@ -13,7 +13,7 @@ ghost use Rattle.step_soundness.specs.Code.Held.{state_in, sound_in, queue_sound
 ghost use Rattle.step_soundness.specs.Code.Seen.{seen_after};
 
 use image_bytes::CellKind;
-use step::{NUMBERS, PLACES, PTS, ProcessTable, Processes, QUEUES, Queue};
+use step::{PLACES, PTS, ProcessTable, Processes, QUEUES, Queue};
 use window::{MOST_CONSTANTS, MOST_DATA, MOST_PROGRAM, MOST_REGISTERS, Row, TASKS};
 
 // The first number that is no PT.
@@ -57,73 +57,39 @@ fn row_sound(before: u8, row: Row) -> bool
     step_fields::record_sound(kind, row.psw)
 }
 
-// The first n rows, in ascending number.
-fn rows_sound(rows: [Row; TASKS], n: usize) -> bool
-    ensures { result ≡ rows_sound 0 (take n rows) }
+// In ascending number.
+fn rows_sound(rows: &[Row]) -> bool
+    ensures { result ≡ rows_sound 0 rows.now }
 {
     let mut before = 0;
-    let mut i = 0;
-    while i < TASKS {
-        if n <= i {
-            return true;
-        }
-        let row = rows[i];
-        if !row_sound(before, row) {
+    for row in rows {
+        if !row_sound(before, *row) {
             return false;
         }
         before = row.task;
-        i += 1;
     }
     true
 }
 
-// Whether task t has one of the first n rows.
-fn has_row(t: u8, rows: [Row; TASKS], n: usize) -> bool
-    ensures { result ≡ has_row t (take n rows) }
+fn has_row(t: u8, rows: &[Row]) -> bool
+    ensures { result ≡ has_row t rows.now }
 {
-    let mut i = 0;
-    while i < TASKS {
-        if n <= i {
-            return false;
-        }
-        if rows[i].task == t {
-            return true;
-        }
-        i += 1;
-    }
-    false
+    rows.iter().any(|row| row.task == t)
 }
 
 // ---- windows
 
-// The windows of the first n rows.
-fn windows_sound(
-    rows: [Row; TASKS],
-    n: usize,
-    registers: usize,
-    program: usize,
-    data_words: usize,
-) -> bool
-    ensures { result ≡ windows_sound registers program data_words (take n rows) }
+fn windows_sound(rows: &[Row], registers: usize, program: usize, data_words: usize) -> bool
+    ensures { result ≡ windows_sound registers program data_words rows.now }
 {
-    let mut i = 0;
-    while i < TASKS {
-        if n <= i {
-            return true;
-        }
-        if !step_fields::row_ends_in(rows[i], registers, program, data_words) {
-            return false;
-        }
-        i += 1;
-    }
-    true
+    rows.iter().all(|row| step_fields::row_ends_in(*row, registers, program, data_words))
 }
 
 // ---- the process table
 
-// The queue with number k in its array, and empty where its task has none of the first n rows.
-fn queue_sound(rows: [Row; TASKS], n: usize, k: u8, q: Queue) -> bool
-    ensures { result ≡ queue_sound (take n rows) k q }
+// The queue with number k in its array, and empty where its task has no row.
+fn queue_sound(rows: &[Row], k: u8, q: Queue) -> bool
+    ensures { result ≡ queue_sound rows.now k q }
 {
     if PLACES < q.len {
         return false;
@@ -131,29 +97,18 @@ fn queue_sound(rows: [Row; TASKS], n: usize, k: u8, q: Queue) -> bool
     if q.len == 0 {
         return true;
     }
-    has_row(k / 2, rows, n)
+    has_row(k / 2, rows)
 }
 
-fn queues_sound(rows: [Row; TASKS], n: usize, queues: [Queue; QUEUES]) -> bool
-    ensures { result ≡ queues_sound (take n rows) 0 queues }
+fn queues_sound(rows: &[Row], queues: [Queue; QUEUES]) -> bool
+    ensures { result ≡ queues_sound rows.now 0 queues }
 {
-    let mut t = 0;
-    let mut k = 0;
-    while k < QUEUES {
-        if !queue_sound(rows, n, t, queues[k]) {
+    for (k, q) in queues.iter().enumerate() {
+        if !queue_sound(rows, k as u8, *q) {
             return false;
         }
-        t += 1;
-        k += 1;
     }
     true
-}
-
-// The PTs that came so far; sound while each came once, is below 64 and has a sound PSW.
-#[derive(Clone, Copy)]
-pub struct Seen {
-    pub sound: bool,
-    pub pts: [bool; PTS],
 }
 
 // A PT that has not come before, with a sound PSW.
@@ -169,55 +124,46 @@ fn is_fresh(pt: u8, marked: bool, psw: u64) -> bool
     word::psw_sound(psw)
 }
 
-// The PTs of a queue, from its head on. Each is marked where it lies: a copy after each mark would cost more than all else.
-fn see_queue(psw: [u64; PTS], seen: Seen, q: Queue) -> Seen
-    ensures { result ≡ seen_after psw (list_of q) seen }
+// The marks after the PTs of a queue, from its head on; none where one is not fresh.
+fn see_queue(psw: [u64; PTS], marked: [bool; PTS], q: Queue) -> Option<[bool; PTS]>
+    ensures { result ≡ seen_after psw (list_of q) marked }
 {
-    let mut next = seen;
+    let mut marked = marked;
     let mut at = q.head % PLACES;
-    let mut left = q.len;
-    while 0 < left {
+    for _ in 0..q.len {
         let pt = q.pts[at];
         let i = pt as usize % PTS;
-        if is_fresh(pt, next.pts[i], psw[i]) {
-            next.pts[i] = true;
-        } else {
-            next.sound = false;
+        if !is_fresh(pt, marked[i], psw[i]) {
+            return None;
         }
+        marked[i] = true;
         at = (at + 1) % PLACES;
-        left -= 1;
     }
-    next
+    Some(marked)
 }
 
 // No PT twice, and every process has a PT and a PSW.
 fn processes_sound(psw: [u64; PTS], queues: [Queue; QUEUES]) -> bool
     ensures { result ≡ processes_sound psw (live_pts queues) }
 {
-    let mut seen = Seen {
-        sound: true,
-        pts: [false; PTS],
-    };
-    let mut k = 0;
-    while k < QUEUES {
-        seen = see_queue(psw, seen, queues[k]);
-        k += 1;
+    let mut marked = [false; PTS];
+    for q in &queues {
+        let Some(next) = see_queue(psw, marked, *q) else {
+            return false;
+        };
+        marked = next;
     }
-    seen.sound
+    true
 }
 
 // The live counts are those of the queues, two of each task, and the total is their sum: of each task so many are left of it.
 fn live_sound(users: Processes) -> bool
     ensures { result ≡ live_sound users }
 {
-    let queues = users.queues;
-    let live = users.live;
     let mut left = users.count;
-    let mut k = 0;
-    while k < NUMBERS {
-        let own = queues[2 * k].len;
-        let sfu = queues[2 * k + 1].len;
-        let count = live[k];
+    for (k, &count) in users.live.iter().enumerate() {
+        let own = users.queues[2 * k].len;
+        let sfu = users.queues[2 * k + 1].len;
         if count < own {
             return false;
         }
@@ -228,30 +174,26 @@ fn live_sound(users: Processes) -> bool
             return false;
         }
         left -= count;
-        k += 1;
     }
     left == 0
 }
 
-fn table_sound(rows: [Row; TASKS], n: usize, users: Processes) -> bool
-    ensures { result ≡ table_sound (take n rows) users }
+fn table_sound(rows: &[Row], users: Processes) -> bool
+    ensures { result ≡ table_sound rows.now users }
 {
-    let psw = users.psw;
-    let queues = users.queues;
-    let flag = users.flag;
-    if !queues_sound(rows, n, queues) {
+    if !queues_sound(rows, users.queues) {
         return false;
     }
-    if !processes_sound(psw, queues) {
+    if !processes_sound(users.psw, users.queues) {
         return false;
     }
-    if 1 < flag {
+    if 1 < users.flag {
         return false;
     }
     if !live_sound(users) {
         return false;
     }
-    step_fields::total_sound(users.count, flag as u64)
+    step_fields::total_sound(users.count, users.flag as u64)
 }
 
 // ---- the memories
@@ -323,10 +265,11 @@ pub fn sound(
     if TASKS < n {
         return false;
     }
-    if !rows_sound(rows, n) {
+    let rows = &rows[..n];
+    if !rows_sound(rows) {
         return false;
     }
-    if !table_sound(rows, n, table.users) {
+    if !table_sound(rows, table.users) {
         return false;
     }
     if !memories_sound(
@@ -340,11 +283,5 @@ pub fn sound(
     ) {
         return false;
     }
-    windows_sound(
-        rows,
-        n,
-        register_words.len(),
-        program.len(),
-        data_words.len(),
-    )
+    windows_sound(rows, register_words.len(), program.len(), data_words.len())
 }

@@ -3,9 +3,7 @@
 // before it.
 #![tactic(auto)]
 
-ghost use Rattle.std.specs.Prelude.{◌≤◌};
-
-use library::{ReadAnswer, RunAnswer, Sizes, StepAnswer, WriteAnswer};
+use library::Sizes;
 use refusal::Refusal;
 use run::{Counts, TASK_NUMBERS};
 use std::io;
@@ -83,24 +81,19 @@ fn table_of(psw: u64, queues: [Queue; QUEUES], flag: u8, task: usize, n: usize) 
     }
 }
 
-fn single(pt: u8) -> Queue {
+// The processes with these PTs, of which a queue has room for 64.
+fn queue_of(pts: &[u8]) -> Queue {
     let mut queue = no_processes();
-    queue.pts[0] = pt;
-    queue.len = 1;
-    queue
-}
-
-fn pair(first: u8, second: u8) -> Queue {
-    let mut queue = no_processes();
-    queue.pts[0] = first;
-    queue.pts[1] = second;
-    queue.len = 2;
+    for (place, pt) in queue.pts.iter_mut().zip(pts) {
+        *place = *pt;
+    }
+    queue.len = pts.len();
     queue
 }
 
 // Task 1 has two processes, of PT 3 and of this one, with this PSW each.
 fn table_with(pt: u8, psw: u64, flag: u8) -> ProcessTable {
-    table_of(psw, queues_with(2, pair(3, pt)), flag, 1, 2)
+    table_of(psw, queues_with(2, queue_of(&[3, pt])), flag, 1, 2)
 }
 
 fn trial_table() -> ProcessTable {
@@ -109,14 +102,14 @@ fn trial_table() -> ProcessTable {
 
 // Task 1 has a process of PT 3, and one of this PT in its SFU queue.
 fn table_sfu(pt: u8) -> ProcessTable {
-    let mut queues = queues_with(2, single(3));
-    queues[3] = single(pt);
+    let mut queues = queues_with(2, queue_of(&[3]));
+    queues[3] = queue_of(&[pt]);
     table_of(0, queues, 0, 1, 2)
 }
 
 // The queue with number k, of a task that has no row, has one process.
 fn table_unlisted(k: usize) -> ProcessTable {
-    table_of(0, queues_with(k, single(0)), 0, k / 2, 1)
+    table_of(0, queues_with(k, queue_of(&[0])), 0, k / 2, 1)
 }
 
 // So many processes, with the PTs 0 to 63.
@@ -137,56 +130,80 @@ fn table_full(k: usize, len: usize, flag: u8) -> ProcessTable {
 // Task 1 has 63 processes in its queue and one in its SFU queue.
 fn table_both(flag: u8) -> ProcessTable {
     let mut queues = queues_with(2, queue_full(63));
-    queues[3] = single(63);
+    queues[3] = queue_of(&[63]);
     table_of(0, queues, flag, 1, 64)
+}
+
+// The state before a call, in buffers that are as long as its fields.
+#[derive(Clone, Copy)]
+struct State {
+    rows: [Row; TASKS],
+    n: usize,
+    table: ProcessTable,
+    qualities: [u8; 3],
+    tags: [u8; 8],
+    data_tags: [u8; 32],
+}
+
+// A sound state of one row.
+fn sound() -> State {
+    State {
+        rows: rows_from(trial_row()),
+        n: 1,
+        table: trial_table(),
+        qualities: [2; 3],
+        tags: [1; 8],
+        data_tags: [1; 32],
+    }
+}
+
+fn with_row(row: Row) -> State {
+    State {
+        rows: rows_from(row),
+        ..sound()
+    }
+}
+
+fn with_table(table: ProcessTable) -> State {
+    State { table, ..sound() }
+}
+
+fn with_tags(tag: u8) -> State {
+    State {
+        tags: [tag; 8],
+        ..sound()
+    }
 }
 
 // ---- lines
 
 fn print_refusal(rt: &impl Print, e: Refusal) -> io::Result<()> {
-    match e {
-        Refusal::ShortBuffer => print!(rt; "R7"),
-        Refusal::UnsoundState => print!(rt; "R8"),
-        Refusal::ListTooLong => print!(rt; "R9"),
-        Refusal::ItemOutOfRange => print!(rt; "R10"),
-        _ => print!(rt; "another refusal"),
-    }
+    print!(rt; "R{}", refusal::number(e))
 }
 
 fn print_kept(rt: &impl Print, kept: usize) -> io::Result<()> {
     print!(rt; " {kept}")
 }
 
-fn one_if(b: bool) -> usize
-    ensures { result ≤ 1 }
-{
-    if b { 1 } else { 0 }
-}
-
 // How many places have the mark.
-fn marked(bytes: &[u8]) -> usize {
-    bytes.iter().filter(|byte| **byte == MARK).count()
-}
-
-fn marked_words(words: &[u64]) -> usize {
-    words.iter().filter(|word| **word == WORD_MARK).count()
+fn marked<T: Copy + PartialEq>(places: &[T], mark: T) -> usize {
+    places.iter().filter(|place| **place == mark).count()
 }
 
 // ---- write
 
-fn write_to(
+// The state with these tags in place of its own.
+fn write_tags(
     rt: &impl Print,
     out: &mut [u8],
-    rows: [Row; TASKS],
-    n: usize,
-    table: ProcessTable,
+    state: State,
     qualities: &[u8],
     tags: &[u8],
     data_tags: &[u8],
 ) -> io::Result<()> {
     let written = hep::write_owned(
-        rows,
-        table,
+        state.rows,
+        state.table,
         qualities,
         &[5; 3],
         tags,
@@ -195,142 +212,83 @@ fn write_to(
         data_tags,
         &[8; 32],
         out,
-        sizes(n),
+        sizes(state.n),
     );
     match written {
-        WriteAnswer::Refused(e) => print_refusal(rt, e)?,
-        WriteAnswer::Wrote(length) => print!(rt; "wrote {length}")?,
+        Err(e) => print_refusal(rt, e)?,
+        Ok(length) => print!(rt; "wrote {length}")?,
     }
     print!(rt; ", kept")?;
-    print_kept(rt, marked(out))?;
+    print_kept(rt, marked(out, MARK))?;
     println!(rt)
 }
 
-// The state with this row, table and tags, to a buffer as long as its image.
-fn write_state(
-    rt: &impl Print,
-    row: Row,
-    n: usize,
-    table: ProcessTable,
-    qualities: &[u8],
-    tags: &[u8],
-    data_tags: &[u8],
-) -> io::Result<()> {
-    let mut out = [MARK; 578];
-    write_to(
+fn write_to(rt: &impl Print, out: &mut [u8], state: State) -> io::Result<()> {
+    write_tags(
         rt,
-        &mut out,
-        rows_from(row),
-        n,
-        table,
-        qualities,
-        tags,
-        data_tags,
+        out,
+        state,
+        &state.qualities,
+        &state.tags,
+        &state.data_tags,
     )
 }
 
-fn write_row(rt: &impl Print, row: Row, n: usize) -> io::Result<()> {
-    write_state(rt, row, n, trial_table(), &[2; 3], &[1; 8], &[1; 32])
+// To a buffer as long as the image.
+fn write_state(rt: &impl Print, state: State) -> io::Result<()> {
+    write_to(rt, &mut [MARK; 578], state)
+}
+
+// To a buffer as long as an image with 64 processes.
+fn write_full(rt: &impl Print, table: ProcessTable) -> io::Result<()> {
+    write_to(rt, &mut [MARK; 1198], with_table(table))
+}
+
+fn write_row(rt: &impl Print, row: Row) -> io::Result<()> {
+    write_state(rt, with_row(row))
+}
+
+fn write_rows_of(rt: &impl Print, n: usize) -> io::Result<()> {
+    write_state(rt, State { n, ..sound() })
 }
 
 fn write_table(rt: &impl Print, table: ProcessTable) -> io::Result<()> {
-    write_state(rt, trial_row(), 1, table, &[2; 3], &[1; 8], &[1; 32])
-}
-
-// Likewise, to a buffer as long as an image with 64 processes.
-fn write_full(rt: &impl Print, table: ProcessTable) -> io::Result<()> {
-    let mut out = [MARK; 1198];
-    write_to(
-        rt,
-        &mut out,
-        rows_from(trial_row()),
-        1,
-        table,
-        &[2; 3],
-        &[1; 8],
-        &[1; 32],
-    )
+    write_state(rt, with_table(table))
 }
 
 fn write_quality(rt: &impl Print, quality: u8) -> io::Result<()> {
-    let mut qualities = [2; 3];
-    qualities[2] = quality;
-    write_state(
-        rt,
-        trial_row(),
-        1,
-        trial_table(),
-        &qualities,
-        &[1; 8],
-        &[1; 32],
-    )
+    let mut state = sound();
+    state.qualities[2] = quality;
+    write_state(rt, state)
 }
 
 fn write_tag(rt: &impl Print, tag: u8) -> io::Result<()> {
-    let mut tags = [1; 8];
-    tags[7] = tag;
-    write_state(rt, trial_row(), 1, trial_table(), &[2; 3], &tags, &[1; 32])
+    let mut state = sound();
+    state.tags[7] = tag;
+    write_state(rt, state)
 }
 
 fn write_data_tag(rt: &impl Print, tag: u8) -> io::Result<()> {
-    let mut data_tags = [1; 32];
-    data_tags[31] = tag;
-    write_state(
-        rt,
-        trial_row(),
-        1,
-        trial_table(),
-        &[2; 3],
-        &[1; 8],
-        &data_tags,
-    )
+    let mut state = sound();
+    state.data_tags[31] = tag;
+    write_state(rt, state)
 }
 
 fn write_bounds(rt: &impl Print) -> io::Result<()> {
     print!(rt; "write to 578 bytes: ")?;
-    write_to(
-        rt,
-        &mut [MARK; 578],
-        rows_from(trial_row()),
-        1,
-        trial_table(),
-        &[2; 3],
-        &[1; 8],
-        &[1; 32],
-    )?;
+    write_to(rt, &mut [MARK; 578], sound())?;
     print!(rt; "write to 577 bytes: ")?;
-    write_to(
-        rt,
-        &mut [MARK; 577],
-        rows_from(trial_row()),
-        1,
-        trial_table(),
-        &[2; 3],
-        &[1; 8],
-        &[1; 32],
-    )?;
+    write_to(rt, &mut [MARK; 577], sound())?;
     print!(rt; "write to 579 bytes: ")?;
-    write_to(
-        rt,
-        &mut [MARK; 579],
-        rows_from(trial_row()),
-        1,
-        trial_table(),
-        &[2; 3],
-        &[1; 8],
-        &[1; 32],
-    )?;
+    write_to(rt, &mut [MARK; 579], sound())?;
     print!(rt; "unsound, to 577 bytes: ")?;
-    write_to(
-        rt,
-        &mut [MARK; 577],
-        rows_from(trial_row()),
-        1,
-        trial_table(),
-        &[2; 3],
-        &[7; 8],
-        &[1; 32],
-    )
+    write_to(rt, &mut [MARK; 577], with_tags(7))
+}
+
+// With tags of which one memory has too few.
+fn write_short(rt: &impl Print, qualities: &[u8], tags: &[u8], data_tags: &[u8]) -> io::Result<()> {
+    let mut out = [MARK; 578];
+    write_tags(rt, &mut out, sound(), qualities, tags, data_tags)
 }
 
 fn write_memories(rt: &impl Print) -> io::Result<()> {
@@ -349,71 +307,47 @@ fn write_memories(rt: &impl Print) -> io::Result<()> {
     print!(rt; "data state 2: ")?;
     write_data_tag(rt, 2)?;
     print!(rt; "2 constant qualities of 3: ")?;
-    write_state(
-        rt,
-        trial_row(),
-        1,
-        trial_table(),
-        &[2; 2],
-        &[1; 8],
-        &[1; 32],
-    )?;
+    write_short(rt, &[2; 2], &[1; 8], &[1; 32])?;
     print!(rt; "7 register tags of 8: ")?;
-    write_state(
-        rt,
-        trial_row(),
-        1,
-        trial_table(),
-        &[2; 3],
-        &[1; 7],
-        &[1; 32],
-    )?;
+    write_short(rt, &[2; 3], &[1; 7], &[1; 32])?;
     print!(rt; "31 data states of 32: ")?;
-    write_state(
-        rt,
-        trial_row(),
-        1,
-        trial_table(),
-        &[2; 3],
-        &[1; 8],
-        &[1; 31],
-    )
+    write_short(rt, &[2; 3], &[1; 8], &[1; 31])
 }
 
 fn write_rows(rt: &impl Print) -> io::Result<()> {
     let mut row = trial_row();
     print!(rt; "CB 4095: ")?;
     row.cb = 4095;
-    write_row(rt, row, 1)?;
+    write_row(rt, row)?;
     print!(rt; "CB 4096: ")?;
     row.cb = 4096;
-    write_row(rt, row, 1)?;
+    write_row(rt, row)?;
     row = trial_row();
     print!(rt; "registers 2 to 9 of 8: ")?;
     row.rb = 1;
     row.rl = 4;
-    write_row(rt, row, 1)?;
+    write_row(rt, row)?;
     print!(rt; "an empty register window: ")?;
     row.rb = 1023;
-    write_row(rt, row, 1)?;
+    write_row(rt, row)?;
     print!(rt; "RB 1024: ")?;
     row.rb = 1024;
-    write_row(rt, row, 1)?;
+    write_row(rt, row)?;
     row = trial_row();
     print!(rt; "kind 14: ")?;
     row.kind = 0x14;
-    write_row(rt, row, 1)?;
+    write_row(rt, row)?;
     print!(rt; "kind 13: ")?;
     row.kind = 0x13;
-    write_row(rt, row, 1)?;
+    write_row(rt, row)?;
     row = trial_row();
     print!(rt; "a PSW beside FF: ")?;
     row.psw = 1;
-    write_row(rt, row, 1)?;
+    write_row(rt, row)?;
     print!(rt; "an empty row after it: ")?;
-    write_row(rt, trial_row(), 2)?;
+    write_rows_of(rt, 2)?;
     print!(rt; "8 rows: ")?;
-    write_row(rt, trial_row(), 8)
+    write_rows_of(rt, 8)
 }
 
 fn write_tables(rt: &impl Print) -> io::Result<()> {
@@ -501,17 +435,17 @@ fn read_into(
         image,
     );
     match x.answer {
-        ReadAnswer::Refused(e) => print_refusal(rt, e)?,
-        ReadAnswer::Read(n) => print!(rt; "read {} row", n.rows)?,
+        Err(e) => print_refusal(rt, e)?,
+        Ok(n) => print!(rt; "read {} row", n.rows)?,
     }
     print!(rt; ", kept")?;
-    print_kept(rt, marked(qualities))?;
-    print_kept(rt, marked_words(constants))?;
-    print_kept(rt, marked(tags))?;
-    print_kept(rt, marked_words(words))?;
-    print_kept(rt, marked_words(program))?;
-    print_kept(rt, marked(data_tags))?;
-    print_kept(rt, marked_words(data_words))?;
+    print_kept(rt, marked(qualities, MARK))?;
+    print_kept(rt, marked(constants, WORD_MARK))?;
+    print_kept(rt, marked(tags, MARK))?;
+    print_kept(rt, marked(words, WORD_MARK))?;
+    print_kept(rt, marked(program, WORD_MARK))?;
+    print_kept(rt, marked(data_tags, MARK))?;
+    print_kept(rt, marked(data_words, WORD_MARK))?;
     println!(rt)
 }
 
@@ -576,19 +510,20 @@ fn read_trials(rt: &impl Print, image: &[u8]) -> io::Result<()> {
 }
 
 fn read_state(rt: &impl Print) -> io::Result<()> {
+    let state = sound();
     let mut image = [0; 578];
-    hep::write_owned(
-        rows_from(trial_row()),
-        trial_table(),
-        &[2; 3],
+    let _ = hep::write_owned(
+        state.rows,
+        state.table,
+        &state.qualities,
         &[5; 3],
-        &[1; 8],
+        &state.tags,
         &[6; 8],
         &[7; 16],
-        &[1; 32],
+        &state.data_tags,
         &[8; 32],
         &mut image,
-        sizes(1),
+        sizes(state.n),
     );
     read_trials(rt, &image)
 }
@@ -611,21 +546,15 @@ fn none_counted(c: Counts) -> bool {
     c.executed == 0 && c.waved == 0 && c.trapped == 0 && c.idle == 0 && c.tries == 0
 }
 
-fn print_task(rt: &impl Print, task: usize, c: Counts) -> io::Result<()> {
-    if none_counted(c) {
-        return Ok(());
-    }
-    print!(rt; ", task {task} ")?;
-    print_counts(rt, c)
-}
-
 // The own counts of each task number that has any, and how many have none.
 fn print_own(rt: &impl Print, own: [Counts; TASK_NUMBERS]) -> io::Result<()> {
-    let mut without = 0;
-    for task in 0..TASK_NUMBERS {
-        print_task(rt, task, own[task])?;
-        without += one_if(none_counted(own[task]));
+    for (task, counts) in own.iter().enumerate() {
+        if !none_counted(*counts) {
+            print!(rt; ", task {task} ")?;
+            print_counts(rt, *counts)?;
+        }
     }
+    let without = own.iter().filter(|counts| none_counted(**counts)).count();
     print!(rt; ", {without} numbers without counts")
 }
 
@@ -642,74 +571,58 @@ const UNLISTED: u64 = 7;
 // LODI of data word 0 into register 0, which waits until the word is full.
 const LOAD: u64 = 0x6C04_0000_4000_0000;
 
-// Runs the state with these rows, table, register tags and states of the data words over a schedule; each program word is this one.
-fn run_state(
-    rt: &impl Print,
-    rows: [Row; TASKS],
-    n: usize,
-    table: ProcessTable,
-    schedule: &[u8],
-    tags: &mut [u8],
-    program: u64,
-    data_state: u8,
-) -> io::Result<()> {
+// Runs the state over a schedule; each program word is this one.
+fn run_state(rt: &impl Print, state: State, schedule: &[u8], program: u64) -> io::Result<()> {
+    let mut tags = state.tags;
     let mut words = [WORD_MARK; 8];
+    let mut data_tags = state.data_tags;
     let mut data_words = [WORD_MARK; 32];
     let x = hep::run_owned(
-        rows,
-        table,
-        &[2; 3],
+        state.rows,
+        state.table,
+        &state.qualities,
         &[5; 3],
-        tags,
+        &mut tags,
         &mut words,
         &[program; 16],
-        &mut [data_state; 32],
+        &mut data_tags,
         &mut data_words,
         schedule,
-        sizes(n),
+        sizes(state.n),
     );
     match x.result.answer {
-        RunAnswer::Refused(e) => print_refusal(rt, e)?,
-        RunAnswer::Counted(c) => print_ran(rt, c)?,
+        Err(e) => print_refusal(rt, e)?,
+        Ok(c) => print_ran(rt, c)?,
     }
     print_own(rt, x.result.own)?;
     print_left(rt, x.rows.at, x.table)?;
     print!(rt; ", kept")?;
-    print_kept(rt, marked_words(&words))?;
-    print_kept(rt, marked_words(&data_words))?;
+    print_kept(rt, marked(&words, WORD_MARK))?;
+    print_kept(rt, marked(&data_words, WORD_MARK))?;
     println!(rt)
 }
 
-fn run_over(rt: &impl Print, schedule: &[u8], tags: &mut [u8]) -> io::Result<()> {
-    run_state(
-        rt,
-        rows_from(trial_row()),
-        1,
-        trial_table(),
-        schedule,
-        tags,
-        UNLISTED,
-        1,
-    )
+fn run_over(rt: &impl Print, schedule: &[u8], tag: u8) -> io::Result<()> {
+    run_state(rt, with_tags(tag), schedule, UNLISTED)
 }
 
 fn run_trials(rt: &impl Print) -> io::Result<()> {
     print!(rt; "a list of 65,535: ")?;
-    run_over(rt, &[1; 65535], &mut [1; 8])?;
+    run_over(rt, &[1; 65535], 1)?;
     print!(rt; "a list of 65,536: ")?;
-    run_over(rt, &[1; 65536], &mut [1; 8])?;
+    run_over(rt, &[1; 65536], 1)?;
     print!(rt; "of 65,536 that are no tasks: ")?;
-    run_over(rt, &[8; 65536], &mut [1; 8])?;
+    run_over(rt, &[8; 65536], 1)?;
     print!(rt; "no list: ")?;
-    run_over(rt, &[1; 0], &mut [1; 8])?;
+    run_over(rt, &[1; 0], 1)?;
     print!(rt; "items 1 and 7: ")?;
-    run_over(rt, &[1, 7], &mut [1; 8])?;
+    run_over(rt, &[1, 7], 1)?;
     print!(rt; "items 1 and 8: ")?;
-    run_over(rt, &[1, 8], &mut [1; 8])?;
+    run_over(rt, &[1, 8], 1)?;
     print!(rt; "items 1 and 0: ")?;
-    run_over(rt, &[1, 0], &mut [1; 8])?;
+    run_over(rt, &[1, 0], 1)?;
     print!(rt; "an unsound state, a list of 65,536: ")?;
-    run_over(rt, &[1; 65536], &mut [7; 8])
+    run_over(rt, &[1; 65536], 7)
 }
 
 // Loads by task 1, whose processes have the PTs of this table, while data words are in this state.
@@ -719,16 +632,11 @@ fn run_loads(
     schedule: &[u8],
     data_state: u8,
 ) -> io::Result<()> {
-    run_state(
-        rt,
-        rows_from(trial_row()),
-        1,
-        table,
-        schedule,
-        &mut [1; 8],
-        LOAD,
-        data_state,
-    )
+    let state = State {
+        data_tags: [data_state; 32],
+        ..with_table(table)
+    };
+    run_state(rt, state, schedule, LOAD)
 }
 
 fn try_trials(rt: &impl Print) -> io::Result<()> {
@@ -773,20 +681,20 @@ fn count_trial(rt: &impl Print, live: [usize; NUMBERS], count: usize) -> io::Res
     let queues = [
         none,
         none,
-        pair(0, 1),
-        single(2),
-        pair(3, 4),
-        single(5),
-        pair(6, 7),
-        single(8),
-        pair(9, 10),
-        single(11),
-        pair(12, 13),
-        single(14),
-        pair(15, 16),
-        single(17),
-        pair(18, 19),
-        single(20),
+        queue_of(&[0, 1]),
+        queue_of(&[2]),
+        queue_of(&[3, 4]),
+        queue_of(&[5]),
+        queue_of(&[6, 7]),
+        queue_of(&[8]),
+        queue_of(&[9, 10]),
+        queue_of(&[11]),
+        queue_of(&[12, 13]),
+        queue_of(&[14]),
+        queue_of(&[15, 16]),
+        queue_of(&[17]),
+        queue_of(&[18, 19]),
+        queue_of(&[20]),
     ];
     let table = ProcessTable {
         users: Processes {
@@ -797,10 +705,14 @@ fn count_trial(rt: &impl Print, live: [usize; NUMBERS], count: usize) -> io::Res
             count,
         },
     };
-    let mut out = [MARK; 936];
-    write_to(rt, &mut out, rows, TASKS, table, &[2; 3], &[1; 8], &[1; 32])?;
+    let state = State {
+        rows,
+        n: TASKS,
+        ..with_table(table)
+    };
+    write_to(rt, &mut [MARK; 936], state)?;
     print!(rt; "    run: ")?;
-    run_state(rt, rows, TASKS, table, &[1, 7], &mut [1; 8], UNLISTED, 1)
+    run_state(rt, state, &[1, 7], UNLISTED)
 }
 
 // The count of this task is n.
@@ -821,20 +733,11 @@ fn count_trials(rt: &impl Print) -> io::Result<()> {
     print!(rt; "count of task 1 is 4, total 22: ")?;
     count_trial(rt, [0, 4, 3, 3, 3, 3, 3, 3], 22)?;
     miscount(rt, 0, 1)?;
-    miscount(rt, 1, 4)?;
-    miscount(rt, 1, 2)?;
-    miscount(rt, 2, 4)?;
-    miscount(rt, 2, 2)?;
-    miscount(rt, 3, 4)?;
-    miscount(rt, 3, 2)?;
-    miscount(rt, 4, 4)?;
-    miscount(rt, 4, 2)?;
-    miscount(rt, 5, 4)?;
-    miscount(rt, 5, 2)?;
-    miscount(rt, 6, 4)?;
-    miscount(rt, 6, 2)?;
-    miscount(rt, 7, 4)?;
-    miscount(rt, 7, 2)
+    for task in 1..NUMBERS {
+        miscount(rt, task, 4)?;
+        miscount(rt, task, 2)?;
+    }
+    Ok(())
 }
 
 // ---- step
@@ -849,38 +752,41 @@ fn print_ending(rt: &impl Print, e: Ending) -> io::Result<()> {
 }
 
 // One step of a task on the state with these register tags.
-fn step_of(rt: &impl Print, task: u8, tags: &mut [u8]) -> io::Result<()> {
+fn step_of(rt: &impl Print, task: u8, tag: u8) -> io::Result<()> {
+    let state = with_tags(tag);
+    let mut tags = state.tags;
+    let mut data_tags = state.data_tags;
     let x = hep::step_owned(
-        rows_from(trial_row()),
-        trial_table(),
-        &[2; 3],
+        state.rows,
+        state.table,
+        &state.qualities,
         &[5; 3],
-        tags,
+        &mut tags,
         &mut [6; 8],
         &[7; 16],
-        &mut [1; 32],
+        &mut data_tags,
         &mut [8; 32],
-        sizes(1),
+        sizes(state.n),
         task,
     );
     match x.answer {
-        StepAnswer::Refused(e) => print_refusal(rt, e)?,
-        StepAnswer::Stepped(e) => print_ending(rt, e)?,
+        Err(e) => print_refusal(rt, e)?,
+        Ok(e) => print_ending(rt, e)?,
     }
     println!(rt)
 }
 
 fn step_trials(rt: &impl Print) -> io::Result<()> {
     print!(rt; "a step of task 1: ")?;
-    step_of(rt, 1, &mut [1; 8])?;
+    step_of(rt, 1, 1)?;
     print!(rt; "of task 7, which is unlisted: ")?;
-    step_of(rt, 7, &mut [1; 8])?;
+    step_of(rt, 7, 1)?;
     print!(rt; "of task 0: ")?;
-    step_of(rt, 0, &mut [1; 8])?;
+    step_of(rt, 0, 1)?;
     print!(rt; "of task 8: ")?;
-    step_of(rt, 8, &mut [1; 8])?;
+    step_of(rt, 8, 1)?;
     print!(rt; "of task 8, on an unsound state: ")?;
-    step_of(rt, 8, &mut [7; 8])
+    step_of(rt, 8, 7)
 }
 
 fn main(rt: HostRuntime) -> io::Result<()> {

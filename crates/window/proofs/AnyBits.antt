@@ -1,8 +1,8 @@
 -- Facts of windows, for any number k of appended bits.
+use Rattle.std.proofs.Common.{Some, None}
 use Rattle.std.specs.Prelude.{◌≡◌, ◌↔◌, true, false, ℕ, ◌+◌, ◌*◌, ◌/◌, ◌^◌, ◌≤◌, ◌<◌}
 use Rattle.window.specs.declared.Row.{Row}
 use Rattle.window.specs.declared.Window.{Window}
-use Rattle.window.specs.declared.Place.TheVariants.{At, Violation}
 use Rattle.window.specs.Windows.{window_of, inside, place_in, data_window, data_word_window, byte_place, meets}
 use Rattle.window.proofs.Laws.Windows.{in_of, of_in, in_window, none_inside, base_inside, word_inside, byte_inside, reached, past, placed, byte_placed, meeting, met, meets_by_bases}
 
@@ -25,20 +25,20 @@ window_by_units j k b l a = (
 )
 
 -- an effective address reaches base + effective address, unless that is above the limit
-pub window_reached : (k base limit e : ℕ) → base + e / 2 ^ k ≤ limit → place_in (window_of k base limit) e ≡ At (base * 2 ^ k + e)
+pub window_reached : (k base limit e : ℕ) → base + e / 2 ^ k ≤ limit → place_in (window_of k base limit) e ≡ Some (base * 2 ^ k + e)
 window_reached k b l e h = reached k b l e h
 
-pub window_violated : (k base limit e : ℕ) → limit < base + e / 2 ^ k → place_in (window_of k base limit) e ≡ Violation
+pub window_violated : (k base limit e : ℕ) → limit < base + e / 2 ^ k → place_in (window_of k base limit) e ≡ None
 window_violated k b l e h = past k b l e h
 
 -- a place found lies inside its window; a byte place inside the data window, and its word in that window by words
-pub place_inside : (w : Window) (e a : ℕ) → place_in w e ≡ At a → inside w a ≡ true
+pub place_inside : (w : Window) (e a : ℕ) → place_in w e ≡ Some a → inside w a ≡ true
 place_inside w e a h = placed w e a h
 
-pub byte_place_inside : (r : Row) (e a : ℕ) → byte_place r e ≡ At a → inside (data_window r) a ≡ true
+pub byte_place_inside : (r : Row) (e a : ℕ) → byte_place r e ≡ Some a → inside (data_window r) a ≡ true
 byte_place_inside r e a h = byte_placed r e a h
 
-pub byte_word_inside : (r : Row) (e a : ℕ) → byte_place r e ≡ At a → inside (data_word_window r) (a / 8) ≡ true
+pub byte_word_inside : (r : Row) (e a : ℕ) → byte_place r e ≡ Some a → inside (data_word_window r) (a / 8) ≡ true
 unfolding data_window data_word_window
 byte_word_inside r e a h = (window_by_units 3 5 r.db r.dl a).0 (byte_placed r e a h)
 

@@ -1,49 +1,14 @@
--- Laws that carry what the code computes to the definitions: tests, digits, the weight of one digit, and products by halves.
-use Rattle.std.proofs.Common.{◌≡◌, ℕ, zero, suc, ◌+◌, ◌-◌, ◌*◌, ◌/◌, ◌%◌, ◌^◌, ◌<◌, ◌≤◌, min, max, Bool, true, false, cond, eqb, ltb, leb, ◌≢◌, sym, refl, ap, ◌∙◌, subst, ap₂, lt_of_le_of_lt, le_of_lt, mod-lt, mod-eq_of_lt, zero-lt-suc, mul_assoc, mul_comm, add-mul, mul-le-mul_left, mul-lt-mul_of_pos_right, one-mul, pow-suc, mul-add, arith, pow_pos, pow-add, ltb-false, ltb-true, le-leb}
+-- Laws that carry what the code computes to the definitions: digits, the weight of one digit, and parts.
+use Rattle.std.proofs.Common.{◌≡◌, ℕ, zero, suc, ◌+◌, ◌-◌, ◌*◌, ◌/◌, ◌%◌, ◌^◌, ◌<◌, ◌≤◌, min, max, cond, eqb, sym, refl, ap, ◌∙◌, subst, ap₂, le_of_lt, mod-lt, mod-eq_of_lt, zero-lt-suc, one-mul, pow-suc, arith, pow-add}
 use lib.Arith.{lt-one}
 use lib.Pow.{pow-lt}
 use lib.Bits.{differ, bit_and, bit_or, bit_xor, and_step, or_step, xor_step, or_add_and, and_high}
 use lib.Count.{ones, ones_in, ones_step}
-use borrow.Author.Tests.{lt-leb}
 use Rattle.word.specs.Vectors.{digits_by, other, not_of, eor_of, eqv_of, nand_of, nor_of, or_of}
 use Rattle.word.proofs.Laws.Signs.{digit_cases}
 use Rattle.word.specs.declared.Part.{Part}
 use Rattle.word.specs.Parts.{right_of, placed}
-use Rattle.word.proofs.Laws.Parts.{right_fits, shifted_in, part_le, replaced, placed_word}
-
--- Tests.
-
--- a flag that the code computed, against a definition
-by_flag : (x y : Bool) → (x ≡ true → y ≡ true) → (x ≡ false → y ≡ false) → x ≡ y
-by_flag true true p q = refl
-by_flag true false p q = sym (p refl)
-by_flag false true p q = sym (q refl)
-by_flag false false p q = refl
-
-pub by_ltb : (a b : ℕ) (y : Bool) → (a < b → true ≡ y) → (b ≤ a → false ≡ y) → ltb a b ≡ y
-by_ltb a b y p q = by_flag (ltb a b) y (λ e. sym (p (ltb-true a b e))) (λ e. sym (q (ltb-false a b e)))
-
--- x is none of the numbers below n, as the default arm of a `match` has it
-abbrev NoneOf : ℕ → ℕ → Type 0
-NoneOf zero x = Unit
-NoneOf (suc n) x = NoneOf n x × (x ≡ n → ⊥)
-
-none_below : (n x : ℕ) → NoneOf n x → n ≤ x
-none_below zero x o = omega arith
-none_below (suc n) x o = let h = none_below n x o.0 in let d = o.1 in omega arith
-
--- of n + 1 numbers the last is left
-pub last_left : (n x : ℕ) → NoneOf n x → x < suc n → x ≡ n
-last_left n x o h = let l = none_below n x o in omega arith
-
--- a wrapped sum is below its first part just where the sum carries
-pub carried : (a b r : ℕ) → a < 2 ^ 64 → b < 2 ^ 64 → r ≡ (a + b) % 2 ^ 64 → ltb r a ≡ leb (2 ^ 64) (a + b)
-carried a b r ha hb e =
-    by_ltb r a (leb (2 ^ 64) (a + b)) (λ h. sym (le-leb (2 ^ 64) (a + b) (omega arith)))
-    (λ h. sym (lt-leb (2 ^ 64) (a + b) (omega arith)))
-
-pub borrowed : (a b r : ℕ) → a < 2 ^ 64 → b < 2 ^ 64 → r < 2 ^ 64 → (r + b) % 2 ^ 64 ≡ a → r ≡ (a + 2 ^ 64 - b) % 2 ^ 64
-borrowed a b r ha hb hr e = omega arith
+use Rattle.word.proofs.Laws.Parts.{right_fits, shifted_in, replaced, placed_word}
 
 -- Digits.
 
@@ -151,9 +116,6 @@ shifted_one k h = ap (λ (x : ℕ). x % 2 ^ 64) (one-mul (2 ^ k)) ∙ mod-eq_of_
 -- Parts: 2 to the width, as code shifts it.
 
 module _ (w : ℕ) (narrow : w < 64) where
-  pub size_positive : 0 < (1 * 2 ^ w) % 2 ^ 64
-  size_positive = subst (λ (n : ℕ). 0 < n) (sym (shifted_one w narrow)) (pow_pos w)
-
   pub by_size : (x : ℕ) → x % ((1 * 2 ^ w) % 2 ^ 64) ≡ x % 2 ^ w
   by_size x = ap (λ (n : ℕ). x % n) (shifted_one w narrow)
 
@@ -163,9 +125,6 @@ module _ (part : Part) (narrow : part.width < 64) (k : ℕ) (right : k ≡ right
   shifted_back v =
       ap (λ (n : ℕ). n * 2 ^ k % 2 ^ 64) (by_size part.width narrow v)
       ∙ shifted_in part.width k v (right_fits part.width part.place k right (le_of_lt narrow))
-
-  pub taken_le : (x : ℕ) → (x / 2 ^ k % ((1 * 2 ^ part.width) % 2 ^ 64) * 2 ^ k) % 2 ^ 64 ≤ x
-  taken_le x = subst (λ (n : ℕ). n ≤ x) (sym (shifted_back (x / 2 ^ k))) (part_le part.width k x)
 
   module _ (register x : ℕ) where
     pub put_placed : x - (x / 2 ^ k % ((1 * 2 ^ part.width) % 2 ^ 64) * 2 ^ k) % 2 ^ 64 + (register % ((1 * 2 ^ part.width) % 2 ^ 64) * 2 ^ k) % 2 ^ 64
@@ -179,77 +138,3 @@ module _ (part : Part) (narrow : part.width < 64) (k : ℕ) (right : k ≡ right
     pub put_lt : register < 2 ^ 64 → x < 2 ^ 64
         → x - (x / 2 ^ k % ((1 * 2 ^ part.width) % 2 ^ 64) * 2 ^ k) % 2 ^ 64 + (register % ((1 * 2 ^ part.width) % 2 ^ 64) * 2 ^ k) % 2 ^ 64 < 2 ^ 64
     put_lt h l = subst (λ (n : ℕ). n < 2 ^ 64) (sym put_placed) (placed_word part register x h l)
-
--- Products.
-
--- two numbers in halves of 32 digits
-halves : (ah al bh bl : ℕ) → (ah * 2 ^ 32 + al) * (bh * 2 ^ 32 + bl) ≡ ah * bh * 2 ^ 64 + (ah * bl + al * bh) * 2 ^ 32 + al * bl
-halves ah al bh bl =
-    let e₁ : (ah * 2 ^ 32 + al) * (bh * 2 ^ 32 + bl) ≡ ah * 2 ^ 32 * (bh * 2 ^ 32 + bl) + al * (bh * 2 ^ 32 + bl) = add-mul _ _ _ in
-    let e₂ : ah * 2 ^ 32 * (bh * 2 ^ 32 + bl) ≡ ah * 2 ^ 32 * (bh * 2 ^ 32) + ah * 2 ^ 32 * bl = mul-add _ _ _ in
-    let e₃ : al * (bh * 2 ^ 32 + bl) ≡ al * (bh * 2 ^ 32) + al * bl = mul-add _ _ _ in
-    let e₄ : ah * 2 ^ 32 * (bh * 2 ^ 32) ≡ ah * bh * 2 ^ 64 = sym (mul_assoc (ah * 2 ^ 32) bh (2 ^ 32)) ∙ ap (λ (x : ℕ). x * 2 ^ 32) (across ah bh) ∙ mul_assoc (ah * bh) (2 ^ 32) (2 ^ 32) in
-    let e₅ : ah * 2 ^ 32 * bl ≡ ah * bl * 2 ^ 32 = across ah bl in
-    let e₆ : al * (bh * 2 ^ 32) ≡ al * bh * 2 ^ 32 = sym (mul_assoc al bh (2 ^ 32)) in
-    omega arith
-  where
-    across : (x y : ℕ) → x * 2 ^ 32 * y ≡ x * y * 2 ^ 32
-    across x y = mul_assoc x (2 ^ 32) y ∙ ap (λ (z : ℕ). x * z) (mul_comm (2 ^ 32) y) ∙ sym (mul_assoc x y (2 ^ 32))
-
-low_half : (y x p : ℕ) → (p + (x % 2 ^ 64 % 2 ^ 32) * 2 ^ 32) % 2 ^ 64 ≡ (y * 2 ^ 64 + x * 2 ^ 32 + p) % 2 ^ 64
-low_half y x p = omega arith
-
-pub low_product : (a b : ℕ)
-    → (a % 2 ^ 32 * (b % 2 ^ 32) + ((a / 2 ^ 32 * (b % 2 ^ 32) + a % 2 ^ 32 * (b / 2 ^ 32)) % 2 ^ 64 % 2 ^ 32) * 2 ^ 32) % 2 ^ 64 ≡ a * b % 2 ^ 64
-low_product a b =
-    low_half (a / 2 ^ 32 * (b / 2 ^ 32)) (a / 2 ^ 32 * (b % 2 ^ 32) + a % 2 ^ 32 * (b / 2 ^ 32)) (a % 2 ^ 32 * (b % 2 ^ 32))
-    ∙ ap (λ (x : ℕ). x % 2 ^ 64) (sym (halves (a / 2 ^ 32) (a % 2 ^ 32) (b / 2 ^ 32) (b % 2 ^ 32)))
-    ∙ ap₂ (λ (x y : ℕ). x * y % 2 ^ 64) (omega arith) (omega arith)
-
--- a product of two numbers of k digits
-pub product_lt : (k a b : ℕ) → a < 2 ^ k → b < 2 ^ k → a * b < 2 ^ (k + k)
-product_lt k a b ha hb =
-    subst (λ (n : ℕ). a * b < n) (sym (pow-add 2 k k))
-    (lt_of_le_of_lt (mul-le-mul_left a (le_of_lt hb)) (mul-lt-mul_of_pos_right ha (pow_pos k)))
-
-split_product : (a b : ℕ)
-    → a * b ≡ a / 2 ^ 32 * (b / 2 ^ 32) * 2 ^ 64 + (a / 2 ^ 32 * (b % 2 ^ 32) + a % 2 ^ 32 * (b / 2 ^ 32)) * 2 ^ 32 + a % 2 ^ 32 * (b % 2 ^ 32)
-split_product a b =
-    ap₂ (λ (x y : ℕ). x * y) (let e : a ≡ a / 2 ^ 32 * 2 ^ 32 + a % 2 ^ 32 = omega arith in e) (let e : b ≡ b / 2 ^ 32 * 2 ^ 32 + b % 2 ^ 32 = omega arith in e)
-    ∙ halves (a / 2 ^ 32) (a % 2 ^ 32) (b / 2 ^ 32) (b % 2 ^ 32)
-
--- a product of two numbers of 32 digits leaves room for two such numbers
-product_room : (a b : ℕ) → a < 2 ^ 32 → b < 2 ^ 32 → a * b + 2 ^ 33 ≤ 2 ^ 64 + 1
-product_room a b ha hb = let h : a * b ≤ a * (2 ^ 32 - 1) = mul-le-mul_left a (omega arith) in omega arith
-
--- the four products of halves, as the high word adds them
-pub record Rooms (a b : ℕ) : Type 0 where
-  pub cross : a / 2 ^ 32 * (b % 2 ^ 32) + 2 ^ 33 ≤ 2 ^ 64 + 1
-  pub lows : a % 2 ^ 32 * (b % 2 ^ 32) < 2 ^ 64
-  pub crossed : a % 2 ^ 32 * (b / 2 ^ 32) + 2 ^ 33 ≤ 2 ^ 64 + 1
-  pub highs : a / 2 ^ 32 * (b / 2 ^ 32) + 2 ^ 33 ≤ 2 ^ 64 + 1
-
-pub rooms : (a b : ℕ) → a < 2 ^ 64 → b < 2 ^ 64 → Rooms a b
-rooms a b ha hb =
-    record {
-      cross = product_room (a / 2 ^ 32) (b % 2 ^ 32) (omega arith) (omega arith);
-      lows = product_lt 32 (a % 2 ^ 32) (b % 2 ^ 32) (omega arith) (omega arith);
-      crossed = product_room (a % 2 ^ 32) (b / 2 ^ 32) (omega arith) (omega arith);
-      highs = product_room (a / 2 ^ 32) (b / 2 ^ 32) (omega arith) (omega arith);
-    }
-
--- the high word of a product, carried from the right
-high_carry : (y h l p : ℕ) → (y * 2 ^ 64 + (h + l) * 2 ^ 32 + p) / 2 ^ 64 ≡ y + (h + p / 2 ^ 32) / 2 ^ 32 + (l + (h + p / 2 ^ 32) % 2 ^ 32) / 2 ^ 32
-high_carry y h l p = omega arith
-
-pub high_word : (a b : ℕ)
-    → a * b / 2 ^ 64
-    ≡ a / 2 ^ 32 * (b / 2 ^ 32) + (a / 2 ^ 32 * (b % 2 ^ 32) + a % 2 ^ 32 * (b % 2 ^ 32) / 2 ^ 32) / 2 ^ 32
-    + (a % 2 ^ 32 * (b / 2 ^ 32) + (a / 2 ^ 32 * (b % 2 ^ 32) + a % 2 ^ 32 * (b % 2 ^ 32) / 2 ^ 32) % 2 ^ 32) / 2 ^ 32
-high_word a b =
-    ap (λ (x : ℕ). x / 2 ^ 64) (split_product a b)
-    ∙ high_carry (a / 2 ^ 32 * (b / 2 ^ 32)) (a / 2 ^ 32 * (b % 2 ^ 32)) (a % 2 ^ 32 * (b / 2 ^ 32)) (a % 2 ^ 32 * (b % 2 ^ 32))
-
--- a product with a high word is above every word
-pub above_word : (p h limit : ℕ) → h ≡ p / 2 ^ 64 → h ≢ 0 → limit < 2 ^ 64 → limit < p
-above_word p h limit e n l = omega arith

@@ -1,8 +1,7 @@
 -- An image of at most 65,536 bytes has room in buffers of 8,192 places, so reading it there is refused by the image's refusals only, or gives a sound state.
-use Rattle.std.specs.Prelude.{ℕ, ◌≤◌, true, List, length}
+use Rattle.std.specs.Prelude.{ℕ, ◌≤◌, true, List, length, Option, None, Some, Result, Ok, Err}
 use Rattle.std.proofs.Math.Path.{◌≡◌, refl, ap, subst}
 use Rattle.std.proofs.Common.{◌∙◌, arith, le-leb}
-use Rattle.std.proofs.Math.Option.{Option, none, some}
 use Rattle.word.proofs.Laws.Conjunctions.{also}
 use Rattle.refusal.specs.declared.Refusal.{Refusal}
 use Rattle.run.specs.Run.{run}
@@ -18,8 +17,6 @@ use Rattle.library.specs.Buffers.{Buffers, room_of, fits, sizes_of, fields_in}
 use Rattle.library.specs.Calls.{unless, or_else, decoded_refusal, read_refusal, decoded_answer, read_answer, state_refused, state_refusal, run_refusal}
 use Rattle.library.proofs.InPlace.{read_in_place}
 use Rattle.library.proofs.Laws.InPlace.{held_by_read, read_sized}
-use Rattle.library.specs.declared.ReadAnswer.{ReadAnswer}
-use Rattle.library.specs.declared.ReadAnswer.TheVariants.{Refused, Read}
 use Rattle.library.specs.Promises.{read_answered, ReadPromise}
 use Rattle.report.specs.Report.{most_input, refusal_line, output_run, output_read}
 use Rattle.batch.specs.Output.{run_text}
@@ -51,29 +48,29 @@ few_fit z s b f h r =
 
 text_of_image : (l : List ℕ) (x : Option Refusal) (i : Image) → run_text x (run l (state_of i)) ≡ output_run x l i
 unfolding run_text output_run
-text_of_image l none i = refl
-text_of_image l (some e) i = refl
+text_of_image l None i = refl
+text_of_image l (Some e) i = refl
 
 module _ (s : List ℕ) (short : length s ≤ most_input) where
   room_enough : (i : Image) (b : Buffers) → decode s ≡ good i → Roomy b → fits (sizes_of (state_of i)) (room_of b) ≡ true
   room_enough i b d w = few_fit (sizes_of (state_of i)) s b (found_image s i d) short w
 
-  module _ (b b' : Buffers) (roomy : Roomy b) (x : ReadAnswer) (reads : ReadPromise b s x b') where
-    read_fine : (i : Image) → decode s ≡ good i → read_refusal (room_of b) s ≡ none
+  module _ (b b' : Buffers) (roomy : Roomy b) (x : Result Sizes Refusal) (reads : ReadPromise b s x b') where
+    read_fine : (i : Image) → decode s ≡ good i → read_refusal (room_of b) s ≡ None
     unfolding read_refusal decoded_refusal
     read_fine i d = rw (d, room_enough i b d roomy)
 
     -- an accepted image is read
-    read_good : (i : Image) → decode s ≡ good i → x ≡ Read (sizes_of (state_of i))
+    read_good : (i : Image) → decode s ≡ good i → x ≡ Ok (sizes_of (state_of i))
     unfolding read_answered read_answer decoded_answer decoded_refusal unless
     read_good i d = reads.answer ∙ rw (d, room_enough i b d roomy)
 
-    read_bad : (e : Refusal) → decode s ≡ bad e → x ≡ Refused e
+    read_bad : (e : Refusal) → decode s ≡ bad e → x ≡ Err e
     unfolding read_answered read_answer decoded_answer
     read_bad e d = reads.answer ∙ rw d
 
     -- a refusal is the image's
-    pub read_refused : (l : List ℕ) (e : Refusal) → x ≡ Refused e → refusal_line e ≡ output_read l (decode s)
+    pub read_refused : (l : List ℕ) (e : Refusal) → x ≡ Err e → refusal_line e ≡ output_read l (decode s)
     unfolding output_read
     read_refused l e a = go (decode s) refl
       where
@@ -91,7 +88,7 @@ module _ (s : List ℕ) (short : length s ≤ most_input) where
         let same : room_of b' ≡ room_of b = ap room_of (reads.leaves ∙ held_by_read b s i d (read_fine i d)) ∙ room_kept (sizes_of (state_of i)) (state_of i) b (read_sized i) fit in
         rw (same, fit, f, reads_only_sound s bytes i d) (text_of_image l (schedule_refusal l) i)
 
-    pub read_text : (l : List ℕ) (n : Sizes) → Bytes s → x ≡ Read n → run_text (run_refusal n b' l) (run l (fields_in n b')) ≡ output_read l (decode s)
+    pub read_text : (l : List ℕ) (n : Sizes) → Bytes s → x ≡ Ok n → run_text (run_refusal n b' l) (run l (fields_in n b')) ≡ output_read l (decode s)
     unfolding output_read
     read_text l n bytes a = go (decode s) refl
       where

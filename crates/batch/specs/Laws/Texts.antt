@@ -1,14 +1,12 @@
 -- The text of a run is what the run answers; a copy is no longer than its buffer.
-use Rattle.std.specs.Prelude.{ℕ, ◌≤◌, ◌≡◌, refl, Bool, true, false, cond, List, ◌++◌, ltb, length, take}
+use Rattle.std.specs.Prelude.{ℕ, ◌≤◌, ◌≡◌, refl, Bool, true, false, cond, List, ◌++◌, ltb, length, take, Option, None, Some, Ok, Err}
 use Rattle.std.proofs.Common.{sym, ◌∙◌, subst, arith, ltb-false}
 use Rattle.std.proofs.Math.Path.{ap}
-use Rattle.std.proofs.Math.Option.{Option, none, some}
 use Rattle.refusal.specs.declared.Refusal.{Refusal}
 use Rattle.step.specs.State.{State}
 use Rattle.run.specs.declared.Counts.{Counts}
 use Rattle.run.specs.Run.{Ran, run}
 use Rattle.library.specs.declared.RunResult.{RunResult}
-use Rattle.library.specs.declared.RunAnswer.TheVariants.{Refused, Counted}
 use Rattle.library.specs.declared.Sizes.{Sizes}
 use Rattle.library.specs.Buffers.{Buffers, fields_in}
 use Rattle.library.specs.Calls.{unless, run_refusal, run_answer}
@@ -18,26 +16,26 @@ use Rattle.report.specs.Report.{row_lines, counts_line, report_of, refusal_line}
 use Rattle.report_text.specs.Texts.{tally, TextPromise}
 use Rattle.batch.specs.Output.{run_text, bytes_copied}
 
-refused_text : (x : Option Refusal) (r : Ran) (e : Refusal) → (run_answered (unless x r.notes)).answer ≡ Refused e → refusal_line e ≡ run_text x r
+refused_text : (x : Option Refusal) (r : Ran) (e : Refusal) → (run_answered (unless x r.notes)).answer ≡ Err e → refusal_line e ≡ run_text x r
 unfolding run_answered unless run_text
-refused_text none r e h = let z : ◌≡◌ {A = ℕ} 0 1 = cc in absurd (omega arith)
-refused_text (some d) r e h = let q : d ≡ e = cc in rw q
+refused_text None r e h = let z : ◌≡◌ {A = ℕ} 0 1 = cc in absurd (omega arith)
+refused_text (Some d) r e h = let q : d ≡ e = cc in rw q
 
-counted_text : (x : Option Refusal) (r : Ran) (s : State) (c : Counts) → (run_answered (unless x r.notes)).answer ≡ Counted c
-    → (x ≡ none → s ≡ r.state)
+counted_text : (x : Option Refusal) (r : Ran) (s : State) (c : Counts) → (run_answered (unless x r.notes)).answer ≡ Ok c
+    → (x ≡ None → s ≡ r.state)
     → row_lines s.table (tally c (run_answered (unless x r.notes)).own) s.rows ++ counts_line c s.table.users.flag ≡ run_text x r
 unfolding run_answered unless run_text report_of
-counted_text none r s c h l = let q : r.notes.counts ≡ c = cc in rw (l refl, ← q)
-counted_text (some d) r s c h l = let z : ◌≡◌ {A = ℕ} 0 1 = cc in absurd (omega arith)
+counted_text None r s c h l = let q : r.notes.counts ≡ c = cc in rw (l refl, ← q)
+counted_text (Some d) r s c h l = let z : ◌≡◌ {A = ℕ} 0 1 = cc in absurd (omega arith)
 
 module _ (n : Sizes) (b b' : Buffers) (l : List ℕ) (a : RunResult) (runs : RunPromise n b l a b') where
   -- a refused run
-  pub run_refused : (e : Refusal) → a.answer ≡ Refused e → refusal_line e ≡ run_text (run_refusal n b l) (run l (fields_in n b))
+  pub run_refused : (e : Refusal) → a.answer ≡ Err e → refusal_line e ≡ run_text (run_refusal n b l) (run l (fields_in n b))
   unfolding run_answer
   run_refused e q = refused_text (run_refusal n b l) (run l (fields_in n b)) e (ap (λ (x : RunResult). x.answer) (sym runs.answer) ∙ q)
 
   -- a run that none stops, from what it answers and leaves
-  pub run_counted : (c : Counts) → a.answer ≡ Counted c
+  pub run_counted : (c : Counts) → a.answer ≡ Ok c
       → row_lines b'.table (tally c a.own) (take n.rows b'.rows) ++ counts_line c b'.table.users.flag
       ≡ run_text (run_refusal n b l) (run l (fields_in n b))
   unfolding run_answer fields_in

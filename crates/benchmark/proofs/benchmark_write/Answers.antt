@@ -10,4 +10,4 @@ use Rattle.benchmark.proofs.benchmark_write.Goals as goal
 
 pub returns : goal.returns
 unfolding memory_sizes
-returns c = let a = c.args in let o = own a.constant_tags.now a.constant_words.now a.register_tags.now a.register_words.now a.program.now a.data_tags.now a.data_words.now c.no_rows.ensures c.no_processes.ensures in let n = memory_sizes (length a.constant_words.now) (length a.register_words.now) (length a.program.now) (length a.data_words.now) in let p = c.write-answer.ensures in record { value = c.length_written.ensures ∙ ap length_written (p.answer ∙ ap (λ (b : Buffers). write_answered (write_answer n b (length a.output.now))) o); output_after = p.leaves ∙ ap (λ (b : Buffers). write_leaves n b a.output.now) o }
+returns c = let a = c.args in let o = own a.constant_tags.now a.constant_words.now a.register_tags.now a.register_words.now a.program.now a.data_tags.now a.data_words.now c.own_rows.ensures c.no_processes.ensures in let n = memory_sizes (length a.constant_words.now) (length a.register_words.now) (length a.program.now) (length a.data_words.now) in let p = c.write-answer.ensures in record { value = c.length_written.ensures ∙ ap length_written (p.answer ∙ ap (λ (b : Buffers). write_answered (write_answer n b (length a.output.now))) o); output_after = p.leaves ∙ ap (λ (b : Buffers). write_leaves n b a.output.now) o }

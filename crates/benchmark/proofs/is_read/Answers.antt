@@ -1,10 +1,10 @@
 use Rattle.benchmark.specs.Calls.{is_read}
 use Rattle.benchmark.proofs.is_read.Goals as goal
 
-pub returns-in-Refused : goal.returns-in-Refused
+pub returns-in-Err : goal.returns-in-Err
 unfolding is_read
-returns-in-Refused c = rw c.in-Refused.is
+returns-in-Err c = rw c.in-Err.is
 
-pub returns-in-Read : goal.returns-in-Read
+pub returns-in-Ok : goal.returns-in-Ok
 unfolding is_read
-returns-in-Read c = rw c.in-Read.is
+returns-in-Ok c = rw c.in-Ok.is

@@ -1,5 +1,5 @@
 -- The first of the best of the choices tried.
-use Rattle.std.specs.Prelude.{ℕ, zero, suc, ◌≤◌, ◌<◌, ◌≡◌, Bool, false, cond, not, ◌&&◌, List, leb, ltb, eqb, length}
+use Rattle.std.specs.Prelude.{ℕ, zero, suc, ◌≤◌, ◌<◌, ◌≡◌, Bool, false, cond, not, ◌&&◌, List, leb, ltb, eqb, length, Ok, Err}
 use Rattle.std.proofs.Common.{arith, sym, ap, ◌∙◌, subst, true≢false, pow_pos, leb-true, leb-false, ltb-true, ltb-false}
 use Rattle.std.proofs.Math.Path.{refl}
 use Rattle.std.proofs.Math.Bool.{true}
@@ -8,7 +8,6 @@ use Rattle.refusal.specs.declared.Refusal.{Refusal}
 use Rattle.refusal.specs.declared.Refusal.TheVariants.{NoTries}
 use Rattle.filling.specs.declared.Best.{Best}
 use Rattle.filling.specs.declared.Filling.{Filling}
-use Rattle.filling.specs.declared.FillAnswer.TheVariants.{Refused, Filled}
 use Rattle.filling.specs.Filling.{total, sum_of, keeps_rules, better_of, best_of, tries_of, jobs_sound, filling_of, fill_answer}
 use Rattle.filling.proofs.Laws.Chosen.{none_chosen}
 
@@ -83,12 +82,12 @@ some_tries needs tries h = omega (arith, h, pow_pos (length needs))
 
 -- ---- what is answered where nothing is refused
 
-pub answered : (needs : List ℕ) (tries : ℕ) (f : Filling) → fill_answer needs tries ≡ Filled f → (filling_of needs tries ≡ f) × (0 < tries)
+pub answered : (needs : List ℕ) (tries : ℕ) (f : Filling) → fill_answer needs tries ≡ Ok f → (filling_of needs tries ≡ f) × (0 < tries)
 unfolding fill_answer
 answered needs tries f e = go _ (jobs_sound needs) (eqb tries 0) refl e
   where
-    go : (r : Refusal) (s z : Bool) → eqb tries 0 ≡ z → cond (not s) (Refused r) (cond z (Refused NoTries) (Filled (filling_of needs tries))) ≡ Filled f
+    go : (r : Refusal) (s z : Bool) → eqb tries 0 ≡ z → cond (not s) (Err r) (cond z (Err NoTries) (Ok (filling_of needs tries))) ≡ Ok f
         → (filling_of needs tries ≡ f) × (0 < tries)
     go r true false p q = let n = eqb-false tries 0 p in (cc, omega (arith, n))
-    go r true true p q = let z : ◌≡◌ {A = ℕ} 0 1 = cc in absurd (omega arith)
-    go r false z p q = let z : ◌≡◌ {A = ℕ} 0 1 = cc in absurd (omega arith)
+    go r true true p q = cc
+    go r false z p q = cc

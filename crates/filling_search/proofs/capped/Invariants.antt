@@ -1,12 +1,7 @@
-use Prim.Native.Nat.{◌+◌, ◌-◌, ◌≤◌}
-use mathlib.Core.Path.{◌≡◌}
-use lib.ListN.{length, drop}
+use Rattle.std.proofs.Common.{◌≡◌, ◌+◌, min, drop}
 use Rattle.window.specs.Limits.{most_registers}
 use Rattle.filling.specs.Filling.{total}
 use Rattle.filling_search.proofs.capped.Given as goal
 
-abbrev pub invariant-loop-i : goal.invariant-loop-i
-invariant-loop-i l = (l.sum ≤ most_registers) × (total l.tops ≡ l.sum + total (drop l.i l.tops))
-
-abbrev pub decreases-loop-i : goal.decreases-loop-i
-decreases-loop-i l = length l.tops - l.i
+abbrev pub invariant-loop-top : goal.invariant-loop-top
+invariant-loop-top l = min most_registers (total l.tops) ≡ min most_registers (l.sum + total (drop l.top-index l.tops))

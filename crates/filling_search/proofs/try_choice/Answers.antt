@@ -1,24 +1,19 @@
-use native.Mathlib.Omega.{arith}
-use Rattle.filling_search.specs.Laws.Choices.{trying_starts, count_bound, sum_fits, trying_goes, too_many, too_much, rules_kept}
+use Rattle.std.proofs.Common.{arith}
+use Rattle.std.proofs.lemmas.Bool.Decides.{nat_tests}
+use Rattle.filling_search.specs.Laws.Choices.{sum_fits, job_taken, job_passed, all_done}
 use Rattle.filling_search.proofs.try_choice.Goals as goal
-
-pub loop-i-init : goal.loop-i-init
-loop-i-init c = trying_starts _ _
-
-pub overflow_add-count : goal.overflow_add-count
-overflow_add-count c = omega (arith, count_bound c.args.needs.now c.requires _ _ c.loop-i.count _ _ c.loop-i.invariant)
+use Rattle.filling_search.proofs.try_choice.Goals.{then-rest-eq1, else-rest-eq1}
 
 pub overflow_add-sum : goal.overflow_add-sum
-overflow_add-sum c = omega (arith, sum_fits c.args.needs.now c.requires _ c.loop-i.rest _ c.loop-i.sum c.loop-i.i c.loop-i.invariant c.taken-sum.result c.loop-i-test.true c.taken-sum.ensures)
+overflow_add-sum c = let l = c.loop-need in record { fits = omega (arith, sum_fits c.args.needs.now _ l.rest l.count l.sum l.need-index l.invariant (omega arith) c.requires) }
 
-pub loop-i-preserved : goal.loop-i-preserved
-loop-i-preserved c = trying_goes c.args.needs.now c.requires c.args.choice c.loop-i.rest c.loop-i.count c.loop-i.sum c.loop-i.i c.loop-i.invariant c.taken-sum.result c.loop-i-test.true c.taken-sum.ensures
-
-pub returns-then-count-gt-CHOSEN : goal.returns-then-count-gt-CHOSEN
-returns-then-count-gt-CHOSEN c = too_many c.args.needs.now c.args.choice c.loop-i.rest c.loop-i.count c.loop-i.sum c.loop-i.i c.loop-i.invariant c.loop-i-test.false c.if-count-gt-CHOSEN.true
-
-pub returns-then-sum-gt-REGISTERS : goal.returns-then-sum-gt-REGISTERS
-returns-then-sum-gt-REGISTERS c = too_much c.args.needs.now c.args.choice c.loop-i.rest c.loop-i.count c.loop-i.sum c.loop-i.i c.loop-i.invariant c.loop-i-test.false c.if-sum-gt-REGISTERS.true
+pub loop-need-preserved : goal.loop-need-preserved
+loop-need-preserved c =
+    let l = c.loop-need in
+    elim c.if-rest-eq1.branch [
+      | then-rest-eq1 w ↦ rw (w.count-is, w.sum-is) (job_taken _ _ _ _ _ _ l.invariant (omega arith) c.requires w.if-rest-eq1.true)
+      | else-rest-eq1 w ↦ rw (w.count-is, w.sum-is) (job_passed _ _ _ _ _ _ l.invariant (omega arith) w.if-rest-eq1.false)
+    ]
 
 pub returns : goal.returns
-returns c = rules_kept c.args.needs.now c.args.choice c.loop-i.rest c.loop-i.count c.loop-i.sum c.loop-i.i c.loop-i.invariant c.loop-i-test.false c.if-count-gt-CHOSEN.false c.if-sum-gt-REGISTERS.false
+returns c = let l = c.loop-need in let e = all_done c.args.needs.now c.args.choice l.rest l.count l.sum l.need-index l.invariant (omega arith) in grind (arith, nat_tests, e)

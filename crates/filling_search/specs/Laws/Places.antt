@@ -1,11 +1,12 @@
 -- Seven places in descending order hold the seven largest needs, and their sum is cut at 2,048.
-use Rattle.std.specs.Prelude.{ℕ, zero, suc, ◌+◌, ◌-◌, min, ◌≤◌, ◌<◌, ◌≡◌, refl, Bool, true, false, cond, List, [], ◌∷◌, ◌++◌, leb, length, get_or, set, replicate, take, drop}
-use Rattle.std.proofs.Common.{add-one, arith, sym, ap, ◌∙◌, drop_of_length-le, take_all, drop-cons, take-suc-set, drop-set-lt, le-leb}
-use Rattle.std.proofs.Math.Seq.{drop-length, append_snoc}
+use Rattle.std.specs.Prelude.{ℕ, zero, suc, ◌+◌, min, ◌≤◌, ◌<◌, ◌≡◌, refl, Bool, true, false, cond, List, [], ◌∷◌, ◌++◌, leb, length, get_or, set, take, drop}
+use Rattle.std.proofs.Common.{add-one, arith, ap, ◌∙◌, drop_of_length-le, take_all, drop-cons, take-suc-set, drop-set-lt, le-leb}
+use Rattle.std.proofs.lemmas.List.{append_assoc, append-nil}
+use Rattle.std.proofs.lemmas.Bool.{lt-leb}
 use Rattle.window.specs.Limits.{most_registers}
 use Rattle.filling.specs.Filling.{most_chosen, total, inserted, descending, ceiling_of}
 use Rattle.filling.proofs.Laws.Ceiling.{Below, Falls, falls}
-use Rattle.filling_search.specs.Code.Steps.{larger_of, smaller_of, pushed, tops_of}
+use Rattle.filling_search.specs.Code.Steps.{pushed, onto, tops_of}
 
 -- the first k of a list, zeros where it is shorter
 unfoldable padded : ℕ → List ℕ → List ℕ
@@ -41,7 +42,7 @@ push_padded (suc k) n (m ∷ l) f = go (leb m n) (push_padded k n l f.1)
     go false ih = ap (λ (x : List ℕ). m ∷ x) ih
 
 tops_padded : (needs : List ℕ) → tops_of needs ≡ padded most_chosen (descending needs)
-unfolding tops_of descending padded
+unfolding tops_of onto descending padded
 tops_padded [] = refl
 tops_padded (n ∷ ns) = ap (pushed n) (tops_padded ns) ∙ push_padded most_chosen n (descending ns) (falls ns)
 
@@ -60,80 +61,41 @@ total_tops needs = ap total (tops_padded needs) ∙ total_padded most_chosen (de
 
 -- ---- a number pushed, and the needs one after the other
 
-push_parts : (n m : ℕ) (l : List ℕ) → pushed n (m ∷ l) ≡ larger_of m n ∷ pushed (smaller_of m n) l
-unfolding pushed larger_of smaller_of
-push_parts n m l = go (leb m n)
-  where
-    go : (b : Bool) → cond b (n ∷ pushed m l) (m ∷ pushed n l) ≡ cond b n m ∷ pushed (cond b m n) l
-    go true = refl
-    go false = refl
-
-pub push_next : (l : List ℕ) (j carry : ℕ) → j < length l
-    → take j l ++ pushed carry (drop j l)
-    ≡ take (j + 1) (set l j (larger_of (get_or l j 0) carry)) ++ pushed (smaller_of (get_or l j 0) carry) (drop (j + 1) (set l j (larger_of (get_or l j 0) carry)))
-push_next l j carry h =
-    ap (λ (x : List ℕ). take j l ++ pushed carry x) (drop-cons l j 0 h)
-    ∙ ap (λ (x : List ℕ). take j l ++ x) (push_parts carry (get_or l j 0) (drop (suc j) l))
-    ∙ sym (append_snoc (take j l) (larger_of (get_or l j 0) carry) (pushed (smaller_of (get_or l j 0) carry) (drop (suc j) l)))
-    ∙ sym
-    (ap (λ (k : ℕ). take k (set l j (larger_of (get_or l j 0) carry)) ++ pushed (smaller_of (get_or l j 0) carry) (drop k (set l j (larger_of (get_or l j 0) carry)))) (add-one j)
-    ∙ ap (λ (x : List ℕ). x ++ pushed (smaller_of (get_or l j 0) carry) (drop (suc j) (set l j (larger_of (get_or l j 0) carry)))) (take-suc-set l j (larger_of (get_or l j 0) carry) h)
-    ∙ ap (λ (x : List ℕ). (take j l ++ (larger_of (get_or l j 0) carry ∷ [])) ++ pushed (smaller_of (get_or l j 0) carry) x) (drop-set-lt (suc j) l j (larger_of (get_or l j 0) carry) (omega arith))
-    ∙ assoc (take j l) (larger_of (get_or l j 0) carry) (pushed (smaller_of (get_or l j 0) carry) (drop (suc j) l)))
-  where
-    assoc : (p : List ℕ) (a : ℕ) (q : List ℕ) → (p ++ (a ∷ [])) ++ q ≡ p ++ (a ∷ []) ++ q
-    assoc [] a q = refl
-    assoc (x ∷ p) a q = ap (λ (l : List ℕ). x ∷ l) (assoc p a q)
-
-append_none : (l : List ℕ) → l ++ [] ≡ l
-append_none [] = refl
-append_none (x ∷ l) = ap (λ (k : List ℕ). x ∷ k) (append_none l)
-
-pub push_end : (l : List ℕ) (j carry : ℕ) → length l ≤ j → l ≡ take j l ++ pushed carry (drop j l)
+pub push_next : (l : List ℕ) (j n : ℕ) → j < length l → get_or l j 0 ≤ n
+    → take j l ++ pushed n (drop j l) ≡ take (j + 1) (set l j n) ++ pushed (get_or l j 0) (drop (j + 1) (set l j n))
 unfolding pushed
-push_end l j carry h =
-    sym (ap (λ (x : List ℕ). take j l ++ pushed carry x) (drop_of_length-le l h) ∙ append_none (take j l) ∙ take_all j l h)
+push_next l j n h le =
+    let less : j < suc j = omega arith in
+    rw (add-one, take-suc-set l j n, drop-set-lt (suc j) l j n, append_assoc, drop-cons l j 0, le-leb (get_or l j 0) n) refl
 
-pub tops_next : (needs tops : List ℕ) (i : ℕ) → i < length needs → tops ≡ tops_of (drop (suc i) needs) → pushed (get_or needs i 0) tops ≡ tops_of (drop i needs)
-unfolding tops_of
-tops_next needs tops i h e = ap (pushed (get_or needs i 0)) e ∙ ap tops_of (sym (drop-cons needs i 0 h))
-
-pub tops_before : (needs tops : List ℕ) (i : ℕ) → 0 < i → i ≤ length needs → tops ≡ tops_of (drop i needs)
-    → pushed (get_or needs (i - 1) 0) tops ≡ tops_of (drop (i - 1) needs)
-tops_before needs tops i h k e =
-    tops_next needs tops (i - 1) (omega (arith, h, k)) (e ∙ ap (λ (j : ℕ). tops_of (drop j needs)) (let q : i ≡ suc (i - 1) = omega (arith, h) in q))
-
-pub tops_start : (needs : List ℕ) → replicate most_chosen 0 ≡ tops_of (drop (length needs) needs)
-unfolding tops_of
-tops_start needs = sym (ap tops_of (drop-length needs))
-
-pub tops_end : (needs tops : List ℕ) (i : ℕ) → i ≤ 0 → tops ≡ tops_of (drop i needs) → min most_registers (total tops) ≡ ceiling_of needs
-unfolding ceiling_of
-tops_end needs tops i h e =
-    let q : i ≡ 0 = omega (arith, h) in
-    ap (λ (l : List ℕ). min most_registers (total l)) (e ∙ ap (λ (j : ℕ). tops_of (drop j needs)) q) ∙ ap (min most_registers) (total_tops needs)
-
-long_pushed : (n : ℕ) (l : List ℕ) → length (pushed n l) ≡ length l
+pub push_past : (l : List ℕ) (j n : ℕ) → j < length l → n < get_or l j 0
+    → take j l ++ pushed n (drop j l) ≡ take (j + 1) (set l j (get_or l j 0)) ++ pushed n (drop (j + 1) (set l j (get_or l j 0)))
 unfolding pushed
-long_pushed n [] = refl
-long_pushed n (m ∷ l) = go (leb m n) (long_pushed m l) (long_pushed n l)
-  where
-    go : (b : Bool) → length (pushed m l) ≡ length l → length (pushed n l) ≡ length l → length (cond b (n ∷ pushed m l) (m ∷ pushed n l)) ≡ suc (length l)
-    go true p q = ap suc p
-    go false p q = ap suc q
+push_past l j n h lt =
+    let less : j < suc j = omega arith in
+    rw (add-one, take-suc-set l j (get_or l j 0), drop-set-lt (suc j) l j (get_or l j 0), append_assoc, drop-cons l j 0, lt-leb (get_or l j 0) n) refl
 
-pub long_tops : (needs : List ℕ) → length (tops_of needs) ≡ most_chosen
-unfolding tops_of
-long_tops [] = refl
-long_tops (n ∷ ns) = long_pushed n (tops_of ns) ∙ long_tops ns
+pub push_end : (l : List ℕ) (j n : ℕ) → length l ≤ j → l ≡ take j l ++ pushed n (drop j l)
+unfolding pushed
+push_end l j n h = rw (drop_of_length-le l h, take_all j l h, append-nil) refl
+
+-- the last number goes in first
+pub onto_last : (places ns : List ℕ) (n : ℕ) → onto places (ns ++ (n ∷ [])) ≡ onto (pushed n places) ns
+unfolding onto
+onto_last places [] n = refl
+onto_last places (m ∷ ns) n = ap (pushed m) (onto_last places ns n)
+
+pub ceiling_found : (needs places rest : List ℕ) → length rest ≡ 0 → onto places rest ≡ tops_of needs → min most_registers (total places) ≡ ceiling_of needs
+unfolding onto ceiling_of
+ceiling_found needs places [] none e = rw e (ap (min most_registers) (total_tops needs))
+ceiling_found needs places (n ∷ ns) none e = absurd (omega arith)
 
 -- ---- a sum cut at 2,048
 
-pub capped_next : (l : List ℕ) (i sum : ℕ) → i < length l → sum + total (drop i l) ≡ sum + get_or l i 0 + total (drop (i + 1) l)
+pub total_next : (l : List ℕ) (i : ℕ) → i < length l → total (drop i l) ≡ get_or l i 0 + total (drop (i + 1) l)
 unfolding total
-capped_next l i sum h =
-    ap (λ (x : List ℕ). sum + total x) (drop-cons l i 0 h) ∙ ap (λ (k : ℕ). sum + (get_or l i 0 + total (drop k l))) (sym (add-one i)) ∙ omega arith
+total_next l i h = rw (drop-cons l i 0 h, add-one) refl
 
-pub capped_none : (l : List ℕ) (i : ℕ) → length l ≤ i → total (drop i l) ≡ 0
+pub total_none : (l : List ℕ) (i : ℕ) → length l ≤ i → total (drop i l) ≡ 0
 unfolding total
-capped_none l i h = ap total (drop_of_length-le l h)
+total_none l i h = ap total (drop_of_length-le l h)

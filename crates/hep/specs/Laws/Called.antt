@@ -1,8 +1,7 @@
 -- A call on a state in lent buffers, whatever it does with the state: the first seven rows are all that it sees.
-use Rattle.std.specs.Prelude.{◌≤◌, ◌≡◌, take, drop}
+use Rattle.std.specs.Prelude.{◌≤◌, ◌≡◌, take, drop, Option, None, Some}
 use Rattle.std.proofs.Math.Path.{refl, ap}
 use Rattle.std.proofs.Common.{◌∙◌, arith}
-use Rattle.std.proofs.Math.Option.{Option, none, some}
 use Rattle.std.proofs.Math.ListN.{length}
 use Rattle.std.proofs.Math.Seq.{length-take-le}
 use Rattle.refusal.specs.declared.Refusal.{Refusal}
@@ -31,7 +30,7 @@ module _ {A : Type 0} (b : Buffers) (n : Sizes) (o : Option Refusal) (answer : S
   same : refusal s ≡ refusal b
   same = ap (λ (x : Option Refusal). or_else x o) (state_seven b n)
 
-  few : refusal s ≡ none → (n.rows ≤ 7) × (n.rows ≤ length (take 7 b.rows))
+  few : refusal s ≡ None → (n.rows ≤ 7) × (n.rows ≤ length (take 7 b.rows))
   few e = state_few b n (or_else_none (state_refusal n s) o e)
 
   pub answered_seven : answered s ≡ answered b
@@ -39,16 +38,16 @@ module _ {A : Type 0} (b : Buffers) (n : Sizes) (o : Option Refusal) (answer : S
   answered_seven = go (refusal s) refl
     where
       go : (x : Option Refusal) → refusal s ≡ x → answered s ≡ answered b
-      go (some e) q = rw (← same, q)
-      go none q = rw (← same, q) (ap (λ (x : State). answers (answer x)) (few_fields b n (few q).0))
+      go (Some e) q = rw (← same, q)
+      go None q = rw (← same, q) (ap (λ (x : State). answers (answer x)) (few_fields b n (few q).0))
 
   pub left_seven : behind (drop 7 b.rows) (left s) ≡ left b
   unfolding unless leaving fields_in
   left_seven = go (refusal s) refl
     where
       go : (x : Option Refusal) → refusal s ≡ x → behind (drop 7 b.rows) (left s) ≡ left b
-      go (some e) q = rw (← same, q) (whole_again b)
-      go none q =
+      go (Some e) q = rw (← same, q) (whole_again b)
+      go None q =
           let f = few q in
           let k : length (after (fields_in n s)).rows ≡ n.rows = keeps (fields_in n s) ∙ length-take-le n.rows (take 7 b.rows) f.1 in
           rw (← same, q)

@@ -1,11 +1,11 @@
 -- Reading: of the rows that were loaded and stored, and so of the lent slice.
-use Rattle.std.specs.Prelude.{ℕ, ◌≡◌, Bool, List, drop}
+use Rattle.std.specs.Prelude.{ℕ, ◌≡◌, Bool, List, drop, Result}
 use Rattle.std.proofs.Math.Path.{refl, ap}
 use Rattle.std.proofs.Common.{◌∙◌}
 use Rattle.std.proofs.Math.Bool.{true, false}
 use Rattle.window.specs.declared.Row.{Row}
 use Rattle.image.specs.Image.{Decoded, bad, good, state_of, decode}
-use Rattle.library.specs.declared.ReadAnswer.{ReadAnswer}
+use Rattle.library.specs.declared.Sizes.{Sizes}
 use Rattle.library.specs.declared.Rows.{Rows}
 use Rattle.library.specs.Buffers.{Buffers, room_of, fits, sizes_of}
 use Rattle.library.specs.Calls.{unless, leaving, decoded_refusal, decoded_answer, read_answer, decoded_leaves, read_leaves}
@@ -17,6 +17,7 @@ use Rattle.image_read.specs.Laws.Few.{few_rows}
 use Rattle.hep.specs.Code.Rows.{loaded_rows, stored_rows}
 use Rattle.hep.specs.Laws.Seven.{with_rows, behind, seven, whole_again, holding_behind, few_fits}
 use Rattle.hep.specs.Laws.Lent.{first_seven, stored_back}
+use Rattle.refusal.specs.declared.Refusal.{Refusal}
 
 module _ (b : Buffers) where
   abbrev s : Buffers
@@ -43,13 +44,13 @@ module _ (b : Buffers) where
             rw (← f, e) (refl, holding_behind b (state_of i) h)
         go false e f = rw (← f, e) (refl, whole_again b)
 
-    read_seven : (r : ReadAnswer) (a : Buffers) → ReadPromise s bytes r a → ReadPromise b bytes r (behind rest a)
+    read_seven : (r : Result Sizes Refusal) (a : Buffers) → ReadPromise s bytes r a → ReadPromise b bytes r (behind rest a)
     unfolding read_answer read_leaves
     read_seven r a p =
         let k = read_both (decode bytes) refl in
         read_promise (p.answer ∙ ap read_answered k.0) (ap (behind rest) p.leaves ∙ k.1)
 
-    pub read_lent : (r : ReadAnswer) (v v' : Rows) (rows' : List Row) (a : Buffers) → v ≡ loaded_rows b.rows
+    pub read_lent : (r : Result Sizes Refusal) (v v' : Rows) (rows' : List Row) (a : Buffers) → v ≡ loaded_rows b.rows
         → ReadPromise (with_rows (held_rows v) b) bytes r (with_rows (held_rows v') a) × SamePlaces v v' → rows' ≡ stored_rows b.rows v' → ReadPromise b bytes r (with_rows rows' a)
     read_lent r v v' rows' a e p q =
         stored_back b (λ x y. ReadPromise x bytes r y) v e v' rows' a p.1 q

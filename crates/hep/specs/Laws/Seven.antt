@@ -1,9 +1,8 @@
 -- The calls look at seven rows at most: what they promise of the first seven they promise of the whole slice.
-use Rattle.std.specs.Prelude.{ℕ, min, ◌+◌, ◌≤◌, ◌<◌, Bool, not, ◌&&◌, take}
+use Rattle.std.specs.Prelude.{ℕ, min, ◌+◌, ◌≤◌, ◌<◌, Bool, not, ◌&&◌, take, None, Some}
 use Rattle.std.proofs.Math.Path.{◌≡◌, refl, ap}
 use Rattle.std.proofs.Common.{sym, ◌∙◌, arith, take-append-drop, take-take}
 use Rattle.std.proofs.Math.Bool.{true, false, cond}
-use Rattle.std.proofs.Math.Option.{none, some}
 use mathlib.Core.List.{List, [], ◌∷◌, ◌++◌, append_assoc}
 use Rattle.std.proofs.Math.Dec.{leb}
 use Rattle.std.proofs.Math.ListN.{length, drop, length-take}
@@ -37,11 +36,11 @@ pub sound_few : (s : State) → sound s ≡ true → length s.rows ≤ 7
 sound_few s e = omega (arith, rows_few 0 s.rows (omega arith) (sound_parts s e).rows)
 
 -- where a state is refused
-refused_where : (n : Sizes) (b : Buffers) → state_refusal n b ≡ cond (fits n (room_of b) && sound (fields_in n b)) none (some UnsoundState)
+refused_where : (n : Sizes) (b : Buffers) → state_refusal n b ≡ cond (fits n (room_of b) && sound (fields_in n b)) None (Some UnsoundState)
 unfolding state_refusal state_refused
 refused_where n b = go (fits n (room_of b)) (sound (fields_in n b))
   where
-    go : (t u : Bool) → cond (not (t && u)) (some UnsoundState) none ≡ cond (t && u) none (some UnsoundState)
+    go : (t u : Bool) → cond (not (t && u)) (Some UnsoundState) None ≡ cond (t && u) None (Some UnsoundState)
     go false u = refl
     go true false = refl
     go true true = refl
@@ -97,14 +96,14 @@ module _ (b : Buffers) where
     unfolding fits room_of
     many_unfit = rw (length-take 7 b.rows, lt-leb n.rows (min 7 (length b.rows)) (omega (arith, many)))
 
-    many_seven : state_refusal n seven ≡ some UnsoundState
+    many_seven : state_refusal n seven ≡ Some UnsoundState
     many_seven = refused_where n seven ∙ rw many_unfit refl
 
-    many_whole : state_refusal n b ≡ some UnsoundState
+    many_whole : state_refusal n b ≡ Some UnsoundState
     unfolding room_of fields_in
     many_whole = refused_where n b ∙ go (fits n (room_of b)) (sound (fields_in n b)) refl refl
       where
-        go : (t u : Bool) → fits n (room_of b) ≡ t → sound (fields_in n b) ≡ u → cond (t && u) none (some UnsoundState) ≡ some UnsoundState
+        go : (t u : Bool) → fits n (room_of b) ≡ t → sound (fields_in n b) ≡ u → cond (t && u) None (Some UnsoundState) ≡ Some UnsoundState
         go false u e f = refl
         go true false e f = refl
         go true true e f =
@@ -120,10 +119,10 @@ module _ (b : Buffers) where
       go false e = many_seven n (leb-false n.rows 7 e) ∙ sym (many_whole n (leb-false n.rows 7 e))
 
   -- a state that isn't refused: its counts fit, its rows are at most seven
-  pub state_few : (n : Sizes) → state_refusal n seven ≡ none → (n.rows ≤ 7) × (n.rows ≤ length (take 7 b.rows))
+  pub state_few : (n : Sizes) → state_refusal n seven ≡ None → (n.rows ≤ 7) × (n.rows ≤ length (take 7 b.rows))
   unfolding room_of
   state_few n e = go (fits n (room_of seven)) refl (sym (refused_where n seven) ∙ e)
     where
-      go : (t : Bool) → fits n (room_of seven) ≡ t → cond (t && sound (fields_in n seven)) none (some UnsoundState) ≡ none → (n.rows ≤ 7) × (n.rows ≤ length (take 7 b.rows))
+      go : (t : Bool) → fits n (room_of seven) ≡ t → cond (t && sound (fields_in n seven)) None (Some UnsoundState) ≡ None → (n.rows ≤ 7) × (n.rows ≤ length (take 7 b.rows))
       go false q h = let z : ◌≡◌ {A = ℕ} 0 1 = cc in absurd (omega arith)
       go true q h = let f = (fitting n (room_of seven) q).rows in (omega (arith, f, length-take 7 b.rows), f)

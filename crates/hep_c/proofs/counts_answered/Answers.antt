@@ -1,10 +1,10 @@
 use Rattle.hep_c.specs.Answers.{counts_answered}
 use Rattle.hep_c.proofs.counts_answered.Goals as goal
 
-pub returns-in-Refused : goal.returns-in-Refused
+pub returns-in-Err : goal.returns-in-Err
 unfolding counts_answered
-returns-in-Refused c = rw c.in-Refused.is
+returns-in-Err c = rw c.in-Err.is
 
-pub returns-in-Counted : goal.returns-in-Counted
+pub returns-in-Ok : goal.returns-in-Ok
 unfolding counts_answered
-returns-in-Counted c = rw c.in-Counted.is
+returns-in-Ok c = rw c.in-Ok.is

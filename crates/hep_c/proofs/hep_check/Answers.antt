@@ -2,8 +2,8 @@ use mathlib.Core.Path.{sym, ◌∙◌}
 use Rattle.hep_c.specs.Laws.Numbers.{check_refused, check_fine}
 use Rattle.hep_c.proofs.hep_check.Goals as goal
 
-pub returns-in-Refused : goal.returns-in-Refused
-returns-in-Refused c = c.number.ensures ∙ check_refused _ _ (sym c.check-found.ensures ∙ c.in-Refused.is)
+pub returns-in-Err : goal.returns-in-Err
+returns-in-Err c = c.number.ensures ∙ check_refused _ _ (sym c.check-found.ensures ∙ c.in-Err.is)
 
-pub returns-in-Read : goal.returns-in-Read
-returns-in-Read c = check_fine _ _ (sym c.check-found.ensures ∙ c.in-Read.is)
+pub returns-in-Ok : goal.returns-in-Ok
+returns-in-Ok c = check_fine _ _ (sym c.check-found.ensures ∙ c.in-Ok.is)

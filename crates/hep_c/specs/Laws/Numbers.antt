@@ -1,29 +1,23 @@
--- What a check finds is what decoding gives; numbers put to the front of a slice.
-use Rattle.std.specs.Prelude.{ℕ, suc, ◌+◌, ◌≤◌, ◌<◌, ◌≡◌, refl, List, ◌++◌, length, get_or, take, drop, set}
-use Rattle.std.proofs.Common.{ap, ◌∙◌, add-one, arith, length-append, length-take, length-drop, length-take-le, take-suc, drop-cons, take_all, lt-ltb, le-ltb}
-use Rattle.std.proofs.Math.Option.{Option, none, some}
-use Rattle.std.proofs.lemmas.List.{set_at}
-use Rattle.std.proofs.Math.Seq.{append_snoc}
+-- What a check finds is what decoding gives; numbers that have room.
+use Rattle.std.specs.Prelude.{ℕ, ◌≤◌, ◌<◌, ◌≡◌, refl, List, Ok, Err, length, Option, None, Some, Result}
+use Rattle.std.proofs.Common.{ap, arith, lt-ltb, le-ltb}
 use Rattle.refusal.specs.declared.Refusal.{Refusal}
 use Rattle.refusal.specs.declared.Refusal.TheVariants.{InputEnds, CountOverLimit, TaskField, ProcessField, ConstantField, CellField, BytesLeftOver, WindowPastMemory, ProcessesClash, ShortBuffer, UnsoundState, ListTooLong, ItemOutOfRange, InputTooLong, BadJobs, NoTries}
 use Rattle.refusal.specs.Numbers.{number_of}
 use Rattle.filling.specs.declared.Filling.{Filling}
-use Rattle.filling.specs.declared.FillAnswer.{FillAnswer}
-use Rattle.filling.specs.declared.FillAnswer.TheVariants as fill
 use Rattle.run.specs.Run.{Ran}
 use Rattle.image.specs.Image.{Image, Decoded, bad, good, state_of}
 use Rattle.image.specs.Fields.{over}
 use Rattle.library.specs.declared.Sizes.{Sizes}
-use Rattle.library.specs.declared.ReadAnswer.TheVariants.{Refused, Read}
 use Rattle.library.specs.Buffers.{sizes_of}
 use Rattle.library.specs.Calls.{Answer, refuses, answers, unless, check_answer}
 use Rattle.library.specs.Promises.{read_answered}
 use Rattle.library.specs.Numbers.{numbered}
-use Rattle.hep_c.specs.Answers.{number_answered, listed_answer, listed_left, sizes_listed, sizes_answer, filling_listed, filling_answer, Slices, image_run_left}
+use Rattle.hep_c.specs.Answers.{number_answered, listed_answer, listed_left, sizes_listed, sizes_answer, filling_listed, filling_answer, Slices, image_run_left, unless_refused}
 
 -- ---- what a check finds
 
-pub found_bad : (d : Decoded) (e : Refusal) → read_answered (check_answer d) ≡ Refused e → d ≡ bad e
+pub found_bad : (d : Decoded) (e : Refusal) → read_answered (check_answer d) ≡ Err e → d ≡ bad e
 unfolding check_answer read_answered
 found_bad (bad x) e h = let q : x ≡ e = cc in ap bad q
 found_bad (good i) e h = let z : ◌≡◌ {A = ℕ} 0 1 = cc in absurd (omega arith)
@@ -34,25 +28,36 @@ pub record FoundGood (d : Decoded) (z : Sizes) : Type 0 where
   pub is : d ≡ good image
   pub sizes : sizes_of (state_of image) ≡ z
 
-pub found_good : (d : Decoded) (z : Sizes) → read_answered (check_answer d) ≡ Read z → FoundGood d z
+pub found_good : (d : Decoded) (z : Sizes) → read_answered (check_answer d) ≡ Ok z → FoundGood d z
 unfolding check_answer read_answered
 found_good (bad x) z h = let n : ◌≡◌ {A = ℕ} 0 1 = cc in absurd (omega arith)
 found_good (good i) z h = let q : sizes_of (state_of i) ≡ z = cc in record { image = i; is = refl; sizes = q }
 
 -- ---- the numbers
 
-pub check_refused : (d : Decoded) (e : Refusal) → read_answered (check_answer d) ≡ Refused e → number_of e ≡ number_answered (check_answer d)
+pub check_refused : (d : Decoded) (e : Refusal) → read_answered (check_answer d) ≡ Err e → number_of e ≡ number_answered (check_answer d)
 unfolding check_answer number_answered
 check_refused d e h = rw (found_bad d e h)
 
-pub check_fine : (d : Decoded) (z : Sizes) → read_answered (check_answer d) ≡ Read z → 0 ≡ number_answered (check_answer d)
+pub check_fine : (d : Decoded) (z : Sizes) → read_answered (check_answer d) ≡ Ok z → 0 ≡ number_answered (check_answer d)
 unfolding check_answer number_answered
 check_fine d z h = rw (found_good d z h).is
 
 pub numbered_unless : {A : Type 0} (o : Option Refusal) (a : A) → numbered o ≡ number_answered (unless o a)
 unfolding numbered number_answered unless
-numbered_unless none a = refl
-numbered_unless (some e) a = refl
+numbered_unless None a = refl
+numbered_unless (Some e) a = refl
+
+-- a check that refuses, and one that doesn't
+pub refused_by : (o : Option Refusal) (e : Refusal) → unless_refused o ≡ Err e → o ≡ Some e
+unfolding unless_refused
+refused_by None e h = let z : ◌≡◌ {A = ℕ} 0 1 = cc in absurd (omega arith)
+refused_by (Some x) e h = let q : x ≡ e = cc in ap Some q
+
+pub passed_by : (o : Option Refusal) (u : Unit) → unless_refused o ≡ Ok u → o ≡ None
+unfolding unless_refused
+passed_by None u h = refl
+passed_by (Some x) u h = let z : ◌≡◌ {A = ℕ} 0 1 = cc in absurd (omega arith)
 
 -- every refusal has a number above 0
 above_0 : (e : Refusal) → number_of e ≡ 0 → ⊥
@@ -74,15 +79,15 @@ above_0 InputTooLong h = omega arith
 above_0 BadJobs h = omega arith
 above_0 NoTries h = omega arith
 
-pub none_numbered : (o : Option Refusal) → numbered o ≡ 0 → o ≡ none
+pub none_numbered : (o : Option Refusal) → numbered o ≡ 0 → o ≡ None
 unfolding numbered
-none_numbered none h = refl
-none_numbered (some e) h = absurd (above_0 e h)
+none_numbered None h = refl
+none_numbered (Some e) h = absurd (above_0 e h)
 
 pub refused_stays : (o : Option Refusal) (r : Ran) (l : Slices) → (numbered o ≡ 0 → ⊥) → l ≡ image_run_left (unless o r) l
 unfolding numbered image_run_left unless
-refused_stays none r l h = absurd (h refl)
-refused_stays (some e) r l h = refl
+refused_stays None r l h = absurd (h refl)
+refused_stays (Some e) r l h = refl
 
 -- ---- numbers where they have room
 
@@ -108,55 +113,20 @@ module _ (slice : List ℕ) where
   unfolding number_answered listed_left
   put_all numbers out h k = rw (listed_fit (length slice) numbers h) (refl, k)
 
-  pub sizes_refused : (d : Decoded) (e : Refusal) (r : ℕ) → read_answered (check_answer d) ≡ Refused e → r ≡ number_of e → Put (sizes_answer (length slice) d) r slice
+  pub sizes_refused : (d : Decoded) (e : Refusal) (r : ℕ) → read_answered (check_answer d) ≡ Err e → r ≡ number_of e → Put (sizes_answer (length slice) d) r slice
   unfolding sizes_answer number_answered listed_left
   sizes_refused d e r h k = rw (found_bad d e h) (k, refl)
 
-  pub sizes_found : (d : Decoded) (z : Sizes) (r : ℕ) (out : List ℕ) → read_answered (check_answer d) ≡ Read z
+  pub sizes_found : (d : Decoded) (z : Sizes) (r : ℕ) (out : List ℕ) → read_answered (check_answer d) ≡ Ok z
       → Put (listed_answer (length slice) (sizes_listed z)) r out → Put (sizes_answer (length slice) d) r out
   unfolding sizes_answer
   sizes_found d z r out h k = let f = found_good d z h in rw (f.is, f.sizes) k
 
-  pub filling_refused : (a : FillAnswer) (e : Refusal) (r : ℕ) → a ≡ fill.Refused e → r ≡ number_of e → Put (filling_answer (length slice) a) r slice
+  pub filling_refused : (a : Result Filling Refusal) (e : Refusal) (r : ℕ) → a ≡ Err e → r ≡ number_of e → Put (filling_answer (length slice) a) r slice
   unfolding filling_answer number_answered listed_left
   filling_refused a e r h k = rw h (k, refl)
 
-  pub filling_found : (a : FillAnswer) (f : Filling) (r : ℕ) (out : List ℕ) → a ≡ fill.Filled f
+  pub filling_found : (a : Result Filling Refusal) (f : Filling) (r : ℕ) (out : List ℕ) → a ≡ Ok f
       → Put (listed_answer (length slice) (filling_listed f)) r out → Put (filling_answer (length slice) a) r out
   unfolding filling_answer
   filling_found a f r out h k = rw h k
-
--- ---- numbers put to the front of a slice
-
--- i of them are there: from the slice at the start to the slice now
-pub record Placing (numbers start now : List ℕ) (i : ℕ) : Type 0 where
-  pub placed : i ≤ length numbers
-  pub room : length numbers ≤ length start
-  pub is : now ≡ take i numbers ++ drop i start
-
-module _ (numbers start : List ℕ) where
-  pub begins : length numbers ≤ length start → Placing numbers start start 0
-  begins h = record { placed = omega arith; room = h; is = refl }
-
-  more : (i : ℕ) → i < length numbers → i < length start
-      → set (take i numbers ++ drop i start) i (get_or numbers i 0) ≡ take (i + 1) numbers ++ drop (i + 1) start
-  more i h k =
-      rw (add-one, drop-cons start i 0 k, take-suc numbers i 0 h, append_snoc)
-      (set_at (take i numbers) (get_or start i 0) (drop (suc i) start) (get_or numbers i 0) i (length-take-le i numbers (omega arith)))
-
-  module _ (now : List ℕ) (i : ℕ) (g : Placing numbers start now i) where
-    pub goes : i < length numbers → Placing numbers start (set now i (get_or numbers i 0)) (i + 1)
-    goes h = record {
-      placed = omega arith;
-      room = g.room;
-      is = ap (λ l. set l i (get_or numbers i 0)) g.is ∙ more i h (omega (arith, g.room));
-    }
-
-    pub kept_length : length now ≡ length start
-    kept_length =
-        omega (arith, ap length g.is, length-append (take i numbers) (drop i start), length-take i numbers, length-drop i start, g.placed, g.room)
-
-    pub ends : length numbers ≤ i → now ≡ over numbers start
-    ends h =
-        let at : i ≡ length numbers = omega (arith, g.placed) in
-        g.is ∙ ap (λ m. take m numbers ++ drop m start) at ∙ ap (λ l. l ++ drop (length numbers) start) (take_all (length numbers) numbers (omega arith))

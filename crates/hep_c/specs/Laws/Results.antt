@@ -1,8 +1,7 @@
 -- What a run leaves in every lent slice, from what each of its calls promises.
-use Rattle.std.specs.Prelude.{ℕ, ◌≡◌, true, List, ◌++◌, length, take}
+use Rattle.std.specs.Prelude.{ℕ, ◌≡◌, true, List, ◌++◌, length, take, None, Result}
 use Rattle.std.proofs.Math.Path.{ap}
 use Rattle.std.proofs.Common.{◌∙◌}
-use Rattle.std.proofs.Math.Option.{none}
 use Rattle.window.specs.declared.Row.{Row}
 use Rattle.step.specs.declared.ProcessTable.{ProcessTable}
 use Rattle.step.specs.State.{State}
@@ -12,12 +11,10 @@ use Rattle.library.specs.declared.RunResult.{RunResult}
 use Rattle.image.specs.Codec.{Bytes}
 use Rattle.image.specs.Image.{Image, good, state_of, decode, encode}
 use Rattle.image.specs.Fields.{over}
-use Rattle.library.specs.declared.WriteAnswer.{WriteAnswer}
 use Rattle.image_write.specs.Code.Lengths.{length_written}
 use Rattle.library.specs.declared.Sizes.{Sizes}
 use Rattle.library.specs.Buffers.{Buffers, room_of, fits, sizes_of, fields_in, holding}
 use Rattle.library.specs.Calls.{answers, unless}
-use Rattle.library.specs.declared.ReadAnswer.{ReadAnswer}
 use Rattle.library.specs.Held.{lent_buffers, room_from}
 use Rattle.library.specs.Promises.{ReadPromise, RunPromise, WritePromise}
 use Rattle.report.specs.Report.{row_lines, counts_line, report_of}
@@ -27,11 +24,12 @@ use Rattle.hep_c.specs.Answers.{Slices, slices, image_run_refusal, image_run_ans
 use Rattle.hep_c.specs.Laws.Fitting.{Accepted, accepted}
 use Rattle.hep_c.specs.Laws.Runs.{counted, fields₂, held₂, wrote, image_written}
 use Rattle.window.specs.Limits.{tasks}
+use Rattle.refusal.specs.declared.Refusal.{Refusal}
 
 module _ (image schedule : List ℕ) (i : Image) (n : Sizes) (bytes : Bytes image) (d : decode image ≡ good i) (sizes : sizes_of (state_of i) ≡ n)
     (rows : List Row) (t₀ : ProcessTable) (seven : length rows ≡ 7)
     (constant_tags constant_words tags words program data_tags data_words output counts report : List ℕ)
-    (fine : image_run_refusal image schedule n (slices constant_tags constant_words tags words program data_tags data_words output counts report) ≡ none) where
+    (fine : image_run_refusal image schedule n (slices constant_tags constant_words tags words program data_tags data_words output counts report) ≡ None) where
   abbrev lent : Slices
   lent = slices constant_tags constant_words tags words program data_tags data_words output counts report
 
@@ -55,7 +53,7 @@ module _ (image schedule : List ℕ) (i : Image) (n : Sizes) (bytes : Bytes imag
 
   -- after the reading, and after the run
   module _ (rows₁ rows₂ : List Row) (t₁ t₂ : ProcessTable) (constant_tags₁ constant_words₁ tags₁ words₁ program₁ data_tags₁ data_words₁ tags₂ words₂ data_tags₂ data_words₂ : List ℕ)
-      (x : ReadAnswer) (reads : ReadPromise buffers₀ image x (lent_buffers rows₁ t₁ constant_tags₁ constant_words₁ tags₁ words₁ program₁ data_tags₁ data_words₁))
+      (x : Result Sizes Refusal) (reads : ReadPromise buffers₀ image x (lent_buffers rows₁ t₁ constant_tags₁ constant_words₁ tags₁ words₁ program₁ data_tags₁ data_words₁))
       (y : RunResult) (runs : RunPromise n (lent_buffers rows₁ t₁ constant_tags₁ constant_words₁ tags₁ words₁ program₁ data_tags₁ data_words₁) schedule y (lent_buffers rows₂ t₂ constant_tags₁ constant_words₁ tags₂ words₂ program₁ data_tags₂ data_words₂)) where
     abbrev buffers₁ : Buffers
     buffers₁ = lent_buffers rows₁ t₁ constant_tags₁ constant_words₁ tags₁ words₁ program₁ data_tags₁ data_words₁
@@ -86,7 +84,7 @@ module _ (image schedule : List ℕ) (i : Image) (n : Sizes) (bytes : Bytes imag
         rw (e, table_is, rows_are)
         (ap (λ (x : Tally). row_lines ran.state.table x ran.state.rows ++ counts_line x.counts ran.state.table.users.flag) tally_is)
 
-    module _ (w : WriteAnswer) (output₂ : List ℕ) (writes : WritePromise n buffers₂ w output output₂)
+    module _ (w : Result ℕ Refusal) (output₂ : List ℕ) (writes : WritePromise n buffers₂ w output output₂)
         (c : Counts) (c-is : c ≡ counts_answered y.answer) (k : ℕ) (k-is : k ≡ length_written w)
         (m : ℕ) (report₂ : List ℕ)
         (text : TextPromise (row_lines t₂ (tally c y.own) (take n.rows rows₂) ++ counts_line c t₂.users.flag) report m report₂)

@@ -1,7 +1,6 @@
 -- Read, run and written, one after another: what the three calls promise is a run of the state that the image is.
-use Rattle.std.specs.Prelude.{ℕ, ◌+◌, ◌≤◌, ◌≡◌, true, List, ◌++◌, drop}
+use Rattle.std.specs.Prelude.{ℕ, ◌+◌, ◌≤◌, ◌≡◌, true, List, ◌++◌, drop, None, Result, Ok}
 use Rattle.std.proofs.Common.{sym, ap, ◌∙◌, subst, arith}
-use Rattle.std.proofs.Math.Option.{none}
 use Rattle.std.proofs.Math.ListN.{length}
 use Rattle.std.proofs.Math.Seq.{drop-append_seam}
 use borrow.Author.Tests.{le-ltb}
@@ -12,23 +11,20 @@ use Rattle.run.proofs.Laws.Run.{run_lengths}
 use Rattle.run.proofs.Kept.{run_keeps_sound}
 use Rattle.run.specs.Schedule.{schedule_refusal}
 use Rattle.library.specs.declared.RunResult.{RunResult}
-use Rattle.library.specs.declared.RunAnswer.TheVariants.{Counted}
 use Rattle.image.specs.Codec.{Bytes}
 use Rattle.image.specs.Image.{Image, good, state_of, decode, encode}
 use Rattle.image.specs.Fields.{over}
 use Rattle.image.proofs.RoundTrips.{reads_only_sound}
-use Rattle.library.specs.declared.WriteAnswer.{WriteAnswer}
-use Rattle.library.specs.declared.WriteAnswer.TheVariants.{Wrote}
 use Rattle.library.specs.declared.Sizes.{Sizes}
 use Rattle.library.specs.Buffers.{Buffers, room_of, fits, sizes_of, fields_in, holding}
 use Rattle.library.specs.Calls.{unless, leaving, or_else, decoded_refusal, read_refusal, read_leaves, state_refused, state_refusal, run_refusal, run_answer, run_leaves, output_refusal, write_refusal, write_answer, write_leaves}
 use Rattle.library.proofs.InPlace.{read_in_place, run_in_place}
 use Rattle.library.proofs.Laws.InPlace.{Sized, held_by_read, read_sized, lengths_sized}
-use Rattle.library.specs.declared.ReadAnswer.{ReadAnswer}
 use Rattle.library.specs.Promises.{ReadPromise, run_answered, RunPromise, write_answered, WritePromise}
 use Rattle.batch.specs.Laws.Room.{room_kept}
 use Rattle.hep_c.specs.Answers.{growth}
 use Rattle.hep_c.specs.Laws.Grown.{grown}
+use Rattle.refusal.specs.declared.Refusal.{Refusal}
 
 -- ---- buffers that hold a state
 
@@ -54,19 +50,19 @@ held_twice n s t b z y =
     )
 
 -- a sound state that fits isn't refused
-state_fine : (n : Sizes) (b : Buffers) → fits n (room_of b) ≡ true → sound (fields_in n b) ≡ true → state_refusal n b ≡ none
+state_fine : (n : Sizes) (b : Buffers) → fits n (room_of b) ≡ true → sound (fields_in n b) ≡ true → state_refusal n b ≡ None
 unfolding state_refusal state_refused
 state_fine n b f s = rw (f, s)
 
 -- ---- the three calls
 
 module _ (image schedule : List ℕ) (i : Image) (n : Sizes) (bytes : Bytes image) (d : decode image ≡ good i) (sizes : sizes_of (state_of i) ≡ n)
-    (b₀ b₁ b₂ : Buffers) (fit : fits n (room_of b₀) ≡ true) (fine : schedule_refusal schedule ≡ none)
-    (x : ReadAnswer) (reads : ReadPromise b₀ image x b₁) (y : RunResult) (runs : RunPromise n b₁ schedule y b₂) where
+    (b₀ b₁ b₂ : Buffers) (fit : fits n (room_of b₀) ≡ true) (fine : schedule_refusal schedule ≡ None)
+    (x : Result Sizes Refusal) (reads : ReadPromise b₀ image x b₁) (y : RunResult) (runs : RunPromise n b₁ schedule y b₂) where
   abbrev after : State
   after = (run schedule (state_of i)).state
 
-  read_fine : read_refusal (room_of b₀) image ≡ none
+  read_fine : read_refusal (room_of b₀) image ≡ None
   unfolding read_refusal decoded_refusal
   read_fine = rw (d, sizes, fit)
 
@@ -90,12 +86,12 @@ module _ (image schedule : List ℕ) (i : Image) (n : Sizes) (bytes : Bytes imag
   fits₁ : fits n (room_of b₁) ≡ true
   fits₁ = ap (λ (b : Buffers). fits n (room_of b)) held₁ ∙ ap (fits n) (room_kept n (state_of i) b₀ before_sized fit) ∙ fit
 
-  run_fine : run_refusal n b₁ schedule ≡ none
+  run_fine : run_refusal n b₁ schedule ≡ None
   unfolding run_refusal or_else
   run_fine = rw (state_fine n b₁ fits₁ (ap sound fields₁ ∙ reads_only_sound image bytes i d)) fine
 
   -- the answer of the run
-  pub counted : y ≡ record { answer = Counted (run schedule (state_of i)).notes.counts; own = (run schedule (state_of i)).notes.own }
+  pub counted : y ≡ record { answer = Ok (run schedule (state_of i)).notes.counts; own = (run schedule (state_of i)).notes.own }
   unfolding run_answered run_answer unless
   counted = runs.answer ∙ rw (run_fine, fields₁)
 
@@ -112,14 +108,14 @@ module _ (image schedule : List ℕ) (i : Image) (n : Sizes) (bytes : Bytes imag
   room₂ = ap room_of held₂ ∙ room_kept n after b₀ after_sized fit
 
   -- the image after the run has room
-  write_fine : (k : ℕ) → length image + growth ≤ k → write_refusal n b₂ k ≡ none
+  write_fine : (k : ℕ) → length image + growth ≤ k → write_refusal n b₂ k ≡ None
   unfolding write_refusal output_refusal or_else
   write_fine k h =
       let g : length (encode after) ≤ k = omega (arith, grown image i after d after_sound (run_lengths schedule (state_of i))) in
       rw (state_fine n b₂ (ap (fits n) room₂ ∙ fit) (ap sound fields₂ ∙ after_sound), fields₂, le-ltb k (length (encode after)) g)
 
-  module _ (before written : List ℕ) (w : WriteAnswer) (roomy : length image + growth ≤ length before) (writes : WritePromise n b₂ w before written) where
-    pub wrote : w ≡ Wrote (length (encode after))
+  module _ (before written : List ℕ) (w : Result ℕ Refusal) (roomy : length image + growth ≤ length before) (writes : WritePromise n b₂ w before written) where
+    pub wrote : w ≡ Ok (length (encode after))
     unfolding write_answered write_answer unless
     wrote = writes.answer ∙ rw (write_fine (length before) roomy, fields₂)
 

@@ -1,25 +1,19 @@
-use mathlib.Core.Path.{refl, sym, ◌∙◌}
+use mathlib.Core.Path.{sym, ◌∙◌}
+use Prim.Native.Nat.{◌+◌, ◌*◌}
+use Rattle.image.specs.Image.{cell_length}
 use Rattle.image_bytes.specs.Code.Scanning.{tag_test}
 use Rattle.image_bytes.proofs.Testing.{tags_step, tags_end}
-use borrow.Author.Rules.{rules}
 use native.Mathlib.Omega.{arith}
 use Rattle.image_bytes.proofs.cell_tags_ok.Goals as goal
 
-pub loop-k-init : goal.loop-k-init
-loop-k-init c = (search rules, refl)
-
-pub overflow_add-p : goal.overflow_add-p
-overflow_add-p c = omega (arith, c.loop-k.invariant.0, c.loop-k-test.true)
-
-pub loop-k-preserved : goal.loop-k-preserved
-loop-k-preserved c =
-    let l = c.loop-k in
-    let loop-test = c.loop-k-test in
-    let args = c.args in (
-      omega (arith, l.invariant.0, loop-test.true),
-      rw c.still-good.ensures (tags_step (tag_test args.kind) args.s.now l.p l.k l.good
-          loop-test.true ∙ l.invariant.1),
-    )
+pub loop-i-preserved : goal.loop-i-preserved
+loop-i-preserved c =
+    let l = c.loop-i in
+    let a = c.args in
+    record {
+      inside = omega (arith, l.invariant.inside, c.loop-i-test.true);
+      so_far = rw c.tag_ok-good.ensures (tags_step (tag_test a.kind) a.s.now (a.at + cell_length * l.i) a.n l.i l.good (omega arith) c.loop-i-test.true ∙ l.invariant.so_far);
+    }
 
 pub returns : goal.returns
-returns c = sym (tags_end _ _ _ _ _ c.loop-k-test.false) ∙ c.loop-k.invariant.1
+returns c = sym (tags_end _ _ _ _ _ _ c.loop-i-test.false) ∙ c.loop-i.invariant.so_far

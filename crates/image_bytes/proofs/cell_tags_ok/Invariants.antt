@@ -8,9 +8,8 @@ use Rattle.image_bytes.specs.Code.Reading.{tags_at}
 use Rattle.image_bytes.specs.Code.Scanning.{tag_test}
 use Rattle.image_bytes.proofs.cell_tags_ok.Given as goal
 
-abbrev pub invariant-loop-k : goal.invariant-loop-k
-invariant-loop-k l = (cell_length * l.k ≤ (length l.s - l.p) + word_length) × ((l.good && every (tag_test l.kind) (tags_at l.k l.p l.s)) ≡ every
-    (tag_test l.kind) (tags_at l.n l.at l.s))
-
-abbrev pub decreases-loop-k : goal.decreases-loop-k
-decreases-loop-k l = l.k
+abbrev pub invariant-loop-i : goal.invariant-loop-i
+invariant-loop-i l = record {
+  inside : cell_length * (l.n - l.i) ≤ (length l.s - (l.at + cell_length * l.i)) + word_length;
+  so_far : (l.good && every (tag_test l.kind) (tags_at (l.n - l.i) (l.at + cell_length * l.i) l.s)) ≡ every (tag_test l.kind) (tags_at l.n l.at l.s);
+}

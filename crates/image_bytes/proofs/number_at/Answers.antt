@@ -1,30 +1,28 @@
-use mathlib.Core.Path.{◌∙◌}
+use mathlib.Core.Path.{ap, ◌∙◌}
+use native.Mathlib.Nat.{add-sub_cancel_left}
+use lib.ListN.{drop}
 use borrow.Author.Tests.{le-leb, lt-leb}
+use Rattle.image.specs.Codec.{number, field}
 use Rattle.image_bytes.specs.Code.Reading.{number_at}
-use Rattle.image_bytes.specs.Laws.Fields.{field_short}
-use Rattle.image_bytes.proofs.Bytewise.{below}
+use Rattle.image_bytes.proofs.Bytewise.{below, part_is, part_most}
 use native.Mathlib.Omega.{arith}
 use Rattle.image_bytes.proofs.number_at.Goals as goal
 
-pub returns-then-w-gt8 : goal.returns-then-w-gt8
+pub returns-then-w-gt-WORD_BYTES-clause-value : goal.returns-then-w-gt-WORD_BYTES-clause-value
 unfolding number_at
-returns-then-w-gt8 c = record { value = rw (lt-leb c.args.w 8 c.if-w-gt8.true); below = below _ 0 _ (omega arith) (omega arith) }
+returns-then-w-gt-WORD_BYTES-clause-value c = rw (lt-leb c.args.w 8 c.if-w-gt-WORD_BYTES.true)
 
-pub returns-then-there-w : goal.returns-then-there-w
-unfolding number_at
-returns-then-there-w c =
+pub returns-then-w-gt-WORD_BYTES-clause-below : goal.returns-then-w-gt-WORD_BYTES-clause-below
+returns-then-w-gt-WORD_BYTES-clause-below c = below _ 0 _ (omega arith) (omega arith)
+
+pub returns-clause-value : goal.returns-clause-value
+unfolding number_at field
+returns-clause-value c =
     let a = c.args in
-    let left-from = c.left_from-there in
-    let if1 = c.if-w-gt8 in
-    let e = left-from.ensures in record {
-      value = rw (le-leb a.w 8 if1.false) (rw e at c.get.ensures.value ∙ field_short a.w a.at a.s.now (omega arith));
-      below = below _ _ _
-          c.get.ensures.below (omega arith);
-    }
+    rw (le-leb a.w 8 c.if-w-gt-WORD_BYTES.false) (c.number.ensures.value ∙ ap (number 0) (part_is a.w a.at a.s.now c.min-from.ensures c.min-there.ensures (omega arith)))
 
-pub returns : goal.returns
-unfolding number_at
-returns c =
-    let args = c.args in
-    let if1 = c.if-w-gt8 in
-    record { value = rw (le-leb args.w 8 if1.false) c.get-2.ensures.value; below = c.get-2.ensures.below }
+pub returns-clause-below : goal.returns-clause-below
+returns-clause-below c =
+    let a = c.args in
+    let e = part_is a.w a.at a.s.now c.min-from.ensures c.min-there.ensures (add-sub_cancel_left c.min-from.result c.min-there.result) in
+    below _ _ _ c.number.ensures.below (rw e (part_most a.w (drop a.at a.s.now)))

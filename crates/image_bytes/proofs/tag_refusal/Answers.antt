@@ -1,3 +1,4 @@
+use mathlib.Core.Logic.{inl, inr}
 use Rattle.image_bytes.specs.Code.Scanning.{tag_refusal}
 use Rattle.image_bytes.proofs.tag_refusal.Goals as goal
 
@@ -7,8 +8,4 @@ returns-in-Constant c = simp c.in-Constant.is
 
 pub returns-in-Register : goal.returns-in-Register
 unfolding tag_refusal
-returns-in-Register c = simp c.in-Register.is
-
-pub returns-in-Data : goal.returns-in-Data
-unfolding tag_refusal
-returns-in-Data c = simp c.in-Data.is
+returns-in-Register c = elim c.in-Register.is [ inl e ↦ simp e | inr e ↦ simp e ]

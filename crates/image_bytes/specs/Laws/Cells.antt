@@ -1,6 +1,6 @@
 -- Words and cells: what one and what many of them are as bytes, and what checking them finds.
 use Prim.Native.Nat.{ℕ, zero, suc, ◌+◌, ◌-◌, ◌*◌, ◌/◌, ◌≤◌, ◌<◌}
-use Rattle.std.specs.Prelude.{◌≡◌, Bool, List, ◌∷◌, drop}
+use Rattle.std.specs.Prelude.{◌≡◌, Bool, List, ◌∷◌, drop, Ok, Err}
 use Rattle.std.proofs.Math.Path.{refl, ap}
 use Rattle.std.proofs.Common.{◌∙◌}
 use Rattle.std.proofs.Math.Bool.{true, false, cond}
@@ -15,10 +15,8 @@ use Rattle.refusal.specs.declared.Refusal.{Refusal}
 use Rattle.refusal.specs.declared.Refusal.TheVariants.{InputEnds}
 use Rattle.image.specs.Codec.{bind, field, num, seq, via, dec_many, no_state}
 use Rattle.image.specs.Image.{word_codec, cell_codec, to_cell, from_cell, cell_length, word_length}
-use Rattle.image_bytes.specs.declared.Scan.{Scan}
-use Rattle.image_bytes.specs.declared.Scan.TheVariants.{Refused, At}
 use Rattle.image_bytes.specs.Code.Reading.{field_at, cell_from, listed, tags_at}
-use Rattle.image_bytes.specs.Code.Scanning.{scanned}
+use Rattle.image_bytes.specs.Code.Scanning.{Scan, scanned}
 use Rattle.image_bytes.specs.Laws.Spans.{Spans, num_spans, seq_spans, via_spans}
 use Rattle.image_bytes.specs.Laws.Scans.{scanned_map}
 
@@ -42,19 +40,19 @@ module _ (s : List ℕ) where
       rw (le-ltb (length (drop p s)) word_length (rw length-drop h), drop-drop word_length p s)
       (scanned_map (length s) (dec_many (λ _. word_codec) no_state tt n (drop (p + word_length) s)) (λ xs. field_at word_length p s ∷ xs))
 
-  pub words_whole : (n p : ℕ) → word_length * n ≤ length s - p → words n p ≡ At (length s - ((length s - p) - word_length * n))
+  pub words_whole : (n p : ℕ) → word_length * n ≤ length s - p → words n p ≡ Ok (length s - ((length s - p) - word_length * n))
   unfolding dec_many scanned
   words_whole zero p h = rw (length-drop, sub-zero)
   words_whole (suc n) p h =
       let e : (length s - (p + word_length)) - word_length * n ≡ (length s - p) - word_length * suc n = omega arith in
-      word_there n p (omega arith) ∙ words_whole n (p + word_length) (omega arith) ∙ ap (λ (k : ℕ). At (length s - k)) e
+      word_there n p (omega arith) ∙ words_whole n (p + word_length) (omega arith) ∙ ap (λ (k : ℕ). Ok (length s - k)) e
 
-  pub words_short : (n p : ℕ) → length s - p < word_length * n → words n p ≡ Refused InputEnds
+  pub words_short : (n p : ℕ) → length s - p < word_length * n → words n p ≡ Err InputEnds
   unfolding dec_many bind word_codec num scanned
   words_short zero p h = absurd (omega arith)
   words_short (suc n) p h = go (dec_lt (length s - p) word_length) (words_short n (p + word_length))
     where
-      go : Dec (length s - p < word_length) → (length s - (p + word_length) < word_length * n → words n (p + word_length) ≡ Refused InputEnds) → words (suc n) p ≡ Refused InputEnds
+      go : Dec (length s - p < word_length) → (length s - (p + word_length) < word_length * n → words n (p + word_length) ≡ Err InputEnds) → words (suc n) p ≡ Err InputEnds
       go (yes l) more = rw (lt-ltb (length (drop p s)) word_length (rw length-drop l))
       go (no l) more = word_there n p (omega arith) ∙ more (omega arith)
 
@@ -68,15 +66,15 @@ module _ (x : Refusal) (f : ℕ → Bool) (s : List ℕ) where
   abbrev tags : (n p : ℕ) → Bool
   tags n p = every f (tags_at n p s)
 
-  cell_none : (n p : ℕ) → length s ≤ p → cells (suc n) p ≡ Refused InputEnds
+  cell_none : (n p : ℕ) → length s ≤ p → cells (suc n) p ≡ Err InputEnds
   unfolding dec_many bind cell_codec via seq num scanned
   cell_none n p h = rw (lt-ltb (length (drop p s)) 1 (rw length-drop (omega arith)))
 
-  cell_bad : (n p : ℕ) → p < length s → f (field_at 1 p s) ≡ false → cells (suc n) p ≡ Refused x
+  cell_bad : (n p : ℕ) → p < length s → f (field_at 1 p s) ≡ false → cells (suc n) p ≡ Err x
   unfolding dec_many bind cell_codec via seq num scanned
   cell_bad n p h g = rw (le-ltb (length (drop p s)) 1 (rw length-drop (omega arith)), g)
 
-  cell_part : (n p : ℕ) → p < length s → length s - p < cell_length → f (field_at 1 p s) ≡ true → cells (suc n) p ≡ Refused InputEnds
+  cell_part : (n p : ℕ) → p < length s → length s - p < cell_length → f (field_at 1 p s) ≡ true → cells (suc n) p ≡ Err InputEnds
   unfolding dec_many bind cell_codec via seq num word_codec scanned
   cell_part n p h l g =
       rw (le-ltb (length (drop p s)) 1 (rw length-drop (omega arith)), g, drop-drop 1 p s, lt-ltb (length (drop (p + 1) s)) word_length (rw length-drop (omega arith)))
@@ -96,27 +94,27 @@ module _ (x : Refusal) (f : ℕ → Bool) (s : List ℕ) where
       (scanned_map (length s) (dec_many (λ _. cell_codec x f) no_state tt n (drop (p + cell_length) s)) (λ xs. cell_from p s ∷ xs))
 
   -- all n are there
-  whole : (n p : ℕ) → cell_length * n ≤ length s - p → cells n p ≡ cond (tags n p) (At (length s - ((length s - p) - cell_length * n))) (Refused x)
+  whole : (n p : ℕ) → cell_length * n ≤ length s - p → cells n p ≡ cond (tags n p) (Ok (length s - ((length s - p) - cell_length * n))) (Err x)
   unfolding dec_many scanned tags_at listed every
   whole zero p h = rw (length-drop, sub-zero)
   whole (suc n) p h = go (f (field_at 1 p s)) refl (whole n (p + cell_length) (omega arith))
     where
-      go : (b : Bool) → f (field_at 1 p s) ≡ b → cells n (p + cell_length) ≡ cond (tags n (p + cell_length)) (At (length s - ((length s - (p + cell_length)) - cell_length * n))) (Refused x)
-          → cells (suc n) p ≡ cond (tags (suc n) p) (At (length s - ((length s - p) - cell_length * suc n))) (Refused x)
+      go : (b : Bool) → f (field_at 1 p s) ≡ b → cells n (p + cell_length) ≡ cond (tags n (p + cell_length)) (Ok (length s - ((length s - (p + cell_length)) - cell_length * n))) (Err x)
+          → cells (suc n) p ≡ cond (tags (suc n) p) (Ok (length s - ((length s - p) - cell_length * suc n))) (Err x)
       go true g i =
           let e : (length s - (p + cell_length)) - cell_length * n ≡ (length s - p) - cell_length * suc n = omega arith in
           cell_there n p (omega arith) g ∙ i ∙ rw (g, e)
       go false g i = cell_bad n p (omega arith) g ∙ rw g
 
   -- they are not: the tags that are there are those of (k + word_length) / cell_length cells, where k bytes are left
-  short : (n p : ℕ) → length s - p < cell_length * n → cells n p ≡ cond (tags ((length s - p + word_length) / cell_length) p) (Refused InputEnds) (Refused x)
+  short : (n p : ℕ) → length s - p < cell_length * n → cells n p ≡ cond (tags ((length s - p + word_length) / cell_length) p) (Err InputEnds) (Err x)
   unfolding tags_at listed every
   short zero p h = absurd (omega arith)
   short (suc n) p h = go (dec_lt p (length s)) (dec_lt (length s - p) cell_length) (f (field_at 1 p s)) refl (short n (p + cell_length))
     where
       go : Dec (p < length s) → Dec (length s - p < cell_length) → (b : Bool) → f (field_at 1 p s) ≡ b
-          → (length s - (p + cell_length) < cell_length * n → cells n (p + cell_length) ≡ cond (tags ((length s - (p + cell_length) + word_length) / cell_length) (p + cell_length)) (Refused InputEnds) (Refused x))
-          → cells (suc n) p ≡ cond (tags ((length s - p + word_length) / cell_length) p) (Refused InputEnds) (Refused x)
+          → (length s - (p + cell_length) < cell_length * n → cells n (p + cell_length) ≡ cond (tags ((length s - (p + cell_length) + word_length) / cell_length) (p + cell_length)) (Err InputEnds) (Err x))
+          → cells (suc n) p ≡ cond (tags ((length s - p + word_length) / cell_length) p) (Err InputEnds) (Err x)
       go (no a) l b g i = let e : (length s - p + word_length) / cell_length ≡ 0 = omega arith in cell_none n p (omega arith) ∙ rw e
       go (yes a) (yes l) true g i = let e : (length s - p + word_length) / cell_length ≡ 1 = omega arith in cell_part n p a l g ∙ rw (e, g)
       go (yes a) (yes l) false g i = let e : (length s - p + word_length) / cell_length ≡ 1 = omega arith in cell_bad n p a g ∙ rw (e, g)
@@ -129,8 +127,8 @@ module _ (x : Refusal) (f : ℕ → Bool) (s : List ℕ) where
 
   -- what is found where `left` bytes are left and a loop has tested the tags that are there
   module _ (n p : ℕ) {left : ℕ} (rest : left ≡ length s - p) {ok : Bool} where
-    pub cells_whole : cell_length * n ≤ left → ok ≡ tags n p → cells n p ≡ cond ok (At (length s - (left - cell_length * n))) (Refused x)
+    pub cells_whole : cell_length * n ≤ left → ok ≡ tags n p → cells n p ≡ cond ok (Ok (length s - (left - cell_length * n))) (Err x)
     cells_whole h e = rw (e, rest) (whole n p (omega (arith, rest)))
 
-    pub cells_short : left < cell_length * n → ok ≡ tags ((left + word_length) / cell_length) p → cells n p ≡ cond ok (Refused InputEnds) (Refused x)
+    pub cells_short : left < cell_length * n → ok ≡ tags ((left + word_length) / cell_length) p → cells n p ≡ cond ok (Err InputEnds) (Err x)
     cells_short h e = rw (e, rest) (short n p (omega (arith, rest)))

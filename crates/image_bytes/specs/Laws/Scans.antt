@@ -1,5 +1,5 @@
 -- A check that goes on: the format of two parts is checked by the first part, and then by the second.
-use Rattle.std.specs.Prelude.{ℕ, zero, suc, ◌+◌, ◌-◌, ◌≤◌, ◌<◌, ◌≡◌, Bool, length, drop, leb}
+use Rattle.std.specs.Prelude.{ℕ, zero, suc, ◌+◌, ◌-◌, ◌≤◌, ◌<◌, ◌≡◌, Bool, length, drop, leb, Ok, Err}
 use Rattle.std.proofs.Math.Path.{refl, ap}
 use Rattle.std.proofs.Common.{sym, ◌∙◌, add-zero, length-drop, drop-drop}
 use mathlib.Core.List.{List, [], ◌∷◌}
@@ -8,20 +8,23 @@ use borrow.Author.Tests.{le-leb}
 use Rattle.refusal.specs.declared.Refusal.{Refusal}
 use Rattle.refusal.specs.declared.Refusal.TheVariants.{CountOverLimit}
 use Rattle.image.specs.Codec.{Result, refused, accepted, bind, Codec, num, count, seq, via, dec_many, section, no_header, list_section}
-use Rattle.image_bytes.specs.declared.Scan.{Scan}
-use Rattle.image_bytes.specs.declared.Scan.TheVariants.{Refused, At}
 use Rattle.image_bytes.specs.Code.Reading.{number_at}
-use Rattle.image_bytes.specs.Code.Scanning.{scanned, scan, Within, value_at}
+use Rattle.image_bytes.specs.Code.Scanning.{Scan, scanned, scan, Within, value_at}
 use Rattle.image_bytes.specs.Laws.Spans.{Reads, Spans, num_spans, no_header_spans}
 
 -- a check that was refused stays so, and one at a place reads there
-pub stays : {A : Type 0} (read : List ℕ → Result A) (s : List ℕ) (x : Scan) {e : Refusal} → x ≡ Refused e → x ≡ scan read s x
+pub stays : {A : Type 0} (read : List ℕ → Result A) (s : List ℕ) (x : Scan) {e : Refusal} → x ≡ Err e → x ≡ scan read s x
 unfolding scan
 stays read s x q = rw q
 
-pub at_place : {A : Type 0} (read : List ℕ → Result A) (s : List ℕ) (x : Scan) {y : Scan} (p : ℕ) → x ≡ At p → scanned (length s) (read (drop p s)) ≡ y → y ≡ scan read s x
+pub at_place : {A : Type 0} (read : List ℕ → Result A) (s : List ℕ) (x : Scan) {y : Scan} (p : ℕ) → x ≡ Ok p → scanned (length s) (read (drop p s)) ≡ y → y ≡ scan read s x
 unfolding scan
 at_place read s x p q h = rw q (sym h)
+
+-- the number at a place is the value there
+pub value_here : (w p : ℕ) (s : List ℕ) {v : ℕ} → v ≡ number_at w p s → v ≡ value_at 0 w s (Ok p)
+unfolding value_at
+value_here w p s e = rw add-zero e
 
 -- what was accepted does not show in a check
 pub scanned_map : {A B : Type 0} (n : ℕ) (m : Result A) (to : A → B) → scanned n (bind m (λ a r. accepted (to a) r)) ≡ scanned n m
@@ -54,11 +57,11 @@ module _ {A : Type 0} {f : List ℕ → Result A} {v : List ℕ → A} {k : List
     bind_scanned p (accepted a r) q h = h a r q ∙ ap (λ (b : List ℕ). scanned (length s) (g' b)) (sym (rest_at p a r q))
 
     -- where what follows an accepted value shows as g' does
-    pub bind_scan : (x : Scan) → ((p : ℕ) (a : A) (r : List ℕ) → x ≡ At p → f (drop p s) ≡ accepted a r → scanned (length s) (g a r) ≡ scanned (length s) (g' r))
+    pub bind_scan : (x : Scan) → ((p : ℕ) (a : A) (r : List ℕ) → x ≡ Ok p → f (drop p s) ≡ accepted a r → scanned (length s) (g a r) ≡ scanned (length s) (g' r))
         → scan (λ b. bind (f b) g) s x ≡ scan g' s (scan f s x)
     unfolding scan
-    bind_scan (Refused e) h = refl
-    bind_scan (At p) h = bind_scanned p (f (drop p s)) refl (λ a r q. h p a r refl q)
+    bind_scan (Err e) h = refl
+    bind_scan (Ok p) h = bind_scanned p (f (drop p s)) refl (λ a r q. h p a r refl q)
 
 -- ---- places
 
@@ -73,30 +76,30 @@ unfolding scan Within
 within read s x e = rw e (go x)
   where
     go : (x : Scan) → Within s (scan read s x)
-    go (Refused e) = tt
-    go (At p) = scanned_within s (read (drop p s))
+    go (Err e) = tt
+    go (Ok p) = scanned_within s (read (drop p s))
 
 -- reading nothing leaves a check where it is
 nothing_scan : {A : Type 0} (a : A) (s : List ℕ) (x : Scan) → Within s x → scan (λ b. accepted a b) s x ≡ x
 unfolding Within scan scanned
-nothing_scan a s (Refused e) h = refl
-nothing_scan a s (At p) h =
+nothing_scan a s (Err e) h = refl
+nothing_scan a s (Ok p) h =
     let l : length (drop p s) ≡ length s - p = length-drop p s in
     let e : length s - length (drop p s) ≡ p = omega arith in
-    ap At e
+    ap Ok e
 
 -- ---- numbers
 
 module _ (w : ℕ) (e : Refusal) (good : ℕ → Bool) (small : w ≤ 8) (s : List ℕ) where
-  value_is : (x : Scan) (p a : ℕ) (r : List ℕ) → x ≡ At p → (num w e good).dec (drop p s) ≡ accepted a r → value_at 0 w s x ≡ a
+  value_is : (x : Scan) (p a : ℕ) (r : List ℕ) → x ≡ Ok p → (num w e good).dec (drop p s) ≡ accepted a r → value_at 0 w s x ≡ a
   unfolding value_at number_at
   value_is x p a r q h = rw (q, le-leb w 8 small, add-zero) (sym ((num_spans w e good).reads.is (drop p s) a r h))
 
   -- a number is good by its value
   num_value : (x : Scan) → scan (num w e good).dec s x ≡ scan (num w e (λ _. good (value_at 0 w s x))).dec s x
   unfolding scan num value_at number_at
-  num_value (Refused e) = refl
-  num_value (At p) = rw (le-leb w 8 small, add-zero)
+  num_value (Err e) = refl
+  num_value (Ok p) = rw (le-leb w 8 small, add-zero)
 
   module _ (x : Scan) {y : Scan} {v : ℕ} {ok : Bool} (value : v ≡ value_at 0 w s x) (test : ok ≡ good v) (checked : y ≡ scan (num w e (λ _. ok)).dec s x) where
     -- a number alone
@@ -113,7 +116,7 @@ module _ (w : ℕ) (e : Refusal) (good : ℕ → Bool) (small : w ≤ 8) (s : Li
 
 -- a format before the rest: where the rest depends on the value, and where not
 module _ {A B : Type 0} {c : Codec A} {v : List ℕ → A} {k : List ℕ → ℕ} (sc : Spans c v k) (s : List ℕ) (x : Scan) {y : Scan} (checked : y ≡ scan c.dec s x) where
-  pub seq_scan : (d : A → Codec B) (a : A) → ((p : ℕ) → x ≡ At p → v (drop p s) ≡ a) → scan (seq c d).dec s x ≡ scan (d a).dec s y
+  pub seq_scan : (d : A → Codec B) (a : A) → ((p : ℕ) → x ≡ Ok p → v (drop p s) ≡ a) → scan (seq c d).dec s x ≡ scan (d a).dec s y
   unfolding seq
   seq_scan d a e =
       bind_scan sc.reads s _ (d a).dec x
@@ -128,14 +131,14 @@ module _ {A B : Type 0} {c : Codec A} {v : List ℕ → A} {k : List ℕ → ℕ
 -- the same fields as another value
 pub via_scan : {A B : Type 0} (to : A → B) (from : B → A) (c : Codec A) (s : List ℕ) (x : Scan) → scan (via to from c).dec s x ≡ scan c.dec s x
 unfolding via scan
-via_scan to from c s (Refused e) = refl
-via_scan to from c s (At p) = scanned_map (length s) (c.dec (drop p s)) to
+via_scan to from c s (Err e) = refl
+via_scan to from c s (Ok p) = scanned_map (length s) (c.dec (drop p s)) to
 
 -- ---- many values, and a section of them
 
 module _ {S A : Type 0} (c : S → Codec A) (next : S → A → S) (s : List ℕ) where
   -- one of them, and then the others from the state that it leads to
-  module _ {v : List ℕ → A} {k : List ℕ → ℕ} (st : S) (sc : Spans (c st) v k) (st' : S) (x : Scan) (leads : (p : ℕ) → x ≡ At p → next st (v (drop p s)) ≡ st') where
+  module _ {v : List ℕ → A} {k : List ℕ → ℕ} (st : S) (sc : Spans (c st) v k) (st' : S) (x : Scan) (leads : (p : ℕ) → x ≡ Ok p → next st (v (drop p s)) ≡ st') where
     many_step : (m : ℕ) → scan (dec_many c next st (suc m)) s x ≡ scan (dec_many c next st' m) s (scan (c st).dec s x)
     unfolding dec_many
     many_step m =

@@ -1,15 +1,23 @@
 use mathlib.Core.Path.{refl, sym, ◌∙◌}
+use Rattle.std.specs.Prelude.{Ok}
+use Rattle.std.proofs.lemmas.Result.{err_from_is_err_and}
 use Rattle.image.specs.Codec.{no_state, uniform_section}
 use Rattle.image.specs.Image.{cell_codec, cells_codec}
-use Rattle.image_bytes.specs.Code.Scanning.{tag_test, tag_refusal}
-use Rattle.image_bytes.specs.Laws.Scans.{list_section_scan}
+use Rattle.image_bytes.specs.Code.Scanning.{scan, tag_test, tag_refusal}
+use Rattle.image_bytes.specs.Laws.Scans.{value_here, list_section_scan}
 use Rattle.image_check.proofs.check_cells.Goals as goal
+
+pub returns-in_err-at : goal.returns-in_err-at
+unfolding cells_codec uniform_section scan
+returns-in_err-at c =
+    let a = c.args in
+    let p = err_from_is_err_and c.from_residual.result c.from_residual.ensures.1 in
+    rw (p.1, p.2) (sym (list_section_scan (λ _. cell_codec (tag_refusal a.kind) (tag_test a.kind)) no_state a.s.now a.w a.most c.requires (Ok a.at) (value_here _ _ _ c.number_at-n.ensures.value) refl
+    c.in_err-at.ensures tt))
 
 pub returns : goal.returns
 unfolding cells_codec uniform_section
 returns c =
-    let args = c.args in
-    let pre = c.requires in
-    let check-number = c.check_number-c in
-    c.check_cells.ensures ∙ sym (list_section_scan (λ _. cell_codec (tag_refusal args.kind) (tag_test args.kind)) no_state args.s.now args.w args.most (pre)
-    args.c c.value-n.ensures.value refl check-number.ensures tt)
+    let a = c.args in
+    c.check_cells.ensures ∙ sym (list_section_scan (λ _. cell_codec (tag_refusal a.kind) (tag_test a.kind)) no_state a.s.now a.w a.most c.requires (Ok a.at) (value_here _ _ _ c.number_at-n.ensures.value) refl
+    c.in_ok-at.ensures tt)

@@ -1,32 +1,45 @@
-use mathlib.Core.Path.{refl, sym, ◌∙◌}
-use Rattle.image.specs.Image.{process_codec, queue_after}
+use Prim.Native.Nat.{◌+◌, ◌-◌}
+use mathlib.Core.Path.{◌≡◌, refl, sym, ◌∙◌}
+use native.Mathlib.Nat.{sub-zero}
+use Rattle.std.specs.Prelude.{Ok}
+use Rattle.std.proofs.lemmas.Result.{err_from_is_err_and}
+use Rattle.image.specs.Image.{queue_of_byte, process_codec, queue_after}
+use Rattle.image_bytes.specs.Code.Scanning.{scan, Within}
 use Rattle.image_bytes.specs.Laws.Scans.{within, many_scan, many_none}
 use Rattle.image_check.specs.Code.Places.{rows_at}
 use Rattle.image_check.specs.Laws.Sections.{process_spans}
 use Rattle.image_check.proofs.Chains.{process_leads}
+use native.Mathlib.Omega.{arith}
 use Rattle.image_check.proofs.check_each_process.Goals as goal
 
-pub loop-k-init : goal.loop-k-init
-loop-k-init c = (c.requires.1, refl)
+pub loop-init : goal.loop-init
+loop-init c = record { inside = c.requires; so_far = rw sub-zero }
 
-pub loop-k-preserved : goal.loop-k-preserved
-loop-k-preserved c =
-    let l = c.loop-k in
-    let args = c.args in
-    let next = c.queue_of_byte-before in
-    let checked = c.check_process-c in
-    let loop-test = c.loop-k-test in
-    let s = args.s.now in
-    let rows = rows_at args.n s in (
-      within _ s l.c checked.ensures,
-      l.invariant.1 ∙ many_scan (process_codec rows) queue_after s l.before
-          (process_spans rows l.before) next.result l.c (process_leads l.before s l.c c.value-task.ensures.value next.ensures) l.k loop-test.true
-          checked.ensures,
-    )
+pub returns-in_err-at : goal.returns-in_err-at
+unfolding scan
+returns-in_err-at c =
+    let l = c.loop in
+    let s = c.args.s.now in
+    let rows = rows_at c.args.n s in
+    let p = err_from_is_err_and c.from_residual.result c.from_residual.ensures.1 in
+    rw (p.1, p.2) (sym (l.invariant.so_far ∙ many_scan (process_codec rows) queue_after s l.before (process_spans rows l.before) (queue_of_byte c.number_at-task.result) (Ok l.at)
+    (process_leads l.before s l.at c.number_at-task.ensures.value refl) (c.args.m - l.counter) (omega arith) c.in_err-at.ensures))
+
+pub loop-preserved : goal.loop-preserved
+unfolding Within
+loop-preserved c =
+    let l = c.loop in
+    let s = c.args.s.now in
+    let rows = rows_at c.args.n s in
+    let e : c.args.m - l.counter - 1 ≡ c.args.m - (l.counter + 1) = omega arith in
+    record {
+      inside = within (process_codec rows l.before).dec s (Ok l.at) c.in_ok-at.ensures;
+      so_far = l.invariant.so_far ∙ rw e at (many_scan (process_codec rows) queue_after s l.before (process_spans rows l.before) c.queue_of_byte-before.result (Ok l.at)
+          (process_leads l.before s l.at c.number_at-task.ensures.value c.queue_of_byte-before.ensures) (c.args.m - l.counter) (omega arith) c.in_ok-at.ensures);
+    }
 
 pub returns : goal.returns
+unfolding Within
 returns c =
-    let l = c.loop-k in
-    let args = c.args in
-    sym (l.invariant.1 ∙ many_none (process_codec (rows_at args.n args.s.now)) queue_after args.s.now l.before l.c l.k
-    c.loop-k-test.false l.invariant.0)
+    let l = c.loop in
+    sym (l.invariant.so_far ∙ many_none (process_codec (rows_at c.args.n c.args.s.now)) queue_after c.args.s.now l.before (Ok l.at) (c.args.m - l.counter) (omega arith) l.invariant.inside)

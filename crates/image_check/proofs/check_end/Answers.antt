@@ -1,16 +1,12 @@
 use mathlib.Core.Path.{sym, ◌∙◌}
 use Rattle.image_check.specs.Code.Places.{sizes_in}
 use Rattle.image_check.proofs.Ends.{left_over_lem, window_past, processes_clash, all_sound}
-use native.Mathlib.Omega.{arith}
 use Rattle.image_check.proofs.check_end.Goals as goal
 
 pub returns-then-end-s : goal.returns-then-end-s
 returns-then-end-s c =
     let args = c.args in
     left_over_lem (sizes_in args.s.now) args.s.now args.end c.if-end-s.true
-
-pub windows_sound-requires : goal.windows_sound-requires
-windows_sound-requires c = omega (arith, c.sizes-n.ensures.small)
 
 pub returns-then-not-windows_sound : goal.returns-then-not-windows_sound
 returns-then-not-windows_sound c =
@@ -19,9 +15,6 @@ returns-then-not-windows_sound c =
     let windows-sound = c.windows_sound in
     rw (← c.sizes-n.ensures.value) (window_past c.sizes-n.result args.s.now args.end if1.false
     (sym windows-sound.ensures ∙ c.if-not-windows_sound.true))
-
-pub processes_sound-requires : goal.processes_sound-requires
-processes_sound-requires c = omega (arith, c.sizes-n.ensures.small)
 
 pub returns-then-not-processes_sound : goal.returns-then-not-processes_sound
 returns-then-not-processes_sound c =

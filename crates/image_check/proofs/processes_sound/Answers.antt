@@ -1,9 +1,5 @@
 use Rattle.image_bytes.specs.Code.Reading.{number_at}
-use native.Mathlib.Omega.{arith}
 use Rattle.image_check.proofs.processes_sound.Goals as goal
-
-pub pts_distinct-requires : goal.pts_distinct-requires
-pts_distinct-requires c = omega (arith, c.number_at-m.ensures.below, c.requires)
 
 pub returns-then-not-pts_distinct : goal.returns-then-not-pts_distinct
 unfolding number_at

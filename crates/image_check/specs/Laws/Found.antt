@@ -1,10 +1,9 @@
 -- Where a check finds an image sound, what the image is, and that all its bytes are there: what a reader needs.
-use Rattle.std.specs.Prelude.{ℕ, ◌-◌, ◌≡◌, refl, List, [], length}
+use Rattle.std.specs.Prelude.{ℕ, ◌-◌, ◌≡◌, refl, List, [], length, Ok}
 use Rattle.std.proofs.Common.{sym, ap, ◌∙◌, arith, length-drop}
 use Rattle.image.specs.Image.{Image, Decoded, bad, good, image_codec, state_of, decode}
 use Rattle.image.proofs.Laws.Accepted.{after_good}
 use Rattle.library.specs.declared.Sizes.{Sizes}
-use Rattle.library.specs.declared.ReadAnswer.TheVariants.{Read}
 use Rattle.library.specs.Buffers.{sizes_of}
 use Rattle.library.specs.Calls.{check_answer}
 use Rattle.library.specs.Promises.{read_answered}
@@ -27,11 +26,11 @@ pub record Found (n : Sizes) (s : List ℕ) : Type 0 where
   pub accepts : decode s ≡ good (image_at n s)
   pub ends : end_place n s ≡ length s
 
-pub found : (s : List ℕ) (n : Sizes) → read_answered (check_answer (decode s)) ≡ Read n → Found n s
+pub found : (s : List ℕ) (n : Sizes) → read_answered (check_answer (decode s)) ≡ Ok n → Found n s
 unfolding read_answered check_answer
 found s n h = go (decode s) refl h
   where
-    go : (d : Decoded) → decode s ≡ d → read_answered (check_answer d) ≡ Read n → Found n s
+    go : (d : Decoded) → decode s ≡ d → read_answered (check_answer d) ≡ Ok n → Found n s
     go (bad e) q h = let m : ◌≡◌ {A = ℕ} 0 1 = cc in absurd (omega arith)
     go (good i) q h =
         let e : sizes_of (state_of i) ≡ n = cc in

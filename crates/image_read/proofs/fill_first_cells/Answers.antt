@@ -1,17 +1,10 @@
-use mathlib.Core.Path.{sym, ap, ◌∙◌}
+use mathlib.Core.Path.{ap, ◌∙◌}
 use mathlib.Core.List.{◌++◌}
 use lib.ListN.{drop}
-use lib.Seq.{length-take-le}
 use Rattle.window.specs.Memories.{Memory, tag_of, word_of}
 use Rattle.image.specs.Image.{memory_of}
 use Rattle.image_read.proofs.Fills.{first_cells, cells_over}
 use Rattle.image_read.proofs.fill_first_cells.Goals as goal
-
-pub slice_bounds-fill_cells-end-2 : goal.slice_bounds-fill_cells-end-2
-slice_bounds-fill_cells-end-2 c = sym (length-take-le c.args.n c.args.tags.now c.requires.0.0)
-
-pub slice_bounds-fill_cells-end-4 : goal.slice_bounds-fill_cells-end-4
-slice_bounds-fill_cells-end-4 c = sym (length-take-le c.args.n c.args.words.now c.requires.0.1)
 
 pub returns : goal.returns
 unfolding memory_of

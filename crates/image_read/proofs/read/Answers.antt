@@ -2,8 +2,5 @@ use mathlib.Core.Path.{refl, sym, ◌∙◌}
 use Rattle.image_read.specs.Laws.Read.{read_refused}
 use Rattle.image_read.proofs.read.Goals as goal
 
-pub read_sound-requires : goal.read_sound-requires
-read_sound-requires c = sym c.check-found.ensures ∙ c.in-Read.is
-
-pub returns-in-Refused : goal.returns-in-Refused
-returns-in-Refused c = let a = c.args in let seven = c.well_formed.0.1.1.0.1.0.1 in rw c.refused.ensures (read_refused _ a.image.now _ (sym c.check-found.ensures ∙ c.in-Refused.is), record { count = refl; places = seven; beyond = refl })
+pub returns-in-Err : goal.returns-in-Err
+returns-in-Err c = let a = c.args in let seven = c.well_formed.0.1.1.0.1.0.1 in rw c.refused.ensures (read_refused _ a.image.now _ (sym c.check-found.ensures ∙ c.in-Err.is), record { count = refl; places = seven; beyond = refl })

@@ -1,10 +1,10 @@
 use Rattle.image_write.specs.Code.Lengths.{length_written}
 use Rattle.image_write.proofs.length_written.Goals as goal
 
-pub returns-in-Refused : goal.returns-in-Refused
+pub returns-in-Err : goal.returns-in-Err
 unfolding length_written
-returns-in-Refused c = rw c.in-Refused.is
+returns-in-Err c = rw c.in-Err.is
 
-pub returns-in-Wrote : goal.returns-in-Wrote
+pub returns-in-Ok : goal.returns-in-Ok
 unfolding length_written
-returns-in-Wrote c = rw c.in-Wrote.is
+returns-in-Ok c = rw c.in-Ok.is

@@ -6,7 +6,7 @@ pub returns : goal.returns
 unfolding row_first
 returns c =
     four _ _ _ _ _ _ _ _ _ _ c.requires
-    c.put_number.ensures
-    c.put_number-2.ensures
-    c.put_number-3.ensures
-    c.put_number-4.ensures
+    (rw c.from.ensures at c.put_number.ensures)
+    (rw c.from-2.ensures at c.put_number-2.ensures)
+    (rw c.from-3.ensures at c.put_number-3.ensures)
+    (rw c.from-4.ensures at c.put_number-4.ensures)

@@ -2,7 +2,6 @@ use Prim.Native.Nat.{ℕ, ◌+◌, ◌≤◌}
 use mathlib.Core.Path.{◌≡◌, refl, ◌∙◌}
 use mathlib.Core.List.{List, ◌++◌}
 use native.Mathlib.Nat.{zero-add}
-use native.Mathlib.Omega.{arith}
 use lib.ListN.{length}
 use Rattle.window.specs.Memories.{memory}
 use Rattle.step.specs.State.{State}
@@ -36,9 +35,8 @@ put_tasks-at-requires c =
     let s = state_in a.rows a.n a.table (memory a.constant_tags.now a.constant_words.now) a.register_tags.now a.register_words.now a.program.now a.data_tags.now a.data_words.now in
     let h = c.requires.counted in
     let z₀ = none_put s a.output.now c.requires.room in
-    let few : a.n ≤ length a.rows = omega (arith, h.0, c.well_formed) in
     let f : 0 + length (tasks_section s.rows) ≤ length a.output.now = room 0 _ _ z₀ {xs = tasks_section s.rows} {left' = left₁ s} (record { is = refl }) in
-    (h.0, omega (arith, f, tasks_size a.rows a.n few))
+    rw tasks_size at (rw zero-add at f)
 
 pub put_processes-at-requires : goal.put_processes-at-requires
 unfolding state_in
@@ -49,7 +47,7 @@ put_processes-at-requires c =
     let z₁ = tasks_put s a.output.now c.requires.room c.put_tasks-at.ensures.value c.put_tasks-at.ensures.output_after in
     let t = a.table.users in
     let f = room 0 _ _ z₁ {xs = processes_section t.flag (processes_from t.psw 0 t.queues)} {left' = left₂ s} (record { is = refl }) in
-    (h.1.0, rw (processes_size t.psw t.flag t.queues a.m h.1.0) at f)
+    (h.1.0, rw (processes_size t.psw t.flag t.queues t.count h.1.0) at f)
 
 pub put_cells-at-requires : goal.put_cells-at-requires
 unfolding state_in

@@ -6,4 +6,8 @@ use Rattle.image_write.proofs.put_process.Goals as goal
 
 pub returns : goal.returns
 unfolding process_bytes process_codec via seq num
-returns c = rw (← c.task_byte-task.ensures) (three _ _ _ _ _ _ _ _ c.requires c.put_number.ensures c.put_number-2.ensures c.put_number-3.ensures)
+returns c =
+    three _ _ _ _ _ _ _ _ c.requires
+    (rw c.from.ensures at c.put_number.ensures)
+    (rw (c.from-2.ensures, c.task_byte-task.ensures) at c.put_number-2.ensures)
+    c.put_number-3.ensures

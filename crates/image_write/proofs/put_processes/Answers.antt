@@ -8,4 +8,4 @@ pub returns : goal.returns
 returns c =
     let t = c.args.users in
     let e = c.put_queues.ensures in
-    record { value = omega (arith, e.value, c.requires, processes_size t.psw t.flag t.queues c.args.m c.requires.0, processes_length_lem (processes_from t.psw 0 t.queues), from_length t.psw 0 t.queues); output_after = processes_put _ _ _ _ c.requires.0 _ _ c.requires.1 c.put_number.ensures c.put_number-2.ensures e.output_after }
+    record { value = omega (arith, e.value, c.requires, processes_size t.psw t.flag t.queues t.count c.requires.0, processes_length_lem (processes_from t.psw 0 t.queues), from_length t.psw 0 t.queues); output_after = processes_put _ _ _ _ c.requires.0 _ _ c.requires.1 c.put_number.ensures (rw c.from.ensures at c.put_number-2.ensures) e.output_after }

@@ -19,7 +19,7 @@ pub put_state-end-requires : goal.put_state-end-requires
 put_state-end-requires c =
     let a = c.args in
     let seven = c.well_formed.0.1.1.0.1.0.1 in
-    (c.requires, (counted a.rows a.table a.constant_tags.now a.constant_words.now a.register_tags.now a.register_words.now a.program.now a.data_tags.now a.data_words.now a.n seven c.requires, omega (arith, c.if-output-size.false, c.size.ensures, image_size a.rows a.table a.constant_tags.now a.constant_words.now a.register_tags.now a.register_words.now a.program.now a.data_tags.now a.data_words.now a.n seven c.requires _ (counted a.rows a.table a.constant_tags.now a.constant_words.now a.register_tags.now a.register_words.now a.program.now a.data_tags.now a.data_words.now a.n seven c.requires))))
+    (c.requires, omega (arith, c.if-output-size.false, c.size.ensures, image_size a.rows a.table a.constant_tags.now a.constant_words.now a.register_tags.now a.register_words.now a.program.now a.data_tags.now a.data_words.now a.n seven c.requires _ (counted a.rows a.table a.constant_tags.now a.constant_words.now a.register_tags.now a.register_words.now a.program.now a.data_tags.now a.data_words.now a.n seven c.requires)))
 
 pub returns : goal.returns
 returns c =

@@ -1,9 +1,8 @@
 -- Refusals of reading and of a state in buffers, by what doesn't hold.
 use Rattle.std.specs.Prelude.{ℕ, ◌≡◌, refl, Bool, true, cond, not, List, ◌↔◌, ◌≢◌, length, leb, ltb}
-use Rattle.std.proofs.Common.{sym, subst, arith, le-leb}
+use Rattle.std.proofs.Common.{sym, subst, arith, le-leb, Option, None, Some}
 use Rattle.std.proofs.Math.Path.{ap}
 use Rattle.std.proofs.Math.Bool.{false}
-use Rattle.std.proofs.Math.Option.{Option, none, some}
 use Rattle.word.proofs.Laws.Conjunctions.{also}
 use Rattle.refusal.specs.declared.Refusal.{Refusal}
 use Rattle.refusal.specs.declared.Refusal.TheVariants.{ShortBuffer, UnsoundState, ListTooLong, ItemOutOfRange}
@@ -44,11 +43,11 @@ room_fits i =
     let self : (k : ℕ) → leb k k ≡ true = λ k. le-leb k k (omega arith) in
     also (self n.rows) (also (self n.constants) (also (self n.constants) (also (self n.registers) (also (self n.registers) (also (self n.program) (also (self n.data_words) (self n.data_words)))))))
 
-pub read_decoded : (room : Room) (bytes : List ℕ) → read_refusal room bytes ≡ none → (i : Image) × (decode bytes ≡ good i)
+pub read_decoded : (room : Room) (bytes : List ℕ) → read_refusal room bytes ≡ None → (i : Image) × (decode bytes ≡ good i)
 unfolding read_refusal decoded_refusal
 read_decoded room bytes e = go (decode bytes) refl e
   where
-    go : (d : Decoded) → decode bytes ≡ d → decoded_refusal room d ≡ none → (i : Image) × (decode bytes ≡ good i)
+    go : (d : Decoded) → decode bytes ≡ d → decoded_refusal room d ≡ None → (i : Image) × (decode bytes ≡ good i)
     go (bad x) q h = absurd (none_some x (sym h))
     go (good i) q h = (i, q)
 
@@ -56,8 +55,8 @@ read_decoded room bytes e = go (decode bytes) refl e
 
 -- refused with 8, or not refused
 pub data Tested (n : Sizes) (b : Buffers) : Type 0 where
-  refused8 : state_refusal n b ≡ some UnsoundState → Tested n b
-  unrefused : state_refusal n b ≡ none → Tested n b
+  refused8 : state_refusal n b ≡ Some UnsoundState → Tested n b
+  unrefused : state_refusal n b ≡ None → Tested n b
 
 pub tested : (n : Sizes) (b : Buffers) → Tested n b
 tested n b = go (fits n (room_of b)) (sound (fields_in n b)) refl refl
@@ -74,7 +73,7 @@ module _ {A : Type 0} (n : Sizes) (b : Buffers) (o : Option Refusal) (a : A) whe
   number x = number_answered (unless (or_else x o) a)
 
   -- where a state is accepted exactly if P holds, 8 is answered exactly if it doesn't
-  pub refused_8 : (P : Type 0) → (state_refusal n b ≡ none) ↔ P → number_answered (unless o a) ≢ 8 → (number (state_refusal n b) ≡ 8) ↔ (¬ P)
+  pub refused_8 : (P : Type 0) → (state_refusal n b ≡ None) ↔ P → number_answered (unless o a) ≢ 8 → (number (state_refusal n b) ≡ 8) ↔ (¬ P)
   unfolding number_answered unless or_else number_of
   refused_8 P k w = (
     (λ e p. w (subst (λ (x : Option Refusal). number x ≡ 8) (k.1 p) e)),
@@ -85,7 +84,7 @@ schedule_number : {A : Type 0} (schedule : List ℕ) (a : A) → number_answered
 unfolding schedule_refusal number_answered unless number_of
 schedule_number schedule a = go (ltb most_items (length schedule)) (every item_sound schedule)
   where
-    go : (t u : Bool) → number_answered (unless (cond t (some ListTooLong) (cond (not u) (some ItemOutOfRange) none)) a) ≢ 8
+    go : (t u : Bool) → number_answered (unless (cond t (Some ListTooLong) (cond (not u) (Some ItemOutOfRange) None)) a) ≢ 8
     go true u = λ e. omega arith
     go false true = λ e. omega arith
     go false false = λ e. omega arith
@@ -94,7 +93,7 @@ task_number : {A : Type 0} (t : ℕ) (a : A) → number_answered (unless (task_r
 unfolding task_refusal number_answered unless number_of
 task_number t a = go (item_sound t)
   where
-    go : (u : Bool) → number_answered (unless (cond (not u) (some ItemOutOfRange) none) a) ≢ 8
+    go : (u : Bool) → number_answered (unless (cond (not u) (Some ItemOutOfRange) None) a) ≢ 8
     go true = λ e. omega arith
     go false = λ e. omega arith
 
@@ -102,23 +101,23 @@ output_number : {A : Type 0} (room : ℕ) (image : List ℕ) (a : A) → number_
 unfolding output_refusal number_answered unless number_of
 output_number room image a = go (ltb room (length image))
   where
-    go : (t : Bool) → number_answered (unless (cond t (some ShortBuffer) none) a) ≢ 8
+    go : (t : Bool) → number_answered (unless (cond t (Some ShortBuffer) None) a) ≢ 8
     go true = λ e. omega arith
     go false = λ e. omega arith
 
-pub run_refused_8 : (n : Sizes) (b : Buffers) (schedule : List ℕ) (P : Type 0) → (state_refusal n b ≡ none) ↔ P → (number_answered (run_answer n b schedule) ≡ 8) ↔ (¬ P)
+pub run_refused_8 : (n : Sizes) (b : Buffers) (schedule : List ℕ) (P : Type 0) → (state_refusal n b ≡ None) ↔ P → (number_answered (run_answer n b schedule) ≡ 8) ↔ (¬ P)
 unfolding run_answer run_refusal
 run_refused_8 n b schedule P k =
     let c = (run schedule (fields_in n b)).notes in
     refused_8 n b (schedule_refusal schedule) c P k (schedule_number schedule c)
 
-pub step_refused_8 : (n : Sizes) (b : Buffers) (t : ℕ) (P : Type 0) → (state_refusal n b ≡ none) ↔ P → (number_answered (step_answer n b t) ≡ 8) ↔ (¬ P)
+pub step_refused_8 : (n : Sizes) (b : Buffers) (t : ℕ) (P : Type 0) → (state_refusal n b ≡ None) ↔ P → (number_answered (step_answer n b t) ≡ 8) ↔ (¬ P)
 unfolding step_answer step_refusal
 step_refused_8 n b t P k =
     let x = (item t (fields_in n b)).ending in
     refused_8 n b (task_refusal t) x P k (task_number t x)
 
-pub write_refused_8 : (n : Sizes) (b : Buffers) (room : ℕ) (P : Type 0) → (state_refusal n b ≡ none) ↔ P → (number_answered (write_answer n b room) ≡ 8) ↔ (¬ P)
+pub write_refused_8 : (n : Sizes) (b : Buffers) (room : ℕ) (P : Type 0) → (state_refusal n b ≡ None) ↔ P → (number_answered (write_answer n b room) ≡ 8) ↔ (¬ P)
 unfolding write_answer write_refusal
 write_refused_8 n b room P k =
     let l = encode (fields_in n b) in

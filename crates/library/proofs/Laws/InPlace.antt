@@ -1,7 +1,6 @@
 -- Elements in the first places of a buffer: they are found there again, and what lies beyond them stays.
 use Rattle.std.specs.Prelude.{ℕ, ◌≡◌, refl, true, List, ◌++◌, length, take, drop}
-use Rattle.std.proofs.Common.{sym, ap, ◌∙◌, subst, length-take-le}
-use Rattle.std.proofs.Math.Option.{Option, none}
+use Rattle.std.proofs.Common.{sym, ap, ◌∙◌, subst, length-take-le, Option, None}
 use Rattle.std.proofs.lemmas.List.{length-map}
 use Rattle.std.proofs.Math.Seq.{take-append_seam, drop-append_seam}
 use Rattle.refusal.specs.declared.Refusal.{Refusal}
@@ -138,7 +137,7 @@ unfolding item
 step_sized n b t e = lengths_sized n (fields_in n b) (item_by decide t (fields_in n b)).state (fields_sized n b e) (item_lengths decide t (fields_in n b))
 
 -- a reading that isn't refused leaves the buffers holding the state that its image is
-pub held_by_read : (b : Buffers) (bytes : List ℕ) (i : Image) → decode bytes ≡ good i → read_refusal (room_of b) bytes ≡ none
+pub held_by_read : (b : Buffers) (bytes : List ℕ) (i : Image) → decode bytes ≡ good i → read_refusal (room_of b) bytes ≡ None
     → read_leaves b bytes ≡ holding (state_of i) b
 unfolding read_refusal read_leaves decoded_leaves decoded_answer unless leaving
 held_by_read b bytes i d e =

@@ -1,7 +1,6 @@
 -- Calls that aren't refused, one after another: what the buffers hold after the first is what the second finds.
 use Rattle.std.specs.Prelude.{ℕ, ◌≤◌, ◌≡◌, Bool, true, cond, not, List, length, drop}
-use Rattle.std.proofs.Common.{sym, ap, ◌∙◌, subst, arith, length-append, length-drop, le-ltb}
-use Rattle.std.proofs.Math.Option.{Option, none, some}
+use Rattle.std.proofs.Common.{sym, ap, ◌∙◌, subst, arith, length-append, length-drop, le-ltb, Option, None, Some}
 use Rattle.refusal.specs.declared.Refusal.{Refusal}
 use Rattle.refusal.specs.declared.Refusal.TheVariants.{ShortBuffer}
 use Rattle.step.specs.State.{State}
@@ -45,29 +44,29 @@ holding_room n s b z e =
 
 -- ---- refusals that don't apply
 
-pub read_unrefused : (room : Room) (bytes : List ℕ) (i : Image) → decode bytes ≡ good i → fits (sizes_of (state_of i)) room ≡ true → read_refusal room bytes ≡ none
+pub read_unrefused : (room : Room) (bytes : List ℕ) (i : Image) → decode bytes ≡ good i → fits (sizes_of (state_of i)) room ≡ true → read_refusal room bytes ≡ None
 unfolding read_refusal decoded_refusal
-read_unrefused room bytes i d f = ap (decoded_refusal room) d ∙ ap (λ (t : Bool). cond (not t) (some ShortBuffer) none) f
+read_unrefused room bytes i d f = ap (decoded_refusal room) d ∙ ap (λ (t : Bool). cond (not t) (Some ShortBuffer) None) f
 
-pub state_unrefused : (n : Sizes) (b : Buffers) → fits n (room_of b) ≡ true → sound (fields_in n b) ≡ true → state_refusal n b ≡ none
+pub state_unrefused : (n : Sizes) (b : Buffers) → fits n (room_of b) ≡ true → sound (fields_in n b) ≡ true → state_refusal n b ≡ None
 unfolding state_refusal state_refused
 state_unrefused n b f e = rw (f, e)
 
-pub run_unrefused : (n : Sizes) (b : Buffers) (schedule : List ℕ) → state_refusal n b ≡ none → schedule_sound schedule ≡ true → run_refusal n b schedule ≡ none
+pub run_unrefused : (n : Sizes) (b : Buffers) (schedule : List ℕ) → state_refusal n b ≡ None → schedule_sound schedule ≡ true → run_refusal n b schedule ≡ None
 unfolding run_refusal or_else
 run_unrefused n b schedule e ok = rw (e, sound_unrefused schedule ok)
 
-pub output_unrefused : (room : ℕ) (image : List ℕ) → length image ≤ room → output_refusal room image ≡ none
+pub output_unrefused : (room : ℕ) (image : List ℕ) → length image ≤ room → output_refusal room image ≡ None
 unfolding output_refusal
 output_unrefused room image h = rw (le-ltb room (length image) h)
 
-pub write_unrefused : (n : Sizes) (b : Buffers) (room : ℕ) → state_refusal n b ≡ none → length (encode (fields_in n b)) ≤ room → write_refusal n b room ≡ none
+pub write_unrefused : (n : Sizes) (b : Buffers) (room : ℕ) → state_refusal n b ≡ None → length (encode (fields_in n b)) ≤ room → write_refusal n b room ≡ None
 unfolding write_refusal or_else
 write_unrefused n b room e h =
     ap (λ (o : Option Refusal). or_else o (output_refusal room (encode (fields_in n b)))) e ∙ output_unrefused room (encode (fields_in n b)) h
 
 -- buffers that hold a sound state whose sizes fit aren't refused
-pub held_unrefused : (n : Sizes) (s : State) (b : Buffers) → Sized n s → fits n (room_of b) ≡ true → sound s ≡ true → state_refusal n (holding s b) ≡ none
+pub held_unrefused : (n : Sizes) (s : State) (b : Buffers) → Sized n s → fits n (room_of b) ≡ true → sound s ≡ true → state_refusal n (holding s b) ≡ None
 held_unrefused n s b z f e = state_unrefused n (holding s b) (ap (fits n) (holding_room n s b z f) ∙ f) (ap sound (holding_fields n s b z) ∙ e)
 
 -- ---- what calls that aren't refused answer and leave
@@ -77,19 +76,19 @@ pub read_answers : (room : Room) (bytes : List ℕ) (i : Image) → decode bytes
 unfolding read_answer decoded_answer decoded_refusal unless
 read_answers room bytes i d f = ap (decoded_answer room) d ∙ rw f
 
-pub run_answers : (n : Sizes) (b : Buffers) (schedule : List ℕ) → run_refusal n b schedule ≡ none → run_answer n b schedule ≡ answers (run schedule (fields_in n b)).notes
+pub run_answers : (n : Sizes) (b : Buffers) (schedule : List ℕ) → run_refusal n b schedule ≡ None → run_answer n b schedule ≡ answers (run schedule (fields_in n b)).notes
 unfolding run_answer unless
 run_answers n b schedule e = rw e
 
-pub run_leaves_lem : (n : Sizes) (b : Buffers) (schedule : List ℕ) → run_refusal n b schedule ≡ none → run_leaves n b schedule ≡ holding (run schedule (fields_in n b)).state b
+pub run_leaves_lem : (n : Sizes) (b : Buffers) (schedule : List ℕ) → run_refusal n b schedule ≡ None → run_leaves n b schedule ≡ holding (run schedule (fields_in n b)).state b
 unfolding run_leaves run_answer unless leaving
 run_leaves_lem n b schedule e = rw e
 
-write_answers : (n : Sizes) (b : Buffers) (room : ℕ) → write_refusal n b room ≡ none → write_answer n b room ≡ answers (length (encode (fields_in n b)))
+write_answers : (n : Sizes) (b : Buffers) (room : ℕ) → write_refusal n b room ≡ None → write_answer n b room ≡ answers (length (encode (fields_in n b)))
 unfolding write_answer unless
 write_answers n b room e = rw e
 
-pub write_leaves_lem : (n : Sizes) (b : Buffers) (output : List ℕ) → write_refusal n b (length output) ≡ none → write_leaves n b output ≡ over (encode (fields_in n b)) output
+pub write_leaves_lem : (n : Sizes) (b : Buffers) (output : List ℕ) → write_refusal n b (length output) ≡ None → write_leaves n b output ≡ over (encode (fields_in n b)) output
 unfolding write_leaves write_answer unless leaving
 write_leaves_lem n b output e = rw e
 
@@ -102,18 +101,18 @@ module _ (b : Buffers) (bytes : List ℕ) (i : Image) (hb : Bytes bytes) (d : de
   abbrev held : Buffers
   held = read_leaves b bytes
 
-  unrefused : read_refusal (room_of b) bytes ≡ none
+  unrefused : read_refusal (room_of b) bytes ≡ None
   unrefused = read_unrefused (room_of b) bytes i d f
 
   is_read_lem : fields_in n held ≡ state_of i
   is_read_lem = read_in_place b bytes i d unrefused
 
-  read_sound : state_refusal n held ≡ none
+  read_sound : state_refusal n held ≡ None
   read_sound =
       ap (state_refusal n) (held_by_read b bytes i d unrefused) ∙ held_unrefused n (state_of i) b (read_sized i) f (reads_only_sound bytes hb i d)
 
   module _ (schedule : List ℕ) (ok : schedule_sound schedule ≡ true) where
-    pub read_run_unrefused : run_refusal n held schedule ≡ none
+    pub read_run_unrefused : run_refusal n held schedule ≡ None
     read_run_unrefused = run_unrefused n held schedule read_sound ok
 
     pub read_run_answers : run_answer n held schedule ≡ answers (run schedule (state_of i)).notes
@@ -126,7 +125,7 @@ module _ (b : Buffers) (bytes : List ℕ) (i : Image) (hb : Bytes bytes) (d : de
     is_written : encode (fields_in n held) ≡ bytes
     is_written = ap encode is_read_lem ∙ read_then_written bytes hb i d
 
-    read_write_unrefused : write_refusal n held (length output) ≡ none
+    read_write_unrefused : write_refusal n held (length output) ≡ None
     read_write_unrefused = write_unrefused n held (length output) read_sound (subst (λ (l : List ℕ). length l ≤ length output) (sym is_written) h)
 
     pub read_write_answers : write_answer n held (length output) ≡ answers (length bytes)
@@ -137,7 +136,7 @@ module _ (b : Buffers) (bytes : List ℕ) (i : Image) (hb : Bytes bytes) (d : de
 
 -- ---- run, then written
 
-module _ (n : Sizes) (b : Buffers) (schedule : List ℕ) (e : run_refusal n b schedule ≡ none) where
+module _ (n : Sizes) (b : Buffers) (schedule : List ℕ) (e : run_refusal n b schedule ≡ None) where
   abbrev after : State
   after = (run schedule (fields_in n b)).state
 
@@ -147,13 +146,13 @@ module _ (n : Sizes) (b : Buffers) (schedule : List ℕ) (e : run_refusal n b sc
   pub run_sound_after : sound after ≡ true
   run_sound_after = run_keeps_sound schedule (fields_in n b) (run_parts n b schedule e).1
 
-  run_sound : state_refusal n (run_leaves n b schedule) ≡ none
+  run_sound : state_refusal n (run_leaves n b schedule) ≡ None
   run_sound =
       let f = (run_parts n b schedule e).0 in
       ap (state_refusal n) (run_leaves_lem n b schedule e) ∙ held_unrefused n after b (run_sized n b schedule f) f run_sound_after
 
   module _ (output : List ℕ) (h : length (encode after) ≤ length output) where
-    run_write_unrefused : write_refusal n (run_leaves n b schedule) (length output) ≡ none
+    run_write_unrefused : write_refusal n (run_leaves n b schedule) (length output) ≡ None
     run_write_unrefused =
         write_unrefused n (run_leaves n b schedule) (length output) run_sound (subst (λ (s : State). length (encode s) ≤ length output) (sym is_run) h)
 

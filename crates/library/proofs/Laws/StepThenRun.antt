@@ -1,7 +1,6 @@
 -- One step by a call, then a run of the other items by another: what the second finds, and what both leave.
 use Rattle.std.specs.Prelude.{ℕ, suc, ◌≡◌, refl, Bool, true, false, cond, not, ◌&&◌, List, ◌∷◌, ltb, length}
-use Rattle.std.proofs.Common.{sym, ap, ◌∙◌, arith, ltb-false, le-ltb}
-use Rattle.std.proofs.Math.Option.{Option, none, some}
+use Rattle.std.proofs.Common.{sym, ap, ◌∙◌, arith, ltb-false, le-ltb, Option, None, Some}
 use Rattle.refusal.specs.declared.Refusal.{Refusal}
 use Rattle.refusal.specs.declared.Refusal.TheVariants.{ListTooLong, ItemOutOfRange}
 use Rattle.step.specs.State.{State}
@@ -20,13 +19,13 @@ use Rattle.library.proofs.Laws.InTurn.{held_unrefused, run_answers, run_leaves_l
 use Rattle.library.proofs.Laws.Refused.{or_else_none, or_else_second, run_parts}
 
 -- a list that isn't refused: neither is its first item, nor the list of the others
-schedule_parts : (t : ℕ) (ts : List ℕ) → schedule_refusal (t ∷ ts) ≡ none → (task_refusal t ≡ none) × (schedule_refusal ts ≡ none)
+schedule_parts : (t : ℕ) (ts : List ℕ) → schedule_refusal (t ∷ ts) ≡ None → (task_refusal t ≡ None) × (schedule_refusal ts ≡ None)
 unfolding schedule_refusal task_refusal every
 schedule_parts t ts e = go (ltb most_items (suc (length ts))) (item_sound t) (every item_sound ts) refl e
   where
     go : (l u v : Bool) → ltb most_items (suc (length ts)) ≡ l
-        → cond l (some ListTooLong) (cond (not (u && v)) (some ItemOutOfRange) none) ≡ none
-        → (cond (not u) (some ItemOutOfRange) none ≡ none) × (cond (ltb most_items (length ts)) (some ListTooLong) (cond (not v) (some ItemOutOfRange) none) ≡ none)
+        → cond l (Some ListTooLong) (cond (not (u && v)) (Some ItemOutOfRange) None) ≡ None
+        → (cond (not u) (Some ItemOutOfRange) None ≡ None) × (cond (ltb most_items (length ts)) (Some ListTooLong) (cond (not v) (Some ItemOutOfRange) None) ≡ None)
     go true u v q k = absurd (none_some ListTooLong (sym k))
     go false false v q k = absurd (none_some ItemOutOfRange (sym k))
     go false true false q k = absurd (none_some ItemOutOfRange (sym k))
@@ -34,26 +33,26 @@ schedule_parts t ts e = go (ltb most_items (suc (length ts))) (item_sound t) (ev
         let h = ltb-false most_items (suc (length ts)) q in
         (refl, rw (le-ltb most_items (length ts) (omega (arith, h))))
 
-or_else_both : (a b : Option Refusal) → a ≡ none → b ≡ none → or_else a b ≡ none
+or_else_both : (a b : Option Refusal) → a ≡ None → b ≡ None → or_else a b ≡ None
 unfolding or_else
 or_else_both a b e f = rw (e, f)
 
-module _ (n : Sizes) (b : Buffers) (t : ℕ) (ts : List ℕ) (e : run_refusal n b (t ∷ ts) ≡ none) where
+module _ (n : Sizes) (b : Buffers) (t : ℕ) (ts : List ℕ) (e : run_refusal n b (t ∷ ts) ≡ None) where
   abbrev s : State
   s = fields_in n b
 
   abbrev s' : State
   s' = (item t s).state
 
-  state : state_refusal n b ≡ none
+  state : state_refusal n b ≡ None
   unfolding run_refusal
   state = or_else_none (state_refusal n b) (schedule_refusal (t ∷ ts)) e
 
-  items : (task_refusal t ≡ none) × (schedule_refusal ts ≡ none)
+  items : (task_refusal t ≡ None) × (schedule_refusal ts ≡ None)
   unfolding run_refusal
   items = schedule_parts t ts (or_else_second (state_refusal n b) (schedule_refusal (t ∷ ts)) e)
 
-  pub step_unrefused : step_refusal n b t ≡ none
+  pub step_unrefused : step_refusal n b t ≡ None
   unfolding step_refusal
   step_unrefused = or_else_both (state_refusal n b) (task_refusal t) state items.0
 
@@ -71,7 +70,7 @@ module _ (n : Sizes) (b : Buffers) (t : ℕ) (ts : List ℕ) (e : run_refusal n 
   sized : Sized n s'
   sized = step_sized n b t fit
 
-  pub others_unrefused : run_refusal n (step_leaves n b t) ts ≡ none
+  pub others_unrefused : run_refusal n (step_leaves n b t) ts ≡ None
   unfolding run_refusal
   others_unrefused =
       or_else_both (state_refusal n (step_leaves n b t)) (schedule_refusal ts)

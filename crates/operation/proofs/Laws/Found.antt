@@ -1,29 +1,22 @@
 -- What an operation decides by what its lookups answer. An operand that is found lies in the window, so what is seen there is what stands there.
 use Rattle.std.specs.Prelude.{◌≡◌, refl, get_or, Bool, true, false, cond, leb, List, ℕ, ◌/◌, ◌^◌}
-use Rattle.std.proofs.Common.{sym, ap, ◌∙◌, true≢false}
+use Rattle.std.proofs.Common.{sym, ap, ◌∙◌, true≢false, Option, Some, None, Ok}
 use Rattle.std.proofs.Math.Path.{subst}
 use Rattle.word.specs.declared.Instruction.{Instruction}
 use Rattle.word.specs.declared.Part.{Part}
 use Rattle.window.specs.declared.Row.{Row}
-use Rattle.window.specs.declared.Place.{Place}
-use Rattle.window.specs.declared.Place.TheVariants.{At, Violation}
 use Rattle.window.specs.Windows.{window_of, inside, place_in, program_window, data_window, data_word_window, byte_place}
 use Rattle.window.proofs.Laws.Windows.{in_of, of_in, placed, word_inside}
 use Rattle.window.specs.Memories.{Memory, cell_at, cell_in, seen}
 use Rattle.window.proofs.Laws.Memories.{cell_inside, seen_inside}
 use Rattle.operand.specs.declared.Role.{Role}
 use Rattle.operand.specs.declared.Operand.{Operand}
-use Rattle.operand.specs.declared.Lookup.TheVariants.{Found}
-use Rattle.operand.specs.declared.Lookup.TheVariants as lookup
 use Rattle.operand.specs.Field.{lookup_of}
 use Rattle.operand.specs.Laws.Operands.{Within, lookup_within, visible_within}
 use Rattle.operation.specs.declared.Roles.{Roles}
 use Rattle.operation.specs.declared.Operation.{Operation}
 use Rattle.operation.specs.declared.Trap.TheVariants as trap
 use Rattle.operation.specs.declared.Decision.TheVariants.{Traps}
-use Rattle.operation.specs.declared.Specified.{Specified}
-use Rattle.operation.specs.declared.Specified.TheVariants as specified
-use Rattle.operation.specs.declared.Reach.TheVariants.{Reaches}
 use Rattle.word.specs.Fields.{pc_of, instruction_of}
 use Rattle.operation.specs.declared.Code.{Code}
 use Rattle.operation.specs.declared.Code.TheVariants.{Listed}
@@ -46,31 +39,31 @@ module _ (r : Roles) (op : Operation) (row : Row) (psw flag : ℕ) (program : Li
   refused e = rw e
 
   module _ (legal : illegal_instruction r op i ≡ false) where
-    pub no_first : lookup_of r.first row psw i.first ≡ lookup.Violation
+    pub no_first : lookup_of r.first row psw i.first ≡ None
         → Traps trap.ProtectionViolation psw ≡ decide_listed r op (environment_of row psw flag program constants registers data_words) i
     unfolding decide_listed environment_of decide_operands decide_lookups
     no_first e = rw (legal, e)
 
-    pub no_second : (a : Operand) → lookup_of r.first row psw i.first ≡ Found a → lookup_of r.second row psw i.second ≡ lookup.Violation
+    pub no_second : (a : Operand) → lookup_of r.first row psw i.first ≡ Some a → lookup_of r.second row psw i.second ≡ None
         → Traps trap.ProtectionViolation psw ≡ decide_listed r op (environment_of row psw flag program constants registers data_words) i
     unfolding decide_listed environment_of decide_operands decide_lookups
     no_second a d e = rw (legal, d, e)
 
-    pub no_third : (a b : Operand) → lookup_of r.first row psw i.first ≡ Found a → lookup_of r.second row psw i.second ≡ Found b
-        → lookup_of r.third row psw i.third ≡ lookup.Violation
+    pub no_third : (a b : Operand) → lookup_of r.first row psw i.first ≡ Some a → lookup_of r.second row psw i.second ≡ Some b
+        → lookup_of r.third row psw i.third ≡ None
         → Traps trap.ProtectionViolation psw ≡ decide_listed r op (environment_of row psw flag program constants registers data_words) i
     unfolding decide_listed environment_of decide_operands decide_lookups
     no_third a b d e f = rw (legal, d, e, f)
 
-    operand_found : (role : Role) (f : ℕ) (o : Operand) → lookup_of role row psw f ≡ Found o
+    operand_found : (role : Role) (f : ℕ) (o : Operand) → lookup_of role row psw f ≡ Some o
         → found_at registers constants role f o ≡ found_operand (environment_of row psw flag program constants registers data_words) role f o
     unfolding found_at found_operand environment_of
     operand_found role f o e =
-        let w : Within row (Found o) = subst (Within row) e (lookup_within role row psw f) in
+        let w : Within row (Some o) = subst (Within row) e (lookup_within role row psw f) in
         rw (visible_within row registers constants o w)
 
-    pub all_found : (a b c : Operand) → lookup_of r.first row psw i.first ≡ Found a → lookup_of r.second row psw i.second ≡ Found b
-        → lookup_of r.third row psw i.third ≡ Found c
+    pub all_found : (a b c : Operand) → lookup_of r.first row psw i.first ≡ Some a → lookup_of r.second row psw i.second ≡ Some b
+        → lookup_of r.third row psw i.third ≡ Some c
         → decide_found op (environment_of row psw flag program constants registers data_words) i
         (all_found_at registers constants r i.first i.second i.third a b c)
         ≡ decide_listed r op (environment_of row psw flag program constants registers data_words) i
@@ -79,29 +72,30 @@ module _ (r : Roles) (op : Operation) (row : Row) (psw flag : ℕ) (program : Li
         rw (legal, d, e, f, operand_found r.first i.first a d, operand_found r.second i.second b e, operand_found r.third i.third c f)
 
 -- a data word that is reached lies in the data window
-pub reached_inside : (row : Row) (low e a : ℕ) (part : Part) → data_reach low e (byte_place row e) ≡ Reaches a part → inside (data_word_window row) a ≡ true
+pub reached_inside : (row : Row) (low e a : ℕ) (part : Part) → data_reach low e (byte_place row e) ≡ Ok (a, part) → inside (data_word_window row) a ≡ true
 unfolding data_reach part_reach byte_place data_window data_word_window
 reached_inside row low e a part = go (leb (2 ^ 31) e)
   where
-    at : (b : ℕ) (s : Specified) → inside (window_of 8 row.db row.dl) b ≡ true → part_reach (b / 8) s ≡ Reaches a part
+    at : (b : ℕ) (s : Option Part) → inside (window_of 8 row.db row.dl) b ≡ true → part_reach (b / 8) s ≡ Ok (a, part)
         → inside (window_of 5 row.db row.dl) a ≡ true
-    at b specified.Illegal i q = let z : true ≡ false = cc in absurd (true≢false z)
-    at b (specified.Part other) i q =
-        let z : b / 8 ≡ a = cc in
+    at b None i q = let z : true ≡ false = cc in absurd (true≢false z)
+    at b (Some other) i q =
+        let pair : (b / 8, other) ≡ (a, part) = cc in
+        let z : b / 8 ≡ a = ap (λ (x : ℕ × Part). x.0) pair in
         subst (λ (n : ℕ). inside (window_of 5 row.db row.dl) n ≡ true) z
         (of_in _ _ (word_inside 3 5 row.db row.dl b (in_of _ _ i)))
 
-    placed_at : (p : Place) → place_in (window_of 8 row.db row.dl) e ≡ p → data_reach low e p ≡ Reaches a part → inside (window_of 5 row.db row.dl) a ≡ true
-    placed_at (At b) i q = at b (specified_part low e) (placed _ e b i) q
-    placed_at Violation i q = let z : true ≡ false = cc in absurd (true≢false z)
+    placed_at : (p : Option ℕ) → place_in (window_of 8 row.db row.dl) e ≡ p → data_reach low e p ≡ Ok (a, part) → inside (window_of 5 row.db row.dl) a ≡ true
+    placed_at (Some b) i q = at b (specified_part low e) (placed _ e b i) q
+    placed_at None i q = let z : true ≡ false = cc in absurd (true≢false z)
 
-    go : (t : Bool) → data_reach low e (cond t Violation (place_in (window_of 8 row.db row.dl) e)) ≡ Reaches a part
+    go : (t : Bool) → data_reach low e (cond t None (place_in (window_of 8 row.db row.dl) e)) ≡ Ok (a, part)
         → inside (window_of 5 row.db row.dl) a ≡ true
     go true q = let z : true ≡ false = cc in absurd (true≢false z)
     go false q = placed_at _ refl q
 
 -- so what is seen there is what stands there
-pub reached_seen : (row : Row) (low e a : ℕ) (part : Part) → data_reach low e (byte_place row e) ≡ Reaches a part → (m : Memory)
+pub reached_seen : (row : Row) (low e a : ℕ) (part : Part) → data_reach low e (byte_place row e) ≡ Ok (a, part) → (m : Memory)
     → cell_in (data_word_window row) m a ≡ cell_at m a
 reached_seen row low e a part q m = cell_inside (data_word_window row) m a (reached_inside row low e a part q)
 
@@ -111,7 +105,7 @@ unfolding decide_code
 under r op v i e = ap (λ (x : Roles). decide_listed x op v i) (sym e)
 
 -- a program word that is reached is seen
-pub fetched : (row : Row) (e a : ℕ) → place_in (program_window row) e ≡ At a → (l : List ℕ) → seen (program_window row) l a ≡ get_or l a 0
+pub fetched : (row : Row) (e a : ℕ) → place_in (program_window row) e ≡ Some a → (l : List ℕ) → seen (program_window row) l a ≡ get_or l a 0
 fetched row e a q l = seen_inside (program_window row) l a (placed (program_window row) e a q)
 
 -- a code and an operation that are told in two ways
@@ -122,7 +116,7 @@ pub as_listed : (o p : Operation) (v : Environment) (i : Instruction) → o ≡ 
 as_listed o p v i e = ap (λ (x : Operation). decide_code (Listed x) v i) (sym e)
 
 -- the instruction i at the real address a
-pub fetches : (v : Environment) (a w : ℕ) (i : Instruction) (k : Code) → place_in (program_window v.row) (pc_of v.psw) ≡ At a → v.program_word a ≡ w
+pub fetches : (v : Environment) (a w : ℕ) (i : Instruction) (k : Code) → place_in (program_window v.row) (pc_of v.psw) ≡ Some a → v.program_word a ≡ w
     → i ≡ instruction_of w → k ≡ code_of i.code → decide_code k v i ≡ decide v
 unfolding decide decide_fetched
 fetches v a w i k p q r s = rw (p, q, s, r)

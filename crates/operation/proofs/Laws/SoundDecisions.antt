@@ -2,7 +2,7 @@
 use Rattle.std.specs.Prelude.{◌≡◌, Bool, cond, ◌&&◌, ℕ, ◌+◌, ◌*◌, ◌/◌, ◌%◌, ◌^◌, ◌≤◌, ◌<◌}
 use Rattle.std.proofs.Math.Path.{refl}
 use Rattle.std.proofs.Math.Bool.{true, false, not}
-use Rattle.std.proofs.Common.{arith, eqb-true}
+use Rattle.std.proofs.Common.{arith, eqb-true, Option, Some, None, Result, Ok, Err}
 use Rattle.std.proofs.Math.Dec.{eqb}
 use Rattle.word.specs.declared.Instruction.{Instruction}
 use Rattle.word.specs.declared.Outcome.{Outcome}
@@ -13,10 +13,6 @@ use Rattle.word.proofs.Laws.Bools.{either}
 use Rattle.word.proofs.Laws.Words.{psw_sound_lem, next_sound, psw_word, not_word, eor_word, eqv_word, nand_word, nor_word, or_word, bitset_word, bitclr_word, encode1_word, encode0_word}
 use Rattle.word.proofs.Laws.Words.{Fits, add_fits_lem, sub_fits_lem, mul_fits_lem}
 use Rattle.window.specs.declared.Cell.{Cell}
-use Rattle.window.specs.declared.Place.{Place}
-use Rattle.window.specs.declared.Place.TheVariants.{At, Violation}
-use Rattle.window.specs.declared.Write.{Write}
-use Rattle.window.specs.declared.Write.TheVariants.{Nothing, Put}
 use Rattle.window.specs.Windows.{place_in, program_window, byte_place}
 use Rattle.window.specs.Sound.{word_sound, tag_sound, state_sound}
 use Rattle.window.proofs.Laws.Sound.{word_sound_lem, sound_word, full_sound, empty_sound, quality_sound_lem}
@@ -24,17 +20,10 @@ use Rattle.operand.specs.declared.Role.{Role}
 use Rattle.operand.specs.declared.Role.TheVariants.{Unused, Free, Destination, Source}
 use Rattle.operand.specs.declared.Operand.{Operand}
 use Rattle.operand.specs.declared.Operand.TheVariants.{Register, Constant, Absent}
-use Rattle.operand.specs.declared.Lookup.{Lookup}
-use Rattle.operand.specs.declared.Lookup.TheVariants.{Found}
-use Rattle.operand.specs.declared.Lookup.TheVariants as lookup
 use Rattle.operand.specs.Access.{code_line, emptying, source_left, destination_tag, destination_left}
 use Rattle.operation.specs.declared.Roles.{Roles}
 use Rattle.operation.specs.declared.Trap.{Trap}
 use Rattle.operation.specs.declared.Trap.TheVariants as trap
-use Rattle.operation.specs.declared.Specified.{Specified}
-use Rattle.operation.specs.declared.Specified.TheVariants as specified
-use Rattle.operation.specs.declared.Reach.{Reach}
-use Rattle.operation.specs.declared.Reach.TheVariants.{Reaches, Stops}
 use Rattle.operation.specs.declared.Three.{Three}
 use Rattle.operation.specs.declared.Three.TheVariants.{Eor, Eqv, Nand, Nor, Or, Bitclr, Bitset, Add, Sub, Mul}
 use Rattle.operation.specs.declared.Two.{Two}
@@ -72,9 +61,9 @@ pub record SoundEnvironment (v : Environment) : Type 0 where
   pub data_words : (a : ℕ) → word_sound (v.datum a).word ≡ true
 
 -- a write of a cell whose tag passes a test
-abbrev pub SoundWrite : (ℕ → Bool) → Write → Type 0
-SoundWrite tag Nothing = Unit {0}
-SoundWrite tag (Put a c) = (tag c.tag ≡ true) × (word_sound c.word ≡ true)
+abbrev pub SoundWrite : (ℕ → Bool) → Option (ℕ × Cell) → Type 0
+SoundWrite tag None = Unit {0}
+SoundWrite tag (Some (a, c)) = (tag c.tag ≡ true) × (word_sound c.word ≡ true)
 
 abbrev pub SoundFate : (flag : ℕ) → Fate → Type 0
 SoundFate flag (Continues p) = psw_sound p ≡ true
@@ -184,7 +173,7 @@ module _ (v : Environment) (h : SoundEnvironment v) where
   next_word = word_sound_lem _ (psw_word _ (next_sound v.psw))
 
   module _ (s : FoundOperands) (k : SoundOperands s) where
-    executed_sound : (destination datum : Write) (fate : Fate) → SoundWrite tag_sound destination → SoundWrite state_sound datum → SoundFate v.flag fate
+    executed_sound : (destination datum : Option (ℕ × Cell)) (fate : Fate) → SoundWrite tag_sound destination → SoundWrite state_sound datum → SoundFate v.flag fate
         → SoundDecision v.flag (executed s destination datum fate)
     unfolding executed
     executed_sound destination datum fate p q r = record {
@@ -217,7 +206,7 @@ module _ (v : Environment) (h : SoundEnvironment v) where
     create_sound c act = go (test_of v s c) (eqb v.flag 0) refl
       where
         go : (holds down : Bool) → eqb v.flag 0 ≡ down
-            → SoundDecision v.flag (cond (holds && not down) (Waits Create) (executed s Nothing Nothing (create_fate holds act v.psw s.second.cell.word)))
+            → SoundDecision v.flag (cond (holds && not down) (Waits Create) (executed s None None (create_fate holds act v.psw s.second.cell.word)))
         go true true e = executed_sound _ _ _ tt tt (eqb-true v.flag 0 e, next_sound v.psw, psw_sound_lem _ _ _ _)
         go true false e = tt
         go false down e = executed_sound _ _ _ tt tt (next_sound v.psw)
@@ -240,15 +229,15 @@ module _ (v : Environment) (h : SoundEnvironment v) where
         either (SoundDecision v.flag) (store_waits low (v.datum a).tag) tt
         (executed_sound _ _ _ tt (refl, word_sound_lem _ (placed_word part _ _ (sound_word _ w) (sound_word _ (h.data_words a)))) (next_sound v.psw))
 
-    part_sound : (P : Reach → Type 0) (a : ℕ) (r : Specified) → ((b : ℕ) (part : Part) → P (Reaches b part)) → ((k : Trap) → P (Stops k)) → P (part_reach a r)
+    part_sound : (P : Result (ℕ × Part) Trap → Type 0) (a : ℕ) (r : Option Part) → ((b : ℕ) (part : Part) → P (Ok (b, part))) → ((k : Trap) → P (Err k)) → P (part_reach a r)
     unfolding part_reach
-    part_sound P a (specified.Part part) f g = f a part
-    part_sound P a specified.Illegal f g = g _
+    part_sound P a (Some part) f g = f a part
+    part_sound P a None f g = g _
 
-    reach_sound : (P : Reach → Type 0) (low e : ℕ) (p : Place) → ((a : ℕ) (part : Part) → P (Reaches a part)) → ((k : Trap) → P (Stops k)) → P (data_reach low e p)
+    reach_sound : (P : Result (ℕ × Part) Trap → Type 0) (low e : ℕ) (p : Option ℕ) → ((a : ℕ) (part : Part) → P (Ok (a, part))) → ((k : Trap) → P (Err k)) → P (data_reach low e p)
     unfolding data_reach
-    reach_sound P low e (At a) f g = part_sound P (a / 8) (specified_part low e) f g
-    reach_sound P low e Violation f g = g trap.ProtectionViolation
+    reach_sound P low e (Some a) f g = part_sound P (a / 8) (specified_part low e) f g
+    reach_sound P low e None f g = g trap.ProtectionViolation
 
     perform_load_lem : (low e : ℕ) → SoundDecision v.flag (perform_load v s low e)
     unfolding perform_load load_from
@@ -283,13 +272,13 @@ module _ (v : Environment) (h : SoundEnvironment v) where
   unfolding found_operand
   operand_sound role f o = record { tag = h.tags o; word = h.words o }
 
-  lookups_sound : (r : Roles) (op : Operation) (i : Instruction) (l m n : Lookup) → SoundDecision v.flag (decide_lookups r op v i l m n)
+  lookups_sound : (r : Roles) (op : Operation) (i : Instruction) (l m n : Option Operand) → SoundDecision v.flag (decide_lookups r op v i l m n)
   unfolding decide_lookups found_operands
-  lookups_sound r op i (Found a) (Found b) (Found c) =
+  lookups_sound r op i (Some a) (Some b) (Some c) =
       found_sound _ (record { first = operand_sound _ _ a; second = operand_sound _ _ b; third = operand_sound _ _ c }) op i
-  lookups_sound r op i (Found a) (Found b) lookup.Violation = h.psw
-  lookups_sound r op i (Found a) lookup.Violation n = h.psw
-  lookups_sound r op i lookup.Violation m n = h.psw
+  lookups_sound r op i (Some a) (Some b) None = h.psw
+  lookups_sound r op i (Some a) None n = h.psw
+  lookups_sound r op i None m n = h.psw
 
   operands_sound : (r : Roles) (op : Operation) (i : Instruction) → SoundDecision v.flag (decide_operands r op v i)
   unfolding decide_operands
@@ -303,10 +292,10 @@ module _ (v : Environment) (h : SoundEnvironment v) where
   code_sound Svc i = either (SoundDecision v.flag) (illegal_fields svc_roles i) h.psw (next_sound v.psw)
   code_sound (Listed op) i = either (SoundDecision v.flag) (illegal_instruction (roles_of op) op i) h.psw (operands_sound (roles_of op) op i)
 
-  fetched_sound : (p : Place) → SoundDecision v.flag (decide_fetched v p)
+  fetched_sound : (p : Option ℕ) → SoundDecision v.flag (decide_fetched v p)
   unfolding decide_fetched
-  fetched_sound (At a) = code_sound (code_of (instruction_of (v.program_word a)).code) (instruction_of (v.program_word a))
-  fetched_sound Violation = h.psw
+  fetched_sound (Some a) = code_sound (code_of (instruction_of (v.program_word a)).code) (instruction_of (v.program_word a))
+  fetched_sound None = h.psw
 
 pub decide_sound : (v : Environment) → SoundEnvironment v → SoundDecision v.flag (decide v)
 unfolding decide

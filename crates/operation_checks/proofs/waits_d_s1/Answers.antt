@@ -10,4 +10,4 @@ pub returns-then-waits_d : goal.returns-then-waits_d
 returns-then-waits_d c = simp (c.if-waits_d.true, ← c.waits_d.ensures, c.if-plain_two.false, ← c.plain_two.ensures)
 
 pub returns : goal.returns
-returns c = simp (← c.waits.ensures, ← c.access.ensures, c.if-waits_d.false, ← c.waits_d.ensures, c.if-plain_two.false, ← c.plain_two.ensures)
+returns c = simp (← c.waits_source.ensures, c.if-waits_d.false, ← c.waits_d.ensures, c.if-plain_two.false, ← c.plain_two.ensures)

@@ -9,8 +9,10 @@ use Rattle.operand.specs.declared.Operand.{Operand}
 use Rattle.operand.specs.declared.Operand.TheVariants.{Register}
 use Rattle.operand.specs.Field.{constant_of, access_of}
 use Rattle.operand.specs.Access.{waits_of, masked_of}
-use Rattle.operand.specs.Code.Cells.{operand_cell, source_tag}
-use Rattle.operand.specs.Code.Spans.{released}
+use Rattle.operand.specs.Code.Cells.{operand_cell, held_cell, source_tag}
+use Rattle.operand.specs.Code.Spans.{number_in, released}
+use Rattle.operation_checks.specs.declared.FoundSource.{FoundSource}
+use Rattle.operation_checks.specs.declared.FoundDestination.{FoundDestination}
 
 -- a destination: the register d of the task
 pub record Destined (row : Row) (o : Operand) (d : ℕ) : Type 0 where
@@ -23,6 +25,25 @@ pub record Sourced (row : Row) (tags words : List ℕ) (constants : Memory) (f :
   pub within : access_of f ≡ 2 → inside (register_window row) a ≡ true
   pub full : constant_of f ≡ true → x ≡ 0
   pub holds : operand_cell (memory tags words) constants o ≡ cell (source_tag f a x constants.tags) s
+
+-- an operand that was found
+abbrev pub DestinationFound : (row : Row) (o : Operand) (d : FoundDestination) → Type 0
+DestinationFound row o d = Destined row o d.place
+
+abbrev pub SourceFound : (row : Row) (tags words : List ℕ) (constants : Memory) (o : Operand) (s : FoundSource) → Type 0
+SourceFound row tags words constants o s = Sourced row tags words constants s.field o s.place s.tag s.word
+
+-- what stands where a field leads
+unfoldable pub destination_at : (f : ℕ) → Operand → FoundDestination
+destination_at f o = record { field = f; place = number_in o }
+
+unfoldable pub source_at : (registers : Memory) (constant_words : List ℕ) (f : ℕ) → Operand → FoundSource
+source_at registers words f o = record {
+  field = f;
+  place = number_in o;
+  tag = (held_cell registers words o).tag;
+  word = (held_cell registers words o).word;
+}
 
 -- by role: the tag before the step, the access test, the mask, and the tags once the operand is let go
 abbrev pub tag_in : Role → (f a tag : ℕ) → (constant_tags : List ℕ) → ℕ

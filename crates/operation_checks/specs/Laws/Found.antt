@@ -1,5 +1,5 @@
 -- An operation that acts at once, once its operands are found: it waits, it traps, or it does what the operation performs. For any roles.
-use Rattle.std.specs.Prelude.{ℕ, ◌≡◌, Bool, true, false, ◌||◌, List, [], ◌∷◌, get_or, set}
+use Rattle.std.specs.Prelude.{ℕ, ◌≡◌, Bool, true, false, ◌||◌, List, [], ◌∷◌, get_or, set, Option, None}
 use Rattle.std.proofs.Math.Path.{refl, ap}
 use Rattle.std.proofs.Common.{sym, ◌∙◌}
 use Rattle.word.specs.Fields.{next_of}
@@ -8,8 +8,6 @@ use Rattle.word.specs.declared.Outcome.{Outcome}
 use Rattle.window.specs.declared.Row.{Row}
 use Rattle.window.specs.declared.Cell.{Cell}
 use Rattle.window.specs.declared.Window.{Window}
-use Rattle.window.specs.declared.Write.{Write}
-use Rattle.window.specs.declared.Write.TheVariants.{Nothing}
 use Rattle.window.specs.Windows.{inside, register_window, data_word_window}
 use Rattle.window.specs.Memories.{Memory, memory, cell, stored, stored_one, stored_all, written, tag_of, word_of}
 use Rattle.operand.specs.declared.Role.{Role}
@@ -52,7 +50,7 @@ unfolding destination_left stored_one stored
 put_one f w ac o d word quality l e i = rw (e, i)
 
 -- no data word is written
-pub no_datum : (row : Row) (n : Memory) → n ≡ written (data_word_window row) (Nothing ∷ []) n
+pub no_datum : (row : Row) (n : Memory) → n ≡ written (data_word_window row) (None ∷ []) n
 unfolding written stored_all stored_one
 no_datum row n = refl
 
@@ -90,15 +88,15 @@ module _ (row : Row) (tags words : List ℕ) (constants : Memory) (first second 
   sources_words = rw (p1.words_left, p2.words_left, p3.words_left)
 
   -- an execution without a destination
-  pub executes_sources : (datum : Write) (fate : Fate) (r : Course) (psws' tags' : List ℕ) (n' : Memory) → r ≡ fate_course fate → psws' ≡ fate_psws pt fresh fate psws
+  pub executes_sources : (datum : Option (ℕ × Cell)) (fate : Fate) (r : Course) (psws' tags' : List ℕ) (n' : Memory) → r ≡ fate_course fate → psws' ≡ fate_psws pt fresh fate psws
       → tags' ≡ left_in r3 third a3 x3 (left_in r2 second a2 x2 (left_in r1 first a1 x1 tags)) → n' ≡ written (data_word_window row) (datum ∷ []) n
-      → Performs row (executed (operands_at r1 r2 r3 first second third o1 o2 o3 t1 w1 t2 w2 t3 w3) Nothing datum fate) pt fresh r psws psws' (memory tags words) (memory tags' words) n n'
+      → Performs row (executed (operands_at r1 r2 r3 first second third o1 o2 o3 t1 w1 t2 w2 t3 w3) None datum fate) pt fresh r psws psws' (memory tags words) (memory tags' words) n n'
   unfolding executed written stored_all stored_one
   executes_sources datum fate r psws' tags' n' c f t h =
       performs_executes row pt fresh psws (memory tags words) n _ r psws' (memory tags' words) n' c f (rw (t, sources_tags, sources_words)) h
 
   -- an execution with a result for the destination d
-  pub executes_result : (d : ℕ) → Destined row o1 d → (out : Outcome) (datum : Write) (fate : Fate) (r : Course) (psws' tags' words' : List ℕ) (n' : Memory)
+  pub executes_result : (d : ℕ) → Destined row o1 d → (out : Outcome) (datum : Option (ℕ × Cell)) (fate : Fate) (r : Course) (psws' tags' words' : List ℕ) (n' : Memory)
       → r ≡ fate_course fate → psws' ≡ fate_psws pt fresh fate psws
       → tags' ≡ set (left_in r3 third a3 x3 (left_in r2 second a2 x2 (left_in r1 first a1 x1 tags))) d (destination_tag (access_of first) out.quality)
       → words' ≡ set words d out.word → n' ≡ written (data_word_window row) (datum ∷ []) n
@@ -156,22 +154,22 @@ module _ (row : Row) (tags words : List ℕ) (constants : Memory) (first second 
           performs_along row d _ pt fresh r psws psws' (memory tags words) m' n n' (rw (found_here, here_waits, free, here_masked, e) k) p
 
       -- an operation without a destination that leaves the data words
-      pub found_executes : masked ≡ false → (f : Fate) → executed (operands_at r1 r2 r3 first second third o1 o2 o3 t1 w1 t2 w2 t3 w3) Nothing Nothing f ≡ perform op v i (operands_at r1 r2 r3 first second third o1 o2 o3 t1 w1 t2 w2 t3 w3)
+      pub found_executes : masked ≡ false → (f : Fate) → executed (operands_at r1 r2 r3 first second third o1 o2 o3 t1 w1 t2 w2 t3 w3) None None f ≡ perform op v i (operands_at r1 r2 r3 first second third o1 o2 o3 t1 w1 t2 w2 t3 w3)
           → (r : Course) (psws' tags' : List ℕ) → r ≡ fate_course f → psws' ≡ fate_psws pt fresh f psws → tags' ≡ left_in r3 third a3 x3 (left_in r2 second a2 x2 (left_in r1 first a1 x1 tags))
           → Performs row (decide_found op v i (all_found_at (memory tags words) constants (roles r1 r2 r3) first second third o1 o2 o3))
           pt fresh r psws psws' (memory tags words) (memory tags' words) n n
       found_executes e f k r psws' tags' c g t =
-          found_performs e _ k r psws' (memory tags' words) n (executes_sources Nothing f r psws' tags' n c g t (no_datum row n))
+          found_performs e _ k r psws' (memory tags' words) n (executes_sources None f r psws' tags' n c g t (no_datum row n))
 
       -- an operation that writes a result and leaves the data words
       pub found_writes : masked ≡ false → (out : Outcome) (f : Fate)
-          → executed (operands_at r1 r2 r3 first second third o1 o2 o3 t1 w1 t2 w2 t3 w3) (result_in (found_with r1 first o1 (cell t1 w1)) out) Nothing f ≡ perform op v i (operands_at r1 r2 r3 first second third o1 o2 o3 t1 w1 t2 w2 t3 w3)
+          → executed (operands_at r1 r2 r3 first second third o1 o2 o3 t1 w1 t2 w2 t3 w3) (result_in (found_with r1 first o1 (cell t1 w1)) out) None f ≡ perform op v i (operands_at r1 r2 r3 first second third o1 o2 o3 t1 w1 t2 w2 t3 w3)
           → (d : ℕ) → Destined row o1 d → (r : Course) (psws' tags' words' : List ℕ) → r ≡ fate_course f → psws' ≡ fate_psws pt fresh f psws
           → tags' ≡ set (left_in r3 third a3 x3 (left_in r2 second a2 x2 (left_in r1 first a1 x1 tags))) d (destination_tag (access_of first) out.quality) → words' ≡ set words d out.word
           → Performs row (decide_found op v i (all_found_at (memory tags words) constants (roles r1 r2 r3) first second third o1 o2 o3))
           pt fresh r psws psws' (memory tags words) (memory tags' words') n n
       found_writes e out f k d z r psws' tags' words' c g t w =
-          found_performs e _ k r psws' (memory tags' words') n (executes_result d z out Nothing f r psws' tags' words' n c g t w (no_datum row n))
+          found_performs e _ k r psws' (memory tags' words') n (executes_result d z out None f r psws' tags' words' n c g t w (no_datum row n))
 
       -- the same, ending with PC + 1
       pub found_result : masked ≡ false → (out : Outcome) → perform_result v (operands_at r1 r2 r3 first second third o1 o2 o3 t1 w1 t2 w2 t3 w3) out ≡ perform op v i (operands_at r1 r2 r3 first second third o1 o2 o3 t1 w1 t2 w2 t3 w3) → (d : ℕ) → Destined row o1 d

@@ -1,5 +1,5 @@
 -- Operands by numbers against what the definitions say of them, for any role.
-use Rattle.std.specs.Prelude.{ℕ, ◌+◌, ◌/◌, ◌%◌, ◌^◌, ◌<◌, ◌≡◌, Bool, ◌||◌, ◌&&◌, List, eqb, get_or}
+use Rattle.std.specs.Prelude.{ℕ, ◌+◌, ◌/◌, ◌%◌, ◌^◌, ◌<◌, ◌≡◌, Bool, ◌||◌, ◌&&◌, List, eqb, get_or, Some, None}
 use Rattle.std.proofs.Math.Path.{refl, sym, ap, subst}
 use Rattle.std.proofs.Common.{◌∙◌, arith, eqb-true, lt-ltb}
 use Rattle.std.proofs.Math.Bool.{true, false, cond}
@@ -11,21 +11,21 @@ use Rattle.word.proofs.Laws.Bools.{Eq?, same, differ, eq?, and_left, and_right}
 use Rattle.window.specs.declared.Row.{Row}
 use Rattle.window.specs.declared.Cell.{Cell}
 use Rattle.window.specs.declared.Window.{Window}
-use Rattle.window.specs.declared.Write.TheVariants.{Nothing}
 use Rattle.window.specs.Windows.{inside, register_window}
 use Rattle.window.specs.Memories.{Memory, memory, cell, cell_at, constant_at, quality_in, stored, stored_one, tag_of, word_of}
 use Rattle.operand.specs.declared.Role.{Role}
 use Rattle.operand.specs.declared.Role.TheVariants.{Unused, Free, Destination, Source}
 use Rattle.operand.specs.declared.Operand.{Operand}
 use Rattle.operand.specs.declared.Operand.TheVariants.{Register, Constant, Absent}
-use Rattle.operand.specs.declared.Lookup.TheVariants.{Found}
 use Rattle.operand.specs.Field.{constant_of, access_of, lookup_of}
 use Rattle.operand.specs.Access.{access_codes, code_line, source_waits, destination_waits, waits_of, masked_of, emptying, source_left, destination_tag}
 use Rattle.operand.specs.Code.Cells.{operand_cell, held_cell, source_tag}
 use Rattle.operand.specs.Laws.Access.{source_emptied_by}
 use Rattle.operand.specs.Code.Spans.{number_in, released}
 use Rattle.operand.specs.Laws.Spans.{destination_register, destination_inside, source_constant, source_plain, source_register, source_inside}
-use Rattle.operation_checks.specs.Code.Operands.{Destined, Sourced, tag_in, waits_in, masked_in, left_in}
+use Rattle.operation_checks.specs.declared.FoundSource.{FoundSource}
+use Rattle.operation_checks.specs.declared.FoundDestination.{FoundDestination}
+use Rattle.operation_checks.specs.Code.Operands.{Destined, Sourced, DestinationFound, SourceFound, destination_at, source_at, tag_in, waits_in, masked_in, left_in}
 
 pub waits_in_lem : (r : Role) (ac tag : ℕ) → waits_of r ac tag ≡ waits_in r ac tag
 unfolding waits_of
@@ -106,9 +106,6 @@ module _ (f g h : ℕ) (e : eqb (f / 2 ^ 11 % 2 ^ 3) 0 && (eqb (g / 2 ^ 11 % 2 ^
   three_left q a x b y l = (full_tag_lem f q (plain_access f (and_left (plainly f) (plainly g && plainly h) e)), two_released g h rest a x b y l)
 
 -- what is told in parts
-pub wait_told : (w : Bool) (m f x : ℕ) → w ≡ waits_of Source m x → m ≡ access_of f → w ≡ waits_of Source (access_of f) x
-wait_told w m f x e g = e ∙ ap (λ k. waits_of Source k x) g
-
 pub tag_told : (n m f q : ℕ) → n ≡ destination_tag m q → m ≡ access_of f → n ≡ destination_tag (access_of f) q
 tag_told n m f q e g = e ∙ ap (λ k. destination_tag k q) g
 
@@ -197,7 +194,7 @@ module _ (row : Row) (tags words : List ℕ) (constants : Memory) (f : ℕ) wher
     tags_left_lem l = rw (source_emptied_by (access_of f)) (go (eqb (access_of f) 2) (eq? (access_of f) 2))
       where
         go : (t : Bool) → Eq? (access_of f) 2 t
-            → stored_one tag_of (register_window row) (cond t (emptying o (cell held s)) Nothing) l ≡ cond t (set l a (x % 8 + 8)) l
+            → stored_one tag_of (register_window row) (cond t (emptying o (cell held s)) None) l ≡ cond t (set l a (x % 8 + 8)) l
         go true (same e) = empties tag_of (register_window row) o a (cell held s) l (p.register e) (p.within e) ∙ ap (λ (t : ℕ). set l a (t % 8 + 8)) (tag_tested f a x constants.tags (λ z. omega (arith, e, z)))
         go false (differ h) = refl
 
@@ -205,7 +202,7 @@ module _ (row : Row) (tags words : List ℕ) (constants : Memory) (f : ℕ) wher
     unfolding source_left stored_one
     words_left_lem = rw (source_emptied_by (access_of f)) (go (eqb (access_of f) 2) (eq? (access_of f) 2))
       where
-        go : (t : Bool) → Eq? (access_of f) 2 t → stored_one word_of (register_window row) (cond t (emptying o (cell held s)) Nothing) words ≡ words
+        go : (t : Bool) → Eq? (access_of f) 2 t → stored_one word_of (register_window row) (cond t (emptying o (cell held s)) None) words ≡ words
         go true (same e) =
             empties word_of (register_window row) o a (cell held s) words (p.register e) (p.within e) ∙ ap (set words a) (its_word e) ∙ set-get_or words a 0
         go false (differ h) = refl
@@ -218,12 +215,12 @@ module _ (row : Row) (tags words : List ℕ) (constants : Memory) (f : ℕ) wher
     held_test c w psw = tested_alike f a x constants.tags p.full c w psw
 
 -- ---- what a lookup finds
-pub destined : (row : Row) (psw f : ℕ) (o : Operand) (d : ℕ) → lookup_of Destination row psw f ≡ Found o → d ≡ number_in o → Destined row o d
+pub destined : (row : Row) (psw f : ℕ) (o : Operand) (d : ℕ) → lookup_of Destination row psw f ≡ Some o → d ≡ number_in o → Destined row o d
 destined row psw f o d e k =
     let r : o ≡ Register d = destination_register row psw f o e ∙ ap Register (sym k) in
     record { register = r; within = destination_inside row psw f o d e r }
 
-pub sourced : (row : Row) (tags words : List ℕ) (constants : Memory) (psw f : ℕ) (o : Operand) (c : Cell) (a : ℕ) → lookup_of Source row psw f ≡ Found o
+pub sourced : (row : Row) (tags words : List ℕ) (constants : Memory) (psw f : ℕ) (o : Operand) (c : Cell) (a : ℕ) → lookup_of Source row psw f ≡ Some o
     → c ≡ held_cell (memory tags words) constants.words o → a ≡ number_in o → Sourced row tags words constants f o a c.tag c.word
 unfolding operand_cell held_cell constant_at source_tag
 sourced row tags words constants psw f o c a e h k = record {
@@ -241,3 +238,27 @@ sourced row tags words constants psw f o c a e h k = record {
     go false z =
         let q : o ≡ Register a = source_plain row psw f o e z ∙ ap Register (sym k) in
         ap (operand_cell (memory tags words) constants) q ∙ sym (h ∙ ap (held_cell (memory tags words) constants.words) q)
+
+-- the operands as code holds them
+pub destination_field : (f : ℕ) (o : Operand) (d : FoundDestination) → d ≡ destination_at f o → d.field ≡ f
+unfolding destination_at
+destination_field f o d e = ap (λ (x : FoundDestination). x.field) e
+
+pub source_field : (m : Memory) (l : List ℕ) (f : ℕ) (o : Operand) (s : FoundSource) → s ≡ source_at m l f o → s.field ≡ f
+unfolding source_at
+source_field m l f o s e = ap (λ (x : FoundSource). x.field) e
+
+pub destination_found : (row : Row) (psw f : ℕ) (o : Operand) (d : FoundDestination) → lookup_of Destination row psw f ≡ Some o → d ≡ destination_at f o → DestinationFound row o d
+unfolding destination_at
+destination_found row psw f o d e k = destined row psw f o d.place e (ap (λ (x : FoundDestination). x.place) k)
+
+pub source_found : (row : Row) (tags words : List ℕ) (constants : Memory) (psw f : ℕ) (o : Operand) (s : FoundSource) → lookup_of Source row psw f ≡ Some o
+    → s ≡ source_at (memory tags words) constants.words f o → SourceFound row tags words constants o s
+unfolding source_at
+source_found row tags words constants psw f o s e k =
+    subst (λ (x : FoundSource). SourceFound row tags words constants o x) (sym k)
+    (sourced row tags words constants psw f o (held_cell (memory tags words) constants.words o) (number_in o) e refl refl)
+
+-- two tests, one of which is told
+pub or_told : (r a b x : Bool) → r ≡ a || x → a ≡ b → r ≡ b || x
+or_told r a b x e k = e ∙ ap (λ (t : Bool). t || x) k

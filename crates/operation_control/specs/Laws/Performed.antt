@@ -1,12 +1,11 @@
 -- What NOP, B, CALL, CREATE, QT and SVC perform, by the tests that code makes.
-use Rattle.std.specs.Prelude.{ℕ, ◌+◌, ◌*◌, ◌^◌, ◌≡◌, Bool, true, false, cond, ◌||◌, List, get_or, set}
+use Rattle.std.specs.Prelude.{ℕ, ◌+◌, ◌*◌, ◌^◌, ◌≡◌, Bool, true, false, cond, ◌||◌, List, get_or, set, None}
 use Rattle.std.proofs.Math.Path.{refl, ap}
 use Rattle.std.proofs.Common.{sym, ap₂, ◌∙◌}
 use Rattle.word.specs.Fields.{next_of}
 use Rattle.word.specs.Tests.{holds_of}
 use Rattle.word.specs.declared.Instruction.{Instruction}
 use Rattle.window.specs.declared.Row.{Row}
-use Rattle.window.specs.declared.Write.TheVariants.{Nothing}
 use Rattle.window.specs.Memories.{Memory}
 use Rattle.operand.specs.declared.Role.TheVariants.{Unused}
 use Rattle.operand.specs.Field.{illegal_field}
@@ -29,30 +28,30 @@ use Rattle.step.specs.Code.Performs.{trap_course, Performs}
 use Rattle.step.proofs.Laws.Performs.{performs_along, performs_traps, performs_stores}
 
 module _ (v : Environment) (i : Instruction) (s : FoundOperands) (psw : ℕ) (of : v.psw ≡ psw) where
-  pub nop_performed : executed s Nothing Nothing (Continues (next_of psw)) ≡ perform operation.Nop v i s
+  pub nop_performed : executed s None None (Continues (next_of psw)) ≡ perform operation.Nop v i s
   unfolding perform
   nop_performed = rw of
 
   pub branch_performed : (c p first y : ℕ) → i.first ≡ first → holds_of c s.third.cell.word y psw ≡ holds_of c s.third.cell.word s.third.cell.tag psw
-      → executed s Nothing Nothing
+      → executed s None None
       (Continues (cond (holds_of c s.third.cell.word y psw) (branched psw (p * 2 ^ 16 + first) s.second.cell.word) (next_of psw)))
       ≡ perform (operation.Branch c p) v i s
   unfolding perform perform_branch test_of
   branch_performed c p first y e h = rw (of, e, h)
 
   pub call_performed : (c w y : ℕ) → w ≡ next_of psw → holds_of c s.third.cell.word y psw ≡ holds_of c s.third.cell.word s.third.cell.tag psw
-      → executed s (result_in s.first (quality0 w)) Nothing
+      → executed s (result_in s.first (quality0 w)) None
       (Continues (cond (holds_of c s.third.cell.word y psw) (called psw s.second.cell.word) (next_of psw)))
       ≡ perform (operation.Call c) v i s
   unfolding perform perform_call test_of
   call_performed c w y e h = rw (of, e, h)
 
   module _ (c : ℕ) (t : Bool) (h : t ≡ holds_of c s.third.cell.word s.third.cell.tag psw) where
-    pub quits : t ≡ true → executed s Nothing Nothing Quits ≡ perform (operation.Quit c) v i s
+    pub quits : t ≡ true → executed s None None Quits ≡ perform (operation.Quit c) v i s
     unfolding perform perform_quit test_of
     quits e = rw (of, ← h, e)
 
-    pub stays : t ≡ false → executed s Nothing Nothing (Continues (next_of psw)) ≡ perform (operation.Quit c) v i s
+    pub stays : t ≡ false → executed s None None (Continues (next_of psw)) ≡ perform (operation.Quit c) v i s
     unfolding perform perform_quit test_of
     stays e = rw (of, ← h, e)
 
@@ -62,11 +61,11 @@ module _ (v : Environment) (i : Instruction) (s : FoundOperands) (psw : ℕ) (of
       create_waits_lem e = rw (of, up, ← h, ← k, e)
 
       pub creates : w ≡ false → t ≡ true
-          → executed s Nothing Nothing (Creates (next_of psw) (created act psw s.second.cell.word)) ≡ perform (operation.Create c act) v i s
+          → executed s None None (Creates (next_of psw) (created act psw s.second.cell.word)) ≡ perform (operation.Create c act) v i s
       unfolding perform perform_create test_of create_fate
       creates e f = rw (of, up, ← h, ← k, e, f)
 
-      pub creates_none : w ≡ false → t ≡ false → executed s Nothing Nothing (Continues (next_of psw)) ≡ perform (operation.Create c act) v i s
+      pub creates_none : w ≡ false → t ≡ false → executed s None None (Continues (next_of psw)) ≡ perform (operation.Create c act) v i s
       unfolding perform perform_create test_of create_fate
       creates_none e f = rw (of, up, ← h, ← k, e, f)
 

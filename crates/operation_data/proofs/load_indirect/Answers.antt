@@ -3,22 +3,22 @@ use Rattle.operation.proofs.Laws.Found.{told}
 use mathlib.Core.Path.{refl}
 use Rattle.operand.specs.Field.{lookup_of}
 use Rattle.operand.specs.Laws.Spans.{source_told, destination_told}
-use Rattle.operation_checks.specs.Laws.Operands.{destined, sourced}
+use Rattle.operation_checks.specs.Laws.Operands.{destination_field, destination_found, source_field, source_found, or_told}
 use Rattle.operation_checks.specs.Laws.Listed.{listed_illegal, first_violated, second_violated, listed_found}
 use Rattle.operation_data.proofs.load_indirect.Goals as goal
 
-pub returns-then-illegal_load_d_s1 : goal.returns-then-illegal_load_d_s1
+pub returns-then-illegal : goal.returns-then-illegal
 unfolding illegal_instruction illegal_access illegal_fields
-returns-then-illegal_load_d_s1 c = λ row code flag fresh program s span own. listed_illegal _ _ _ _ _ _ _ _ _ _ _ _ _ own (told c.illegal_load_d_s1.ensures c.if-illegal_load_d_s1.true)
+returns-then-illegal c = λ row code flag fresh program s span own. listed_illegal _ _ _ _ _ _ _ _ _ _ _ _ _ own (told (or_told _ _ _ _ c.illegal.ensures c.illegal_load.ensures) c.if-illegal.true)
 
 pub returns-in_default : goal.returns-in_default
 unfolding illegal_instruction illegal_access illegal_fields
-returns-in_default c = λ row code flag fresh program s span own. first_violated _ _ _ _ _ _ _ _ _ _ _ _ _ (told c.illegal_load_d_s1.ensures c.if-illegal_load_d_s1.false) own (destination_told row _ _ _ s _ _ _ _ c.destination.ensures c.in_default.is)
+returns-in_default c = λ row code flag fresh program s span own. first_violated _ _ _ _ _ _ _ _ _ _ _ _ _ (told (or_told _ _ _ _ c.illegal.ensures c.illegal_load.ensures) c.if-illegal.false) own (destination_told row _ _ _ s _ _ _ _ c.destination.ensures c.in_default.is)
 
 pub returns-in_default-source : goal.returns-in_default-source
 unfolding illegal_instruction illegal_access illegal_fields
-returns-in_default-source c = λ row code flag fresh program s span own. second_violated _ _ _ _ _ _ _ _ _ _ _ _ _ (told c.illegal_load_d_s1.ensures c.if-illegal_load_d_s1.false) own _ (destination_told row _ _ _ s _ _ _ _ c.destination.ensures c.in-Found.is) (source_told row _ _ _ s _ _ _ _ c.source.ensures c.in_default-source.is)
+returns-in_default-source c = λ row code flag fresh program s span own. second_violated _ _ _ _ _ _ _ _ _ _ _ _ _ (told (or_told _ _ _ _ c.illegal.ensures c.illegal_load.ensures) c.if-illegal.false) own _ (destination_told row _ _ _ s _ _ _ _ c.destination.ensures c.in-Some.is) (source_told row _ _ _ s _ _ _ _ c.source.ensures c.in_default-source.is)
 
 pub returns : goal.returns
 unfolding illegal_instruction illegal_access illegal_fields lookup_of
-returns c = λ row code flag fresh program s span own. listed_found _ _ _ _ _ _ _ _ _ _ _ _ _ (told c.illegal_load_d_s1.ensures c.if-illegal_load_d_s1.false) _ _ _ (destination_told row _ _ _ s _ _ _ _ c.destination.ensures c.in-Found.is) (source_told row _ _ _ s _ _ _ _ c.source.ensures c.in-Found-source.is) refl _ _ _ _ (c.load_indirect_found.ensures row _ flag fresh program _ _ _ _ span own (destined row _ _ _ _ (destination_told row _ _ _ s _ _ _ _ c.destination.ensures c.in-Found.is) c.number.ensures) (sourced row _ _ _ _ _ _ _ _ (source_told row _ _ _ s _ _ _ _ c.source.ensures c.in-Found-source.is) c.cell-x.ensures c.number-2.ensures))
+returns c = λ row code flag fresh program s span own. listed_found _ _ _ _ _ _ _ _ _ _ _ _ _ (told (or_told _ _ _ _ c.illegal.ensures c.illegal_load.ensures) c.if-illegal.false) _ _ _ (destination_field _ _ _ c.found_destination-d.ensures) (source_field _ _ _ _ _ c.found_source-s1.ensures) refl _ _ _ (destination_told row _ _ _ s _ _ _ _ c.destination.ensures c.in-Some.is) (source_told row _ _ _ s _ _ _ _ c.source.ensures c.in-Some-source.is) refl _ _ _ _ (c.load_indirect_found.ensures row _ flag fresh program _ _ _ _ span own (destination_found row _ _ _ _ (destination_told row _ _ _ s _ _ _ _ c.destination.ensures c.in-Some.is) c.found_destination-d.ensures) (source_found row _ _ _ _ _ _ _ (source_told row _ _ _ s _ _ _ _ c.source.ensures c.in-Some-source.is) c.found_source-s1.ensures))

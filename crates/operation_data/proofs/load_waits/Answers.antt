@@ -8,4 +8,4 @@ returns-then-low-eq0 c = simp (eq-eqb _ _ c.if-low-eq0.true)
 
 pub returns : goal.returns
 unfolding load_waits
-returns c = simp (ne_eqb _ _ c.if-low-eq0.false, ← c.tag_at.ensures)
+returns c = simp (ne_eqb _ _ c.if-low-eq0.false, ← c.at_or.ensures)

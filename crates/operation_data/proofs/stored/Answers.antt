@@ -8,4 +8,4 @@ pub returns-then-part-ge64 : goal.returns-then-part-ge64
 returns-then-part-ge64 c = whole_placed c.args.part c.args.word _ (omega arith) (omega arith) (c.shared_slice_known-1.given c.args.p).fits
 
 pub returns : goal.returns
-returns c = c.placed.ensures ∙ ap (placed c.args.part c.args.word) c.word_at.ensures
+returns c = c.placed.ensures ∙ ap (placed c.args.part c.args.word) c.at_or.ensures

@@ -1,12 +1,10 @@
 -- What is performed for a code, an operation and an instruction that are told in two ways.
-use Rattle.std.specs.Prelude.{ℕ, ◌≡◌, List, get_or}
+use Rattle.std.specs.Prelude.{ℕ, ◌≡◌, List, get_or, Option, Some, None}
 use Rattle.std.proofs.Math.Path.{refl, sym}
 use Rattle.std.proofs.Common.{ap, ◌∙◌}
 use Rattle.word.specs.Fields.{pc_of, instruction_of}
 use Rattle.word.specs.declared.Instruction.{Instruction}
 use Rattle.window.specs.declared.Row.{Row}
-use Rattle.window.specs.declared.Place.{Place}
-use Rattle.window.specs.declared.Place.TheVariants.{At, Violation}
 use Rattle.window.specs.Windows.{place_in, program_window}
 use Rattle.window.specs.Code.Spans.{Span, place_below}
 use Rattle.window.proofs.Laws.Spans.{place_below_lem}
@@ -49,21 +47,21 @@ code_traps row v i pt fresh psws m n k l t r e d f own =
 -- ---- the instruction at PC
 module _ (row : Row) (psw flag : ℕ) (program : List ℕ) (constants m n : Memory) (base end pc : ℕ) (s : Span (program_window row) base end) (q : pc ≡ pc_of psw)
     (pt fresh : ℕ) (psws : List ℕ) where
-  at_pc : (p x : Place) → p ≡ place_below base end pc → p ≡ x → place_in (program_window row) (pc_of psw) ≡ x
+  at_pc : (p x : Option ℕ) → p ≡ place_below base end pc → p ≡ x → place_in (program_window row) (pc_of psw) ≡ x
   at_pc p x e f = sym (place_below_lem (program_window row) base end s (pc_of psw)) ∙ ap (place_below base end) (sym q) ∙ sym e ∙ f
 
-  pub outside : (p : Place) → p ≡ place_below base end pc → p ≡ Violation → psw ≡ get_or psws pt 0
+  pub outside : (p : Option ℕ) → p ≡ place_below base end pc → p ≡ None → psw ≡ get_or psws pt 0
       → Performs row (decide (environment_of row psw flag program constants m n)) pt fresh go.ProtectionViolation psws psws m m n n
   unfolding decide decide_fetched environment_of trap_course
   outside p e f own =
-      performs_along row _ _ pt fresh go.ProtectionViolation psws psws m m n n (rw (at_pc p Violation e f))
+      performs_along row _ _ pt fresh go.ProtectionViolation psws psws m m n n (rw (at_pc p None e f))
       (performs_traps row pt fresh psws m n trap.ProtectionViolation psw go.ProtectionViolation refl own)
 
-  pub fetches_told : (p : Place) (a w : ℕ) (i : Instruction) (k : Code) → p ≡ place_below base end pc → p ≡ At a → w ≡ get_or program a 0 → i ≡ instruction_of w → k ≡ code_of i.code
+  pub fetches_told : (p : Option ℕ) (a w : ℕ) (i : Instruction) (k : Code) → p ≡ place_below base end pc → p ≡ Some a → w ≡ get_or program a 0 → i ≡ instruction_of w → k ≡ code_of i.code
       → (r : Course) (psws' : List ℕ) (m' n' : Memory)
       → Performs row (decide_code k (environment_of row psw flag program constants m n) i) pt fresh r psws psws' m m' n n'
       → Performs row (decide (environment_of row psw flag program constants m n)) pt fresh r psws psws' m m' n n'
   unfolding environment_of
   fetches_told p a w i k e f g h j r psws' m' n' x =
       performs_along row _ _ pt fresh r psws psws' m m' n n'
-      (fetches _ a w i k (at_pc p (At a) e f) (fetched row (pc_of psw) a (at_pc p (At a) e f) program ∙ sym g) h j) x
+      (fetches _ a w i k (at_pc p (Some a) e f) (fetched row (pc_of psw) a (at_pc p (Some a) e f) program ∙ sym g) h j) x

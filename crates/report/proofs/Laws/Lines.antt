@@ -1,8 +1,7 @@
 -- The line of a task in a report: where it stands, and that it goes by what the task owns.
 use Rattle.std.specs.Prelude.{ℕ, ◌+◌, ◌≡◌, true, length}
 use Rattle.std.proofs.Math.Path.{refl, sym, ap, subst}
-use Rattle.std.proofs.Common.{ap₂, ◌∙◌, le-ltb}
-use Rattle.std.proofs.Math.Option.{Option, none, some}
+use Rattle.std.proofs.Common.{ap₂, ◌∙◌, le-ltb, Option, None, Some}
 use mathlib.Core.List.{List, [], ◌∷◌, ◌++◌, append_assoc}
 use Rattle.window.specs.declared.Row.{Row}
 use Rattle.step.specs.declared.Processes.{Processes}
@@ -31,7 +30,7 @@ module _ (x : Ran) where
   abbrev lines : List Row → List ℕ
   lines rows = row_lines x.state.table x.notes rows
 
-  lines_found : (t : ℕ) (rows : List Row) (r : Row) → find_row t rows ≡ some r → StandsIn x (line_of_lem r) (lines rows)
+  lines_found : (t : ℕ) (rows : List Row) (r : Row) → find_row t rows ≡ Some r → StandsIn x (line_of_lem r) (lines rows)
   unfolding row_lines
   lines_found t [] r e = absurd (none_some r (unfold find_row in e))
   lines_found t (y ∷ rows) r e =
@@ -54,9 +53,9 @@ module _ (x : Ran) where
   unfolding report_of task_line line_of
   line_printed t line e = go (find_row t x.state.rows) refl e
     where
-      go : (o : Option Row) → find_row t x.state.rows ≡ o → line_of x.state.table x.notes o ≡ some line → StandsIn x line (report_of x)
-      go none q k = absurd (none_some line k)
-      go (some r) q k =
+      go : (o : Option Row) → find_row t x.state.rows ≡ o → line_of x.state.table x.notes o ≡ Some line → StandsIn x line (report_of x)
+      go None q k = absurd (none_some line k)
+      go (Some r) q k =
           subst (λ (y : List ℕ). StandsIn x y (report_of x)) (some_inj (line_of_lem r) line k)
           (behind_more _ (lines_found t x.state.rows r q))
 
@@ -78,16 +77,16 @@ line_same t x x' c c' e f = go (find_row t x.state.rows) (find_row t x'.state.ro
   where
     go : (o o' : Option Row) → find_row t x.state.rows ≡ o → own_in x.state.table.users t o ≡ own_in x'.state.table.users t o'
         → line_of x.state.table x.notes o ≡ line_of x'.state.table x'.notes o'
-    go none none q k = refl
-    go none (some r) q k = absurd (none_some (own_of r t x'.state.table.users.psw x'.state.table.users.queues) k)
-    go (some r) none q k = absurd (none_some (own_of r t x.state.table.users.psw x.state.table.users.queues) (sym k))
-    go (some r) (some r') q k =
+    go None None q k = refl
+    go None (Some r) q k = absurd (none_some (own_of r t x'.state.table.users.psw x'.state.table.users.queues) k)
+    go (Some r) None q k = absurd (none_some (own_of r t x.state.table.users.psw x.state.table.users.queues) (sym k))
+    go (Some r) (Some r') q k =
         let u = some_inj (own_of r t x.state.table.users.psw x.state.table.users.queues) (own_of r' t x'.state.table.users.psw x'.state.table.users.queues) k in
         let task : r.task ≡ t = find_task t x.state.rows r q in
         let live : live_count x.state.table.users r.task ≡ live_count x'.state.table.users r.task =
         rw task (same_count x.state.table.users x'.state.table.users t c c' (ap (λ (o : Own). o.processes) u) (ap (λ (o : Own). o.waiting) u)) in
         let counts : own_counts r.task x.notes ≡ own_counts r.task x'.notes = rw task f in
-        ap (λ (l : List ℕ). some l) (line_counted x.state.table x'.state.table r (own_counts r.task x.notes) live
+        ap (λ (l : List ℕ). Some l) (line_counted x.state.table x'.state.table r (own_counts r.task x.notes) live
         ∙ ap (row_line x'.state.table r) counts ∙ ap (λ (o : Own). row_line x'.state.table o.row (own_counts o.row.task x'.notes)) u)
 
 -- ---- the output of a whole input

@@ -3,9 +3,11 @@ use Rattle.std.specs.Prelude.{ℕ, suc, ◌+◌, ◌≤◌, ◌<◌, ◌≡◌, 
 use Rattle.std.proofs.Common.{ap, sym, ◌∙◌, arith, lt-ltb, le-ltb, length-append, take_all}
 use Rattle.std.proofs.lemmas.List.{set_at}
 use Rattle.std.proofs.Math.Seq.{append_snoc}
+use Rattle.std.specs.Borrow.{MutBor}
 use Rattle.image.specs.Fields.{over}
+use Rattle.report_text.specs.declared.Text.{Text as LentText}
 use Rattle.report_text.specs.Texts.{report_room, longest_report, TextPromise}
-use Rattle.report_text.specs.Code.Pushes.{Text, written, pushed, appended}
+use Rattle.report_text.specs.Code.Pushes.{Text, written, pushed, appended, Adds}
 
 -- two pieces one after the other are one piece
 pub appended_twice : (t : Text) (a b : List ℕ) → appended (appended t a) b ≡ appended t (a ++ b)
@@ -65,3 +67,17 @@ pub put_whole : (text buffer : List ℕ) (r : ℕ) (after : List ℕ) → TextPr
 put_whole text buffer r after p h =
     let whole : take (length buffer) text ≡ text = take_all (length buffer) text (omega (arith, p.short)) in
     (p.answer ∙ ap length whole, p.leaves ∙ ap (λ (l : List ℕ). over l buffer) whole)
+
+-- ---- a text that goes on
+
+pub adds_none : (t : LentText) → Adds t t []
+adds_none t = record { same_buffer = refl; bytes = appended_none (written t.len t.out.now) }
+
+-- one piece, and then another
+pub adds_both : {t u v : LentText} {a b : List ℕ} → Adds t u a → Adds u v b → Adds t v (a ++ b)
+adds_both first next = record { same_buffer = next.same_buffer ∙ first.same_buffer; bytes = simp (next.bytes, first.bytes, appended_twice) }
+
+-- from an empty text on
+pub promised_by : {out : MutBor (List ℕ)} {after : LentText} {text left : List ℕ} → Adds (record { out = out; len = 0 }) after text → left ≡ after.out.now
+    → length text ≤ longest_report → TextPromise text out.now after.len left
+promised_by {out} {after} {text} adds kept short = rw kept (promised text out.now after.len after.out.now adds.bytes short)

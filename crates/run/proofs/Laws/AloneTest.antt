@@ -1,7 +1,6 @@
 -- The test that a task's register and data windows meet no other task's.
 use Rattle.std.specs.Prelude.{◌≡◌, refl, ◌≢◌, Bool, true, false, not, ◌&&◌, ◌||◌, List, [], ◌∷◌, ℕ, eqb}
-use Rattle.std.proofs.Common.{sym, ap, ◌∙◌, subst, eqb-true}
-use Rattle.std.proofs.Math.Option.{Option, none, some}
+use Rattle.std.proofs.Common.{sym, ap, ◌∙◌, subst, eqb-true, Option, None, Some}
 use Rattle.std.proofs.lemmas.Bool.{not-true}
 use Rattle.word.proofs.Laws.Bools.{and_left, and_right}
 use Rattle.word.proofs.Laws.Conjunctions.{both}
@@ -20,14 +19,14 @@ alone_from r [] = true
 alone_from r (x ∷ xs) = (eqb x.task r.task || unmet r x) && alone_from r xs
 
 unfoldable pub alone_in : Option Row → List Row → Bool
-alone_in none rows = true
-alone_in (some r) rows = alone_from r rows
+alone_in None rows = true
+alone_in (Some r) rows = alone_from r rows
 
 unfoldable pub alone : ℕ → State → Bool
 alone t s = alone_in (find_row t s.rows) s.rows
 
 -- the test holds of each row that a search finds
-unmet_found : (r : Row) (rows : List Row) (u : ℕ) (x : Row) → alone_from r rows ≡ true → find_row u rows ≡ some x → u ≢ r.task → unmet r x ≡ true
+unmet_found : (r : Row) (rows : List Row) (u : ℕ) (x : Row) → alone_from r rows ≡ true → find_row u rows ≡ Some x → u ≢ r.task → unmet r x ≡ true
 unfolding alone_from
 unmet_found r [] u x a e n = absurd (none_some x (unfold find_row in e))
 unmet_found r (y ∷ rows) u x a e n =
@@ -47,7 +46,7 @@ alone_of t s a u n = record {
   data_words = λ r x e f. not-true (meets (data_word_window r) (data_word_window x)) (parts r x e f).1;
 }
   where
-    parts : (r x : Row) → find_row t s.rows ≡ some r → find_row u s.rows ≡ some x
+    parts : (r x : Row) → find_row t s.rows ≡ Some r → find_row u s.rows ≡ Some x
         → (not (meets (register_window r) (register_window x)) ≡ true) × (not (meets (data_word_window r) (data_word_window x)) ≡ true)
     parts r x e f =
         both (λ k. k) (λ k. k)

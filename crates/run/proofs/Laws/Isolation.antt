@@ -1,9 +1,7 @@
 -- Isolation of a set of tasks over two whole runs, from what is compared of each task. For any instruction set.
 use Rattle.std.specs.Prelude.{◌≡◌, refl, Bool, true, false, List, [], ◌∷◌, ℕ, zero, suc, ◌+◌, ◌-◌, ◌≤◌, ◌<◌, length, take, drop, replicate, leb}
-use Rattle.std.proofs.Common.{sym, ap₂, ◌∙◌, true≢false, zero-add, suc-add, le_of_suc-le-suc, not-suc-le-zero, arith, eq-eqb, ne_eqb, eqb-true}
+use Rattle.std.proofs.Common.{sym, ap₂, ◌∙◌, true≢false, zero-add, suc-add, le_of_suc-le-suc, not-suc-le-zero, arith, eq-eqb, ne_eqb, eqb-true, Option, None, Some, slice_get}
 use Rattle.std.proofs.Math.Path.{ap, subst, subst₂}
-use Rattle.std.proofs.Math.Option.{Option, none, some}
-use Rattle.std.proofs.Math.ListN.{get_elem?}
 use Rattle.std.proofs.Math.Dec.{eqb}
 use Rattle.std.proofs.lemmas.Bool.{eqb-false}
 use Rattle.word.proofs.Laws.Bools.{Le?, below, above, le?, clash}
@@ -33,41 +31,41 @@ use Rattle.run.specs.Compared.{cut, memory_in, Compared, SameProgram, SameConsta
 -- ---- a part cut out of a list, and its places
 
 module _ {A : Type 0} where
-  ext? : (k l : List A) → ((i : ℕ) → get_elem? k i ≡ get_elem? l i) → k ≡ l
+  ext? : (k l : List A) → ((i : ℕ) → slice_get k i ≡ slice_get l i) → k ≡ l
   ext? [] [] h = refl
   ext? [] (y ∷ l) h = absurd (none_some y (h zero))
   ext? (x ∷ k) [] h = absurd (none_some x (sym (h zero)))
   ext? (x ∷ k) (y ∷ l) h = ap₂ {C = List A} (λ a b. a ∷ b) (some_inj x y (h zero)) (ext? k l (λ i. h (suc i)))
 
-  at_drop : (n : ℕ) (l : List A) (i : ℕ) → get_elem? (drop n l) i ≡ get_elem? l (n + i)
-  at_drop zero l i = ap (get_elem? l) (sym (zero-add i))
+  at_drop : (n : ℕ) (l : List A) (i : ℕ) → slice_get (drop n l) i ≡ slice_get l (n + i)
+  at_drop zero l i = ap (slice_get l) (sym (zero-add i))
   at_drop (suc n) [] i = refl
-  at_drop (suc n) (x ∷ l) i = at_drop n l i ∙ ap (get_elem? (x ∷ l)) (sym (suc-add n i))
+  at_drop (suc n) (x ∷ l) i = at_drop n l i ∙ ap (slice_get (x ∷ l)) (sym (suc-add n i))
 
-  at_take : (n : ℕ) (l : List A) (i : ℕ) → i < n → get_elem? (take n l) i ≡ get_elem? l i
+  at_take : (n : ℕ) (l : List A) (i : ℕ) → i < n → slice_get (take n l) i ≡ slice_get l i
   at_take zero l i h = absurd (not-suc-le-zero h)
   at_take (suc n) [] i h = refl
   at_take (suc n) (x ∷ l) zero h = refl
   at_take (suc n) (x ∷ l) (suc i) h = at_take n l i (le_of_suc-le-suc h)
 
-  at_take_past : (n : ℕ) (l : List A) (i : ℕ) → n ≤ i → get_elem? (take n l) i ≡ none
+  at_take_past : (n : ℕ) (l : List A) (i : ℕ) → n ≤ i → slice_get (take n l) i ≡ None
   at_take_past zero l i h = refl
   at_take_past (suc n) [] i h = refl
   at_take_past (suc n) (x ∷ l) zero h = absurd (not-suc-le-zero h)
   at_take_past (suc n) (x ∷ l) (suc i) h = at_take_past n l i (le_of_suc-le-suc h)
 
-cut_at : (w : Window) (l : List ℕ) (a : ℕ) → In w a → get_elem? (cut w l) (a - w.first) ≡ get_elem? l a
+cut_at : (w : Window) (l : List ℕ) (a : ℕ) → In w a → slice_get (cut w l) (a - w.first) ≡ slice_get l a
 unfolding cut
 cut_at w l a i =
     at_drop w.first (take (suc w.last) l) (a - w.first)
-    ∙ ap (get_elem? (take (suc w.last) l)) (omega (arith, i.from))
+    ∙ ap (slice_get (take (suc w.last) l)) (omega (arith, i.from))
     ∙ at_take (suc w.last) l a (omega (arith, i.to))
 
-cells_of_cut : (w : Window) (k l : List ℕ) → cut w k ≡ cut w l → (a : ℕ) → inside w a ≡ true → get_elem? k a ≡ get_elem? l a
+cells_of_cut : (w : Window) (k l : List ℕ) → cut w k ≡ cut w l → (a : ℕ) → inside w a ≡ true → slice_get k a ≡ slice_get l a
 cells_of_cut w k l e a i =
-    sym (cut_at w k a (in_of w a i)) ∙ ap (λ (m : List ℕ). get_elem? m (a - w.first)) e ∙ cut_at w l a (in_of w a i)
+    sym (cut_at w k a (in_of w a i)) ∙ ap (λ (m : List ℕ). slice_get m (a - w.first)) e ∙ cut_at w l a (in_of w a i)
 
-cut_of_cells : (w : Window) (k l : List ℕ) → ((a : ℕ) → inside w a ≡ true → get_elem? k a ≡ get_elem? l a) → cut w k ≡ cut w l
+cut_of_cells : (w : Window) (k l : List ℕ) → ((a : ℕ) → inside w a ≡ true → slice_get k a ≡ slice_get l a) → cut w k ≡ cut w l
 unfolding cut
 cut_of_cells w k l h =
     ext? (cut w k) (cut w l)
@@ -77,7 +75,7 @@ cut_of_cells w k l h =
     ∙ sym (at_drop w.first (take (suc w.last) l) i))
   where
     go : (i : ℕ) (b : Bool) → Le? (suc w.last) (w.first + i) b
-        → get_elem? (take (suc w.last) k) (w.first + i) ≡ get_elem? (take (suc w.last) l) (w.first + i)
+        → slice_get (take (suc w.last) k) (w.first + i) ≡ slice_get (take (suc w.last) l) (w.first + i)
     go i true (below p) = at_take_past (suc w.last) k (w.first + i) p ∙ sym (at_take_past (suc w.last) l (w.first + i) p)
     go i false (above p) =
         at_take (suc w.last) k (w.first + i) p
@@ -86,15 +84,15 @@ cut_of_cells w k l h =
 
 -- ---- the row of a task and its fixed part
 
-row_of_lem : (t : ℕ) (s : State) (c : Row) → fixed_at t s ≡ some c → (r : Row) × (find_row t s.rows ≡ some r) × (fixed r ≡ c)
+row_of_lem : (t : ℕ) (s : State) (c : Row) → fixed_at t s ≡ Some c → (r : Row) × (find_row t s.rows ≡ Some r) × (fixed r ≡ c)
 unfolding fixed_at
 row_of_lem t s c e = go (find_row t s.rows) refl e
   where
-    go : (o : Option Row) → find_row t s.rows ≡ o → fixed_of o ≡ some c → (r : Row) × (find_row t s.rows ≡ some r) × (fixed r ≡ c)
-    go none f k = absurd (none_some c k)
-    go (some r) f k = (r, f, some_inj (fixed r) c k)
+    go : (o : Option Row) → find_row t s.rows ≡ o → fixed_of o ≡ Some c → (r : Row) × (find_row t s.rows ≡ Some r) × (fixed r ≡ c)
+    go None f k = absurd (none_some c k)
+    go (Some r) f k = (r, f, some_inj (fixed r) c k)
 
-fixed_of_lem : (t : ℕ) (s : State) (r : Row) → find_row t s.rows ≡ some r → fixed_at t s ≡ some (fixed r)
+fixed_of_lem : (t : ℕ) (s : State) (r : Row) → find_row t s.rows ≡ Some r → fixed_at t s ≡ Some (fixed r)
 unfolding fixed_at
 fixed_of_lem t s r e = ap fixed_of e
 
@@ -108,7 +106,7 @@ program_of r c e = ap program_window (sym e)
 
 -- ---- what is compared, and agreement place by place
 
-module _ (t : ℕ) (s s' : State) (c : Compared t s s') (r : Row) (e : find_row t s.rows ≡ some r) where
+module _ (t : ℕ) (s s' : State) (c : Compared t s s') (r : Row) (e : find_row t s.rows ≡ Some r) where
   cut_same : (m : Part) → cut (window_in m r) (list_in m s) ≡ cut (window_in m r) (list_in m s')
   unfolding memory_in
   cut_same register_tags = ap (λ (x : Memory). x.tags) (c.registers r e)
@@ -139,7 +137,7 @@ compared_of A s s' g t m = record {
   data_words = λ r e i. memory (part data_tags r e i) (part data_values r e i);
 }
   where
-    part : (x : Part) (r : Row) → find_row t s.rows ≡ some r → cut (window_in x r) (list_in x s) ≡ cut (window_in x r) (list_in x s')
+    part : (x : Part) (r : Row) → find_row t s.rows ≡ Some r → cut (window_in x r) (list_in x s) ≡ cut (window_in x r) (list_in x s')
     part x r e =
         cut_of_cells (window_in x r) (list_in x s) (list_in x s')
         (λ a i. g.cells x t m (fixed r) (fixed_of_lem t s r e) a (ap (λ (w : Window). inside w a) (window_fixed x r) ∙ i))
@@ -165,7 +163,7 @@ apart_of A s k = record {
       ∙ clear (window_in m q.0) (window_in m p.0) (unmet m t u i o q.0 p.0 q.1 p.1) a (ap (λ (w : Window). inside w a) (sym (window_of_lem m q.0 c q.2)) ∙ j);
 }
   where
-    unmet : (m : Part) (t u : ℕ) → A t ≡ true → A u ≡ false → (r x : Row) → find_row t s.rows ≡ some r → find_row u s.rows ≡ some x
+    unmet : (m : Part) (t u : ℕ) → A t ≡ true → A u ≡ false → (r x : Row) → find_row t s.rows ≡ Some r → find_row u s.rows ≡ Some x
         → meets (window_in m r) (window_in m x) ≡ false
     unmet register_tags t u i o r x e f = (k t u i o).registers r x e f
     unmet register_words t u i o r x e f = (k t u i o).registers r x e f

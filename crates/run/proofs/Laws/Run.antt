@@ -1,9 +1,8 @@
 -- A run: its counts add up to the schedule's length, whatever was counted before, and the flag never falls. For any instruction set, the state for any note.
 use Rattle.std.specs.Prelude.{◌≡◌, true, ℕ, zero, suc, ◌+◌, ◌≤◌, length, get_or, set}
 use Rattle.std.proofs.Math.Path.{refl, ap}
-use Rattle.std.proofs.Common.{sym, ◌∙◌, subst}
+use Rattle.std.proofs.Common.{sym, ◌∙◌, subst, Option, None, Some}
 use Rattle.std.proofs.lemmas.Bool.{false≢true}
-use Rattle.std.proofs.Math.Option.{Option, none, some}
 use mathlib.Core.List.{List, [], ◌∷◌}
 use native.Mathlib.Omega.{arith}
 use Rattle.refusal.specs.declared.Refusal.{Refusal}
@@ -48,13 +47,13 @@ unfolding counted plus
 tries_counted a c = ap (λ n. c.tries + n) (tries_of_lem a.ending a.tries)
 
 -- a schedule that is accepted isn't refused
-pub sound_unrefused : (schedule : List ℕ) → schedule_sound schedule ≡ true → schedule_refusal schedule ≡ none
+pub sound_unrefused : (schedule : List ℕ) → schedule_sound schedule ≡ true → schedule_refusal schedule ≡ None
 unfolding schedule_sound accepts
 sound_unrefused schedule e = go (schedule_refusal schedule) e
   where
-    go : (o : Option Refusal) → accepts o ≡ true → o ≡ none
-    go none k = refl
-    go (some x) k = absurd (false≢true k)
+    go : (o : Option Refusal) → accepts o ≡ true → o ≡ None
+    go None k = refl
+    go (Some x) k = absurd (false≢true k)
 
 -- the order in which two items are counted doesn't matter
 pub plus_turned : (c d e : Counts) → plus (plus c d) e ≡ plus (plus c e) d

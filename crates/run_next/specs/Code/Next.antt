@@ -1,5 +1,5 @@
--- The next attempt of each task, in numbers side by side by task: its PT at t (255: the item is idle), the ring that it heads at 8 + t, and at 16 + t
--- whether a process that goes on stays where it is: 1, it is its task's only one; 0, it is not, or it makes a try; 2, it makes the step after a try.
+-- The next attempt of each task, by task: none where the item is idle.
+use Rattle.std.specs.Prelude.{Option, Some, None}
 use Rattle.std.specs.Prelude.{◌≡◌, ◌≢◌, Bool, true, false, cond, not, List, ℕ, ◌+◌, ◌*◌, ◌≤◌, ◌<◌, eqb, get_or}
 use Rattle.step.specs.declared.Attempt.{Attempt}
 use Rattle.step.specs.declared.Attempt.TheVariants.{Step, Try}
@@ -12,14 +12,9 @@ use Rattle.step.specs.State.{queue_in}
 use Rattle.step.specs.Step.{step_follows}
 use Rattle.step.specs.Code.Parts.{executed_motion, moved_queues}
 use Rattle.run_rings.specs.Code.Rings.{queues_in}
-
--- three numbers a task
-abbrev pub mark_count : ℕ
-mark_count = 3 * numbers
-
--- no attempt: no PT is so high
-abbrev pub no_attempt : ℕ
-no_attempt = 255
+use Rattle.run_next.specs.declared.Next.{Next}
+use Rattle.run_next.specs.declared.Role.{Role}
+use Rattle.run_next.specs.declared.Role.TheVariants.{Alone, Several, Follows, Tries}
 
 -- where tries are counted: those that end an item, and those that a step follows; and what is no place
 abbrev pub try_places : ℕ
@@ -31,45 +26,61 @@ then_places = 7 * numbers
 abbrev pub no_place : ℕ
 no_place = 9 * numbers
 
-pub record Next : Type 0 where
-  pub up : ℕ
-  pub ring : ℕ
-  pub alone : ℕ
-
-abbrev pub next_is : (up ring alone : ℕ) → Next
-next_is u r a = record { up = u; ring = r; alone = a }
+abbrev pub next_is : (pt : ℕ) → Role → Option Next
+next_is p r = Some (record { pt = p; role = r })
 
 -- that of task t
-unfoldable pub next_at : List ℕ → (t : ℕ) → Next
-next_at l t = next_is (get_or l t 0) (get_or l (numbers + t) 0) (get_or l (2 * numbers + t) 0)
+abbrev pub next_at : List (Option Next) → (t : ℕ) → Option Next
+next_at l t = get_or l t None
 
-unfoldable pub only : ℕ → ℕ
-only n = cond (eqb n 1) 1 0
+unfoldable pub only : ℕ → Role
+only n = cond (eqb n 1) Alone Several
 
 -- where no item is under way: of an active task with the queue q and the SFU queue s
-unfoldable pub item_next : (t : ℕ) → (q s : Queue) → Next
-item_next t q s = cond (eqb s.len 0) (cond (eqb q.len 0) (next_is no_attempt (2 * t) 0) (next_is (head_of q) (2 * t) (only q.len))) (next_is (head_of s) (2 * t + 1) 0)
+unfoldable pub item_next : (q s : Queue) → Option Next
+item_next q s = cond (eqb s.len 0) (cond (eqb q.len 0) None (next_is (head_of q) (only q.len))) (next_is (head_of s) Tries)
 
 -- of an active task t; `follows` says that its item has made its try, and its step is to come
-unfoldable pub standing : (follows : Bool) → (t : ℕ) → List Queue → Next
-standing false t qs = item_next t (queue_in qs (2 * t)) (queue_in qs (2 * t + 1))
-standing true t qs = next_is (head_of (queue_in qs (2 * t))) (2 * t) 2
+unfoldable pub standing : (follows : Bool) → (t : ℕ) → List Queue → Option Next
+standing false t qs = item_next (queue_in qs (2 * t)) (queue_in qs (2 * t + 1))
+standing true t qs = next_is (head_of (queue_in qs (2 * t))) Follows
 
--- the numbers of task t become these, and those of the other tasks stay
-pub record Puts (t : ℕ) (n : Next) (l l' : List ℕ) : Type 0 where
+-- that of task t becomes n, and those of the other tasks stay
+pub record Puts (t : ℕ) (n : Option Next) (l l' : List (Option Next)) : Type 0 where
   pub mine : next_at l' t ≡ n
   pub others : (u : ℕ) → u < numbers → u ≢ t → next_at l' u ≡ next_at l u
 
 -- what the next attempt is, where there is one
-pub data Acting (t : ℕ) (l : List ℕ) (qs : List Queue) : Type 0 where
-  alone : next_at l t ≡ next_is (head_of (queue_in qs (2 * t))) (2 * t) 1 → (queue_in qs (2 * t)).len ≡ 1 → (queue_in qs (2 * t + 1)).len ≡ 0 → Acting t l qs
-  several : next_at l t ≡ next_is (head_of (queue_in qs (2 * t))) (2 * t) 0 → 2 ≤ (queue_in qs (2 * t)).len → (queue_in qs (2 * t + 1)).len ≡ 0 → Acting t l qs
-  follows : next_at l t ≡ next_is (head_of (queue_in qs (2 * t))) (2 * t) 2 → 1 ≤ (queue_in qs (2 * t)).len → Acting t l qs
-  tries : next_at l t ≡ next_is (head_of (queue_in qs (2 * t + 1))) (2 * t + 1) 0 → 1 ≤ (queue_in qs (2 * t + 1)).len → Acting t l qs
+pub data Acting (t : ℕ) (l : List (Option Next)) (qs : List Queue) : Type 0 where
+  alone : next_at l t ≡ next_is (head_of (queue_in qs (2 * t))) Alone → (queue_in qs (2 * t)).len ≡ 1 → (queue_in qs (2 * t + 1)).len ≡ 0 → Acting t l qs
+  several : next_at l t ≡ next_is (head_of (queue_in qs (2 * t))) Several → 2 ≤ (queue_in qs (2 * t)).len → (queue_in qs (2 * t + 1)).len ≡ 0 → Acting t l qs
+  follows : next_at l t ≡ next_is (head_of (queue_in qs (2 * t))) Follows → 1 ≤ (queue_in qs (2 * t)).len → Acting t l qs
+  tries : next_at l t ≡ next_is (head_of (queue_in qs (2 * t + 1))) Tries → 1 ≤ (queue_in qs (2 * t + 1)).len → Acting t l qs
 
 -- which attempt it is
-unfoldable pub attempt_at : (t : ℕ) → List ℕ → Attempt
-attempt_at t l = cond (eqb (get_or l (numbers + t) 0) (2 * t)) Step Try
+unfoldable pub attempt_as : Role → Attempt
+attempt_as Alone = Step
+attempt_as Several = Step
+attempt_as Follows = Step
+attempt_as Tries = Try
+
+unfoldable pub attempt_in : Option Next → Attempt
+attempt_in None = Step
+attempt_in (Some n) = attempt_as n.role
+
+abbrev pub attempt_at : (t : ℕ) → List (Option Next) → Attempt
+attempt_at t l = attempt_in (next_at l t)
+
+-- whether it is the step that follows a try
+unfoldable pub follows_try : Option Next → Bool
+follows_try None = false
+follows_try (Some n) = follows_role n.role
+  where
+    follows_role : Role → Bool
+    follows_role Alone = false
+    follows_role Several = false
+    follows_role Follows = true
+    follows_role Tries = false
 
 -- whether the queue of task t has a process
 unfoldable pub had_in : (t : ℕ) → (lens : List ℕ) → Bool
@@ -96,6 +107,6 @@ going_motion false a = executed_motion a
 going_motion true a = Turns
 
 -- queues and next attempts behind an attempt of task t that does not trap
-pub record Goes (t : ℕ) (had : Bool) (m : Attempt → Motion) (pts heads lens l pts' heads' lens' l' : List ℕ) : Type 0 where
+pub record Goes (t : ℕ) (had : Bool) (m : Attempt → Motion) (pts heads lens : List ℕ) (l : List (Option Next)) (pts' heads' lens' : List ℕ) (l' : List (Option Next)) : Type 0 where
   pub queues : queues_in pts' heads' lens' ≡ moved_queues (m (attempt_at t l)) (attempt_at t l) t (queues_in pts heads lens)
   pub puts : Puts t (standing (followed (attempt_at t l) had) t (queues_in pts' heads' lens')) l l'

@@ -1,6 +1,5 @@
 -- The state of a run in numbers, and one attempt of it.
-use Rattle.std.specs.Prelude.{◌≡◌, true, List, ℕ, suc, length, take}
-use Rattle.std.proofs.Math.Option.{some}
+use Rattle.std.specs.Prelude.{◌≡◌, true, List, ℕ, suc, length, take, Some}
 use Rattle.window.specs.declared.Row.{Row}
 use Rattle.window.specs.Memories.{Memory}
 use Rattle.operation.specs.Decide.{decide}
@@ -33,7 +32,7 @@ state_from rows x m =
 
 -- the numbers of a sound state
 pub record Numbers (rows : List Row) (spans : List ℕ) (x : Lines) (m : Cells) : Type 0 where
-  pub windows : (t : ℕ) (r : Row) → find_row t rows ≡ some r → Windows spans t r
+  pub windows : (t : ℕ) (r : Row) → find_row t rows ≡ Some r → Windows spans t r
   pub frees : x.free ≡ free_word (queues_of x)
   pub counted : x.count ≡ live_total (queues_of x)
   pub wide : length x.psws ≡ suc pt_count

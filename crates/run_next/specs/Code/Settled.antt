@@ -1,5 +1,6 @@
 -- The numbers of a run that an attempt changes besides the memories, and what becomes of them by its course.
-use Rattle.std.specs.Prelude.{◌≡◌, ◌≢◌, Bool, true, false, List, ℕ, ◌+◌, ◌-◌, ◌*◌, ◌^◌, ◌≤◌, ◌<◌, get_or, set}
+use Rattle.std.specs.Prelude.{Option, Some, None}
+use Rattle.std.specs.Prelude.{◌≡◌, Bool, true, false, List, ℕ, ◌+◌, ◌-◌, ◌*◌, ◌^◌, ◌≤◌, ◌<◌, get_or, set}
 use Rattle.std.specs.Int.Count.{count_trailing_zeros}
 use Rattle.operation.specs.declared.Course.{Course}
 use Rattle.operation.specs.declared.Course.TheVariants as go
@@ -16,7 +17,8 @@ use Rattle.step.specs.Code.Parts.{moved_queues, flag_after, created_motion}
 use Rattle.step.specs.Code.Performs.{course_result}
 use Rattle.run_rings.specs.Code.Rings.{queues_in}
 use Rattle.run_rings.specs.Code.Records.{kinds_after, stored_after}
-use Rattle.run_next.specs.Code.Next.{no_attempt, no_place, Next, next_is, standing, Puts, Acting, attempt_at, had_in, followed, place_after, Goes}
+use Rattle.run_next.specs.declared.Next.{Next}
+use Rattle.run_next.specs.Code.Next.{next_at, standing, Puts, Acting, attempt_at, had_in, followed, place_after, Goes}
 
 -- queues side by side, the next attempts, trap records by task, PSWs by PT (and at 64 that of a created process), the create fault flag, the word of
 -- free PTs, how many processes live
@@ -24,7 +26,7 @@ pub record Lines : Type 0 where
   pub pts : List ℕ
   pub heads : List ℕ
   pub lens : List ℕ
-  pub marks : List ℕ
+  pub next : List (Option Next)
   pub kinds : List ℕ
   pub stored : List ℕ
   pub psws : List ℕ
@@ -32,15 +34,15 @@ pub record Lines : Type 0 where
   pub free : ℕ
   pub count : ℕ
 
-abbrev pub lines : (marks pts heads lens kinds stored psws : List ℕ) → (flag free count : ℕ) → Lines
-lines l a b c k s w f z n = record { pts = a; heads = b; lens = c; marks = l; kinds = k; stored = s; psws = w; flag = f; free = z; count = n }
+abbrev pub lines : (next : List (Option Next)) (pts heads lens kinds stored psws : List ℕ) → (flag free count : ℕ) → Lines
+lines l a b c k s w f z n = record { pts = a; heads = b; lens = c; next = l; kinds = k; stored = s; psws = w; flag = f; free = z; count = n }
 
 abbrev pub queues_of : Lines → List Queue
 queues_of x = queues_in x.pts x.heads x.lens
 
 -- the attempt that task t makes next, and what its course makes of it, p being the PSW that its process then has
 abbrev pub attempt_of : (t : ℕ) → Lines → Attempt
-attempt_of t x = attempt_at t x.marks
+attempt_of t x = attempt_at t x.next
 
 unfoldable pub result_by : (t : ℕ) → Course → (p : ℕ) → Lines → StepResult
 result_by t c p x = course_result (attempt_of t x) (count_trailing_zeros pt_count x.free) (below_total x.count) p c
@@ -53,11 +55,11 @@ place_of a had (Trapped k p) = place_after a false (2 * numbers)
 place_of a had Idle = 3 * numbers
 
 -- the next attempt of the task: none where it trapped
-unfoldable pub next_by : (t : ℕ) → Attempt → (had : Bool) → Ending → List Queue → List ℕ → Next
-next_by t a had Executed qs l = standing (followed a had) t qs
-next_by t a had Waved qs l = standing (followed a had) t qs
-next_by t a had (Trapped k p) qs l = next_is no_attempt (get_or l (numbers + t) 0) (get_or l (2 * numbers + t) 0)
-next_by t a had Idle qs l = next_is no_attempt (get_or l (numbers + t) 0) (get_or l (2 * numbers + t) 0)
+unfoldable pub next_by : (t : ℕ) → Attempt → (had : Bool) → Ending → List Queue → Option Next
+next_by t a had Executed qs = standing (followed a had) t qs
+next_by t a had Waved qs = standing (followed a had) t qs
+next_by t a had (Trapped k p) qs = None
+next_by t a had Idle qs = None
 
 -- a PT given back, a PT taken
 unfoldable pub free_by : Course → (pt free : ℕ) → ℕ
@@ -103,19 +105,20 @@ psws_by go.SupervisorCall z w = w
 psws_by go.SimulatedInstruction z w = w
 psws_by go.DataException z w = w
 
--- the queues have room, and task t makes an attempt with the process pt
-pub record Ready (t pt : ℕ) (c : Course) (x : Lines) : Type 0 where
+-- the queues have room, and task t makes the attempt n
+pub record Ready (t : ℕ) (n : Next) (c : Course) (x : Lines) : Type 0 where
   pub small : t < numbers
-  pub acting : Acting t x.marks (queues_of x)
+  pub next : next_at x.next t ≡ Some n
+  pub acting : Acting t x.next (queues_of x)
   pub fits : get_or x.lens (2 * t) 0 + get_or x.lens (2 * t + 1) 0 ≤ places
-  pub given : c ≡ go.Quits → (pt < pt_count) × (x.free + 2 ^ pt < 2 ^ pt_count) × (0 < x.count)
+  pub given : c ≡ go.Quits → (n.pt < pt_count) × (x.free + 2 ^ n.pt < 2 ^ pt_count) × (0 < x.count)
   pub taken : c ≡ go.Creates → (count_trailing_zeros pt_count x.free < pt_count) × (2 ^ count_trailing_zeros pt_count x.free ≤ x.free) × (x.count < pt_count) × (get_or x.lens (2 * t) 0 + get_or x.lens (2 * t + 1) 0 < places)
 
 -- what a create does to queues and flag, by whether one process more is fewer than the total: then the created process joins behind its creator, else
--- the creator stays head, the place no_place says that it traps, and the next attempt is still to be put
-pub record Makes (t p : ℕ) (below : Bool) (r : ℕ) (marks pts heads lens : List ℕ) (flag : ℕ) (marks' pts' heads' lens' : List ℕ) (flag' : ℕ) : Type 0 where
-  pub goes : below ≡ true → (r ≡ place_after (attempt_at t marks) (had_in t lens) 0) × Goes t (had_in t lens) (λ a. created_motion a p) pts heads lens marks pts' heads' lens' marks' × (flag' ≡ flag)
-  pub faults : below ≡ false → (r ≡ no_place) × (queues_in pts' heads' lens' ≡ joined_at (queues_in pts heads lens) (2 * t) p) × (marks' ≡ marks) × (flag' ≡ 1)
+-- the creator stays head, no place says that it traps, and the next attempt is still to be put
+pub record Makes (t p : ℕ) (below : Bool) (r : Option ℕ) (next : List (Option Next)) (pts heads lens : List ℕ) (flag : ℕ) (next' : List (Option Next)) (pts' heads' lens' : List ℕ) (flag' : ℕ) : Type 0 where
+  pub goes : below ≡ true → (r ≡ Some (place_after (attempt_at t next) (had_in t lens) 0)) × Goes t (had_in t lens) (λ a. created_motion a p) pts heads lens next pts' heads' lens' next' × (flag' ≡ flag)
+  pub faults : below ≡ false → (r ≡ None) × (queues_in pts' heads' lens' ≡ joined_at (queues_in pts heads lens) (2 * t) p) × (next' ≡ next) × (flag' ≡ 1)
 
 -- all but the trap record, the place and the next attempt
 pub record Moved (t pt : ℕ) (c : Course) (p : ℕ) (x y : Lines) : Type 0 where
@@ -131,22 +134,22 @@ pub record Settles (t pt : ℕ) (c : Course) (p r : ℕ) (x y : Lines) : Type 0 
   pub place : r ≡ place_of (attempt_of t x) (had_in t x.lens) (result_by t c p x).ending
   pub kinds : y.kinds ≡ kinds_after (result_by t c p x).ending t x.kinds
   pub stored : y.stored ≡ stored_after (result_by t c p x).ending t x.stored
-  pub marks : Puts t (next_by t (attempt_of t x) (had_in t x.lens) (result_by t c p x).ending (queues_of y) x.marks) x.marks y.marks
+  pub next : Puts t (next_by t (attempt_of t x) (had_in t x.lens) (result_by t c p x).ending (queues_of y)) x.next y.next
 
--- the place of a course that only moves the process on; no_place of any other
-unfoldable pub going_place : Course → ℕ
-going_place go.Continues = 0
-going_place go.Waits = numbers
-going_place go.WaitsForData = no_place
-going_place go.Quits = no_place
-going_place go.Creates = no_place
-going_place go.CreateFault = no_place
-going_place go.IllegalInstruction = no_place
-going_place go.ProtectionViolation = no_place
-going_place go.PrivilegedInstruction = no_place
-going_place go.SupervisorCall = no_place
-going_place go.SimulatedInstruction = no_place
-going_place go.DataException = no_place
+-- the place of a course that only moves the process on
+unfoldable pub going_place : Course → Option ℕ
+going_place go.Continues = Some 0
+going_place go.Waits = Some numbers
+going_place go.WaitsForData = None
+going_place go.Quits = None
+going_place go.Creates = None
+going_place go.CreateFault = None
+going_place go.IllegalInstruction = None
+going_place go.ProtectionViolation = None
+going_place go.PrivilegedInstruction = None
+going_place go.SupervisorCall = None
+going_place go.SimulatedInstruction = None
+going_place go.DataException = None
 
 -- the trap kind of a course that traps; a create that reached the total faults
 unfoldable pub trap_by : Course → Trap
@@ -163,8 +166,8 @@ trap_by go.Continues = trap.CreateFault
 trap_by go.Waits = trap.CreateFault
 trap_by go.WaitsForData = trap.CreateFault
 
--- a course that changes the queues or traps: it is settled, or the place no_place says that the task traps
-pub record Others (t pt : ℕ) (c : Course) (p r : ℕ) (x y : Lines) : Type 0 where
+-- a course that changes the queues or traps: it is settled, or no place says that the task traps
+pub record Others (t pt : ℕ) (c : Course) (p : ℕ) (r : Option ℕ) (x y : Lines) : Type 0 where
   pub moved : Moved t pt c p x y
-  pub settled : r ≢ no_place → Settles t pt c p r x y
-  pub traps : r ≡ no_place → ((result_by t c p x).ending ≡ Trapped (trap_by c) p) × (y.marks ≡ x.marks)
+  pub settled : (place : ℕ) → r ≡ Some place → Settles t pt c p place x y
+  pub traps : r ≡ None → ((result_by t c p x).ending ≡ Trapped (trap_by c) p) × (y.next ≡ x.next)

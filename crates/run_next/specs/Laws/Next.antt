@@ -1,13 +1,14 @@
 -- The next attempts of the tasks: numbers put, and the motions of the queues with what stands behind them.
-use Rattle.std.specs.Prelude.{◌≡◌, ◌≢◌, Bool, ℕ, ◌+◌, ◌-◌, ◌*◌, ◌%◌, ◌≤◌, ◌<◌, eqb, length, set}
+use Rattle.std.specs.Prelude.{Option, Some, None}
+use Rattle.std.specs.Prelude.{◌≡◌, ◌≢◌, Bool, ℕ, ◌+◌, ◌-◌, ◌*◌, ◌%◌, ◌≤◌, ◌<◌, eqb, length, set, ltb}
 use Rattle.std.proofs.Math.Path.{refl, sym, ap}
 use Rattle.std.proofs.Common.{◌∙◌, subst, arith}
 use Rattle.std.proofs.Math.Bool.{true, false, cond}
 use mathlib.Core.List.{List}
-use Rattle.std.proofs.Math.ListN.{get_or, length-set}
+use Rattle.std.proofs.Math.ListN.{get_or, length-set, get_or-eq_default}
 use Rattle.std.proofs.Math.Seq.{get_or-set_same, get_or-set_other}
 use Rattle.std.proofs.lemmas.List.{set-get_or}
-use borrow.Author.Tests.{eq-eqb, ne_eqb, lt-leb, lt-ltb}
+use borrow.Author.Tests.{ne_eqb, lt-leb, lt-ltb, ltb-true, ltb-false}
 use Rattle.step.specs.declared.Attempt.{Attempt}
 use Rattle.step.specs.declared.Attempt.TheVariants.{Step, Try}
 use Rattle.step.specs.declared.Motion.{Motion}
@@ -18,71 +19,26 @@ use Rattle.step.specs.Queues.{pt_count, numbers, task_place, own_number, sfu_num
 use Rattle.step.specs.State.{no_queue, queue_in, with_queue}
 use Rattle.step.specs.Act.{turned_at, left_at, joined_at, passed_to}
 use Rattle.run_rings.specs.Code.Rings.{ring_count, queue_at, queues_in, Moves}
-use Rattle.run_next.specs.Code.Next.{mark_count, no_attempt, Next, next_is, next_at, only, item_next, standing, Puts, Acting, alone, several, follows, tries, attempt_at, followed, place_after, going_motion, Goes}
+use Rattle.run_next.specs.declared.Next.{Next}
+use Rattle.run_next.specs.declared.Role.{Role}
+use Rattle.run_next.specs.declared.Role.TheVariants.{Alone, Several, Follows, Tries}
+use Rattle.run_next.specs.Code.Next.{next_is, next_at, only, item_next, standing, Puts, Acting, alone, several, follows, tries, attempt_as, attempt_in, attempt_at, followed, place_after, going_motion, Goes}
 use Rattle.step.proofs.Laws.Queues.{shifted_len, joined_len}
 use Rattle.run_rings.specs.Laws.Rings.{moves_len, in_ring, len_in, turned_in, joined_in, length_in}
 
-pub next_eq : (u v r s a b : ℕ) → u ≡ v → r ≡ s → a ≡ b → next_is u r a ≡ next_is v s b
-next_eq u v r s a b p q o = ap (λ (x : ℕ). next_is x r a) p ∙ ap (λ (x : ℕ). next_is v x a) q ∙ ap (λ (x : ℕ). next_is v s x) o
+pub next_eq : (u v : ℕ) (r s : Role) → u ≡ v → r ≡ s → next_is u r ≡ next_is v s
+next_eq u v r s p q = ap (λ (x : ℕ). next_is x r) p ∙ ap (λ (x : Role). next_is v x) q
 
-module _ (l : List ℕ) (t u r a : ℕ) (small : t < numbers) (wide : mark_count ≤ length l) where
-  l₁ : List ℕ
-  l₁ = set l t u
+pub set_puts : (l : List (Option Next)) (t : ℕ) (n : Option Next) → t < length l → Puts t n l (set l t n)
+set_puts l t n h = record { mine = get_or-set_same l t n None h; others = λ u k d. get_or-set_other l t u n None d }
 
-  l₂ : List ℕ
-  l₂ = set l₁ (numbers + t) r
-
-  one : length l₁ ≡ length l
-  unfolding l₁
-  one = length-set l t u
-
-  two : length l₂ ≡ length l
-  unfolding l₂
-  two = length-set l₁ (numbers + t) r ∙ one
-
-  -- all three numbers of a task
-  pub put_puts : Puts t (next_is u r a) l (set (set (set l t u) (numbers + t) r) (2 * numbers + t) a)
-  unfolding next_at l₁ l₂
-  put_puts = record {
-    mine =
-        next_eq (get_or (set l₂ (2 * numbers + t) a) t 0) u (get_or (set l₂ (2 * numbers + t) a) (numbers + t) 0) r (get_or (set l₂ (2 * numbers + t) a) (2 * numbers + t) 0) a
-        (get_or-set_other l₂ (2 * numbers + t) t a 0 (λ e. omega (arith, e)) ∙ get_or-set_other l₁ (numbers + t) t r 0 (λ e. omega (arith, e)) ∙ get_or-set_same l t u 0 (omega (arith, small, wide)))
-        (get_or-set_other l₂ (2 * numbers + t) (numbers + t) a 0 (λ e. omega (arith, e)) ∙ get_or-set_same l₁ (numbers + t) r 0 (omega (arith, small, wide, one)))
-        (get_or-set_same l₂ (2 * numbers + t) a 0 (omega (arith, small, wide, two)));
-    others = λ v h n.
-        next_eq (get_or (set l₂ (2 * numbers + t) a) v 0) (get_or l v 0) (get_or (set l₂ (2 * numbers + t) a) (numbers + v) 0) (get_or l (numbers + v) 0) (get_or (set l₂ (2 * numbers + t) a) (2 * numbers + v) 0) (get_or l (2 * numbers + v) 0)
-        (get_or-set_other l₂ (2 * numbers + t) v a 0 (λ e. omega (arith, e, h)) ∙ get_or-set_other l₁ (numbers + t) v r 0 (λ e. omega (arith, e, h)) ∙ get_or-set_other l t v u 0 n)
-        (get_or-set_other l₂ (2 * numbers + t) (numbers + v) a 0 (λ e. omega (arith, e, h)) ∙ get_or-set_other l₁ (numbers + t) (numbers + v) r 0 (λ e. omega (arith, e, n)) ∙ get_or-set_other l t (numbers + v) u 0 (λ e. omega (arith, e, small)))
-        (get_or-set_other l₂ (2 * numbers + t) (2 * numbers + v) a 0 (λ e. omega (arith, e, n)) ∙ get_or-set_other l₁ (numbers + t) (2 * numbers + v) r 0 (λ e. omega (arith, e, small)) ∙ get_or-set_other l t (2 * numbers + v) u 0 (λ e. omega (arith, e, small)));
-  }
-
--- the PT alone
-pub up_puts : (l : List ℕ) (t u : ℕ) → t < numbers → mark_count ≤ length l → Puts t (next_is u (get_or l (numbers + t) 0) (get_or l (2 * numbers + t) 0)) l (set l t u)
-unfolding next_at
-up_puts l t u small wide = record {
-  mine =
-      next_eq (get_or (set l t u) t 0) u (get_or (set l t u) (numbers + t) 0) (get_or l (numbers + t) 0) (get_or (set l t u) (2 * numbers + t) 0) (get_or l (2 * numbers + t) 0)
-      (get_or-set_same l t u 0 (omega (arith, small, wide))) (get_or-set_other l t (numbers + t) u 0 (λ e. omega (arith, e))) (get_or-set_other l t (2 * numbers + t) u 0 (λ e. omega (arith, e)));
-  others = λ v h n.
-      next_eq (get_or (set l t u) v 0) (get_or l v 0) (get_or (set l t u) (numbers + v) 0) (get_or l (numbers + v) 0) (get_or (set l t u) (2 * numbers + v) 0) (get_or l (2 * numbers + v) 0)
-      (get_or-set_other l t v u 0 n) (get_or-set_other l t (numbers + v) u 0 (λ e. omega (arith, e, small))) (get_or-set_other l t (2 * numbers + v) u 0 (λ e. omega (arith, e, small)));
-}
-
--- the last number alone
-pub alone_puts : (l : List ℕ) (t a : ℕ) → t < numbers → mark_count ≤ length l → Puts t (next_is (get_or l t 0) (get_or l (numbers + t) 0) a) l (set l (2 * numbers + t) a)
-unfolding next_at
-alone_puts l t a small wide = record {
-  mine =
-      next_eq (get_or (set l (2 * numbers + t) a) t 0) (get_or l t 0) (get_or (set l (2 * numbers + t) a) (numbers + t) 0) (get_or l (numbers + t) 0) (get_or (set l (2 * numbers + t) a) (2 * numbers + t) 0) a
-      (get_or-set_other l (2 * numbers + t) t a 0 (λ e. omega (arith, e))) (get_or-set_other l (2 * numbers + t) (numbers + t) a 0 (λ e. omega (arith, e))) (get_or-set_same l (2 * numbers + t) a 0 (omega (arith, small, wide)));
-  others = λ v h n.
-      next_eq (get_or (set l (2 * numbers + t) a) v 0) (get_or l v 0) (get_or (set l (2 * numbers + t) a) (numbers + v) 0) (get_or l (numbers + v) 0) (get_or (set l (2 * numbers + t) a) (2 * numbers + v) 0) (get_or l (2 * numbers + v) 0)
-      (get_or-set_other l (2 * numbers + t) v a 0 (λ e. omega (arith, e, h))) (get_or-set_other l (2 * numbers + t) (numbers + v) a 0 (λ e. omega (arith, e, h))) (get_or-set_other l (2 * numbers + t) (2 * numbers + v) a 0 (λ e. omega (arith, e, n)));
-}
-
--- nothing is put
-pub none_puts : (t : ℕ) (n : Next) (l : List ℕ) → next_at l t ≡ n → Puts t n l l
-none_puts t n l e = record { mine = e; others = λ u h d. refl }
+-- a task has a next attempt, and n is put in its place
+pub put_as : (t : ℕ) (l l' : List (Option Next)) (m : Next) (n : Option Next) → next_at l t ≡ Some m → l' ≡ set l t n → Puts t n l l'
+put_as t l l' m n here e = subst (λ (k : List (Option Next)). Puts t n l k) (sym e) (set_puts l t n (on (ltb t (length l)) refl))
+  where
+    on : (b : Bool) → ltb t (length l) ≡ b → t < length l
+    on true h = ltb-true t (length l) h
+    on false h = let z : None ≡ Some m = sym (get_or-eq_default l None {n = t} (ltb-false t (length l) h)) ∙ here in cc
 
 -- ---- what stands, by the lengths of the two queues
 
@@ -93,15 +49,15 @@ module _ (t : ℕ) (qs : List Queue) where
   abbrev s : Queue
   s = queue_in qs (2 * t + 1)
 
-  pub stands_sfu : s.len ≢ 0 → standing false t qs ≡ next_is (head_of s) (2 * t + 1) 0
+  pub stands_sfu : s.len ≢ 0 → standing false t qs ≡ next_is (head_of s) Tries
   unfolding standing item_next
-  stands_sfu n = ap (λ (b : Bool). cond b (cond (eqb q.len 0) (next_is no_attempt (2 * t) 0) (next_is (head_of q) (2 * t) (only q.len))) (next_is (head_of s) (2 * t + 1) 0)) (ne_eqb s.len 0 n)
+  stands_sfu n = ap (λ (b : Bool). cond b (cond (eqb q.len 0) None (next_is (head_of q) (only q.len))) (next_is (head_of s) Tries)) (ne_eqb s.len 0 n)
 
-  pub stands_none : s.len ≡ 0 → q.len ≡ 0 → standing false t qs ≡ next_is no_attempt (2 * t) 0
+  pub stands_none : s.len ≡ 0 → q.len ≡ 0 → standing false t qs ≡ None
   unfolding standing item_next
   stands_none e f = simp (e, f)
 
-  pub stands_own : s.len ≡ 0 → q.len ≢ 0 → standing false t qs ≡ next_is (head_of q) (2 * t) (only q.len)
+  pub stands_own : s.len ≡ 0 → q.len ≢ 0 → standing false t qs ≡ next_is (head_of q) (only q.len)
   unfolding standing item_next
   stands_own e n = simp (e, ne_eqb q.len 0 n)
 
@@ -117,10 +73,10 @@ sfu_number_lem t h = let e : t % numbers ≡ t = omega (arith, h) in ap (λ (x :
 
 -- ---- the next attempt worked out from the queues
 
-pub puts_as : (t : ℕ) (m n : Next) (l l' : List ℕ) → n ≡ m → Puts t m l l' → Puts t n l l'
+pub puts_as : (t : ℕ) (m n : Option Next) (l l' : List (Option Next)) → n ≡ m → Puts t m l l' → Puts t n l l'
 puts_as t m n l l' e p = record { mine = p.mine ∙ sym e; others = p.others }
 
-module _ (t : ℕ) (a b c l l' : List ℕ) (small : t < numbers) where
+module _ (t : ℕ) (a b c : List ℕ) (small : t < numbers) where
   own_is_lem : head_of (queue_in (queues_in a b c) (2 * t)) ≡ head_of (queue_at a b c (2 * t))
   own_is_lem = ap head_of (in_ring a b c (2 * t) (omega (arith, small)))
 
@@ -133,124 +89,106 @@ module _ (t : ℕ) (a b c l l' : List ℕ) (small : t < numbers) where
   sfu_len : (queue_in (queues_in a b c) (2 * t + 1)).len ≡ get_or c (2 * t + 1) 0
   sfu_len = len_in a b c (2 * t + 1) (omega (arith, small))
 
-  pub set_sfu : (u r : ℕ) → Puts t (next_is u r 0) l l' → u ≡ head_of (queue_at a b c (2 * t + 1)) → r ≡ 2 * t + 1 → get_or c (2 * t + 1) 0 ≢ 0
-      → Puts t (standing false t (queues_in a b c)) l l'
-  set_sfu u r p e f n =
-      puts_as t (next_is u r 0) (standing false t (queues_in a b c)) l l'
-      (stands_sfu t (queues_in a b c) (λ z. n (sym sfu_len ∙ z))
-      ∙ next_eq (head_of (queue_in (queues_in a b c) (2 * t + 1))) u (2 * t + 1) r 0 0 (sfu_is ∙ sym e) (sym f) refl) p
+  pub is_sfu : (u : ℕ) → u ≡ head_of (queue_at a b c (2 * t + 1)) → get_or c (2 * t + 1) 0 ≢ 0 → next_is u Tries ≡ standing false t (queues_in a b c)
+  is_sfu u e n = sym (stands_sfu t (queues_in a b c) (λ z. n (sym sfu_len ∙ z)) ∙ next_eq _ _ _ _ (sfu_is ∙ sym e) refl)
 
-  pub set_none : (r : ℕ) → Puts t (next_is no_attempt r 0) l l' → r ≡ 2 * t → get_or c (2 * t + 1) 0 ≡ 0 → get_or c (2 * t) 0 ≡ 0
-      → Puts t (standing false t (queues_in a b c)) l l'
-  set_none r p f m n =
-      puts_as t (next_is no_attempt r 0) (standing false t (queues_in a b c)) l l'
-      (stands_none t (queues_in a b c) (sfu_len ∙ m) (own_len ∙ n) ∙ next_eq 255 255 (2 * t) r 0 0 refl (sym f) refl) p
+  pub is_none : get_or c (2 * t + 1) 0 ≡ 0 → get_or c (2 * t) 0 ≡ 0 → None ≡ standing false t (queues_in a b c)
+  is_none m n = sym (stands_none t (queues_in a b c) (sfu_len ∙ m) (own_len ∙ n))
 
-  pub set_own : (u r o : ℕ) → Puts t (next_is u r o) l l' → u ≡ head_of (queue_at a b c (2 * t)) → r ≡ 2 * t → o ≡ only (get_or c (2 * t) 0)
-      → get_or c (2 * t + 1) 0 ≡ 0 → get_or c (2 * t) 0 ≢ 0 → Puts t (standing false t (queues_in a b c)) l l'
-  set_own u r o p e f g m n =
-      puts_as t (next_is u r o) (standing false t (queues_in a b c)) l l'
-      (stands_own t (queues_in a b c) (sfu_len ∙ m) (λ z. n (sym own_len ∙ z))
-      ∙ next_eq (head_of (queue_in (queues_in a b c) (2 * t))) u (2 * t) r (only (queue_in (queues_in a b c) (2 * t)).len) o (own_is_lem ∙ sym e) (sym f)
-      (ap only own_len ∙ sym g)) p
+  pub is_own : (u : ℕ) (r : Role) → u ≡ head_of (queue_at a b c (2 * t)) → r ≡ only (get_or c (2 * t) 0) → get_or c (2 * t + 1) 0 ≡ 0 → get_or c (2 * t) 0 ≢ 0
+      → next_is u r ≡ standing false t (queues_in a b c)
+  is_own u r e g m n =
+      sym (stands_own t (queues_in a b c) (sfu_len ∙ m) (λ z. n (sym own_len ∙ z)) ∙ next_eq _ _ _ _ (own_is_lem ∙ sym e) (ap only own_len ∙ sym g))
 
   -- the step that follows a try
-  pub set_step : (u r : ℕ) → Puts t (next_is u r 2) l l' → u ≡ head_of (queue_at a b c (2 * t)) → r ≡ 2 * t → Puts t (standing true t (queues_in a b c)) l l'
+  pub is_step : (u : ℕ) → u ≡ head_of (queue_at a b c (2 * t)) → next_is u Follows ≡ standing true t (queues_in a b c)
   unfolding standing
-  set_step u r p e f =
-      puts_as t (next_is u r 2) (standing true t (queues_in a b c)) l l'
-      (next_eq (head_of (queue_in (queues_in a b c) (2 * t))) u (2 * t) r 2 2 (own_is_lem ∙ sym e) (sym f) refl) p
+  is_step u e = sym (next_eq _ _ _ _ (own_is_lem ∙ sym e) refl)
 
 -- a try that is over, by whether the task had a process of its own
-pub tried_ends : (t p : ℕ) (had : Bool) (qs : List Queue) (l l' : List ℕ) → had ≡ false → Puts t (standing false t qs) l l' → (32 + p ≡ place_after Try had p) × Puts t (standing had t qs) l l'
+pub tried_ends : (t p : ℕ) (had : Bool) (qs : List Queue) (n : Option Next) → had ≡ false → n ≡ standing false t qs → (32 + p ≡ place_after Try had p) × (n ≡ standing had t qs)
 unfolding place_after
-tried_ends t p had qs l l' e x = (ap (λ (b : Bool). place_after Try b p) (sym e), subst (λ (b : Bool). Puts t (standing b t qs) l l') (sym e) x)
+tried_ends t p had qs n e x = (ap (λ (b : Bool). place_after Try b p) (sym e), x ∙ ap (λ (b : Bool). standing b t qs) (sym e))
 
-pub tried_goes : (t p : ℕ) (had : Bool) (qs : List Queue) (l l' : List ℕ) → had ≡ true → Puts t (standing true t qs) l l' → (56 + p ≡ place_after Try had p) × Puts t (standing had t qs) l l'
+pub tried_goes : (t p : ℕ) (had : Bool) (qs : List Queue) (n : Option Next) → had ≡ true → n ≡ standing true t qs → (56 + p ≡ place_after Try had p) × (n ≡ standing had t qs)
 unfolding place_after
-tried_goes t p had qs l l' e x = (ap (λ (b : Bool). place_after Try b p) (sym e), subst (λ (b : Bool). Puts t (standing b t qs) l l') (sym e) x)
+tried_goes t p had qs n e x = (ap (λ (b : Bool). place_after Try b p) (sym e), x ∙ ap (λ (b : Bool). standing b t qs) (sym e))
 
--- ---- what the marks say of the queues
+-- ---- what the next attempts say of the queues
 
-ups : (t : ℕ) (l : List ℕ) (u r o : ℕ) → next_at l t ≡ next_is u r o → get_or l t 0 ≡ u
-unfolding next_at
-ups t l u r o e = ap (λ (n : Next). n.up) e
+-- the roles are apart
+pub role_of : (l : List (Option Next)) (t : ℕ) (n : Next) (u : ℕ) (r : Role) → next_at l t ≡ Some n → next_at l t ≡ next_is u r → n.role ≡ r
+role_of l t n u r e f = let g : Some n ≡ next_is u r = sym e ∙ f in let h : n ≡ record { pt = u; role = r } = cc in ap (λ (x : Next). x.role) h
 
-rings : (t : ℕ) (l : List ℕ) (u r o : ℕ) → next_at l t ≡ next_is u r o → get_or l (numbers + t) 0 ≡ r
-unfolding next_at
-rings t l u r o e = ap (λ (n : Next). n.ring) e
+pub pt_of : (l : List (Option Next)) (t : ℕ) (n : Next) (u : ℕ) (r : Role) → next_at l t ≡ Some n → next_at l t ≡ next_is u r → n.pt ≡ u
+pt_of l t n u r e f = let g : Some n ≡ next_is u r = sym e ∙ f in let h : n ≡ record { pt = u; role = r } = cc in ap (λ (x : Next). x.pt) h
 
-alones : (t : ℕ) (l : List ℕ) (u r o : ℕ) → next_at l t ≡ next_is u r o → get_or l (2 * numbers + t) 0 ≡ o
-unfolding next_at
-alones t l u r o e = ap (λ (n : Next). n.alone) e
-
-only_several : (n : ℕ) → 2 ≤ n → only n ≡ 0
+only_several : (n : ℕ) → 2 ≤ n → only n ≡ Several
 unfolding only
-only_several n h = ap (λ (b : Bool). cond b 1 0) (ne_eqb n 1 (λ e. omega (arith, e, h)))
+only_several n h = ap (λ (b : Bool). cond b Alone Several) (ne_eqb n 1 (λ e. omega (arith, e, h)))
+
+only_alone : (n : ℕ) → n ≡ 1 → only n ≡ Alone
+unfolding only
+only_alone n e = ap only e
 
 -- the numbers of the task's queue where its head steps and none follows a try
-pub record Own (t : ℕ) (l lens : List ℕ) : Type 0 where
-  pub is : get_or l (2 * numbers + t) 0 ≡ only (get_or lens (2 * t) 0)
+pub record Own (t : ℕ) (r : Role) (lens : List ℕ) : Type 0 where
+  pub is : r ≡ only (get_or lens (2 * t) 0)
   pub empty : get_or lens (2 * t + 1) 0 ≡ 0
-  pub some : get_or lens (2 * t) 0 ≢ 0
+  pub some_one : get_or lens (2 * t) 0 ≢ 0
 
-module _ (t : ℕ) (l a b c : List ℕ) (small : t < numbers) where
+module _ (t : ℕ) (l : List (Option Next)) (n : Next) (a b c : List ℕ) (small : t < numbers) (here : next_at l t ≡ Some n) where
   ownl : (queue_in (queues_in a b c) (2 * t)).len ≡ get_or c (2 * t) 0
   ownl = len_in a b c (2 * t) (omega (arith, small))
 
   sful : (queue_in (queues_in a b c) (2 * t + 1)).len ≡ get_or c (2 * t + 1) 0
   sful = len_in a b c (2 * t + 1) (omega (arith, small))
 
-  pub acts_own : Acting t l (queues_in a b c) → get_or l (numbers + t) 0 ≡ 2 * t → 1 ≤ get_or c (2 * t) 0
+  abbrev is : (u : ℕ) (r : Role) → next_at l t ≡ next_is u r → n.role ≡ r
+  is u r e = role_of l t n u r here e
+
+  pub acts_own : Acting t l (queues_in a b c) → n.role ≢ Tries → 1 ≤ get_or c (2 * t) 0
   acts_own (alone e p q) r = omega (arith, p, ownl)
   acts_own (several e p q) r = omega (arith, p, ownl)
   acts_own (follows e p) r = omega (arith, p, ownl)
-  acts_own (tries e p) r = absurd (omega (arith, r, rings t l _ _ _ e))
+  acts_own (tries e p) r = absurd (r (is _ _ e))
 
-  pub acts_sfu : Acting t l (queues_in a b c) → get_or l (numbers + t) 0 ≢ 2 * t → 1 ≤ get_or c (2 * t + 1) 0
-  acts_sfu (alone e p q) r = absurd (r (rings t l _ _ _ e))
-  acts_sfu (several e p q) r = absurd (r (rings t l _ _ _ e))
-  acts_sfu (follows e p) r = absurd (r (rings t l _ _ _ e))
+  pub acts_sfu : Acting t l (queues_in a b c) → n.role ≡ Tries → 1 ≤ get_or c (2 * t + 1) 0
+  acts_sfu (alone e p q) r = let x : Alone ≡ Tries = sym (is _ _ e) ∙ r in cc
+  acts_sfu (several e p q) r = let x : Several ≡ Tries = sym (is _ _ e) ∙ r in cc
+  acts_sfu (follows e p) r = let x : Follows ≡ Tries = sym (is _ _ e) ∙ r in cc
   acts_sfu (tries e p) r = omega (arith, p, sful)
 
-  -- the number of the ring
-  pub acts_ring : Acting t l (queues_in a b c) → get_or l (numbers + t) 0 ≤ 2 * t + 1
-  acts_ring (alone e p q) = omega (arith, rings t l _ _ _ e)
-  acts_ring (several e p q) = omega (arith, rings t l _ _ _ e)
-  acts_ring (follows e p) = omega (arith, rings t l _ _ _ e)
-  acts_ring (tries e p) = omega (arith, rings t l _ _ _ e)
+  pub acts_here : Acting t l (queues_in a b c) → n.role ≢ Tries → n.role ≢ Follows → Own t n.role c
+  acts_here (alone e p q) r f = record { is = is _ _ e ∙ sym (only_alone _ (sym ownl ∙ p)); empty = sym sful ∙ q; some_one = λ z. omega (arith, z, p, ownl) }
+  acts_here (several e p q) r f = record { is = is _ _ e ∙ sym (only_several (get_or c (2 * t) 0) (omega (arith, p, ownl))); empty = sym sful ∙ q; some_one = λ z. omega (arith, z, p, ownl) }
+  acts_here (follows e p) r f = absurd (f (is _ _ e))
+  acts_here (tries e p) r f = absurd (r (is _ _ e))
 
-  pub acts_here : Acting t l (queues_in a b c) → get_or l (numbers + t) 0 ≡ 2 * t → get_or l (2 * numbers + t) 0 ≢ 2 → Own t l c
-  unfolding only
-  acts_here (alone e p q) r n = record { is = alones t l _ _ _ e ∙ ap only (sym p ∙ ownl); empty = sym sful ∙ q; some = λ z. omega (arith, z, p, ownl) }
-  acts_here (several e p q) r n = record { is = alones t l _ _ _ e ∙ sym (only_several (get_or c (2 * t) 0) (omega (arith, p, ownl))); empty = sym sful ∙ q; some = λ z. omega (arith, z, p, ownl) }
-  acts_here (follows e p) r n = absurd (n (alones t l _ _ _ e))
-  acts_here (tries e p) r n = absurd (omega (arith, r, rings t l _ _ _ e))
-
-  -- 1: the task's only process
+  -- the task's only process
   pub record Only : Type 0 where
-    pub ring : get_or l (numbers + t) 0 ≡ 2 * t
-    pub up : get_or l t 0 ≡ head_of (queue_in (queues_in a b c) (2 * t))
+    pub role : n.role ≡ Alone
+    pub pt : n.pt ≡ head_of (queue_in (queues_in a b c) (2 * t))
     pub one : get_or c (2 * t) 0 ≡ 1
-    pub is : next_at l t ≡ next_is (head_of (queue_in (queues_in a b c) (2 * t))) (2 * t) 1
+    pub is : next_at l t ≡ next_is (head_of (queue_in (queues_in a b c) (2 * t))) Alone
     pub empty : get_or c (2 * t + 1) 0 ≡ 0
 
-  pub acts_alone : Acting t l (queues_in a b c) → get_or l (2 * numbers + t) 0 ≡ 1 → Only
-  acts_alone (alone e p q) n = record { ring = rings t l _ _ _ e; up = ups t l _ _ _ e; one = sym ownl ∙ p; is = e; empty = sym sful ∙ q }
-  acts_alone (several e p q) n = absurd (omega (arith, n, alones t l _ _ _ e))
-  acts_alone (follows e p) n = absurd (omega (arith, n, alones t l _ _ _ e))
-  acts_alone (tries e p) n = absurd (omega (arith, n, alones t l _ _ _ e))
+  pub acts_alone : Acting t l (queues_in a b c) → n.role ≡ Alone → Only
+  acts_alone (alone e p q) r = record { role = r; pt = pt_of l t n _ _ here e; one = sym ownl ∙ p; is = e; empty = sym sful ∙ q }
+  acts_alone (several e p q) r = let x : Several ≡ Alone = sym (is _ _ e) ∙ r in cc
+  acts_alone (follows e p) r = let x : Follows ≡ Alone = sym (is _ _ e) ∙ r in cc
+  acts_alone (tries e p) r = let x : Tries ≡ Alone = sym (is _ _ e) ∙ r in cc
 
-  -- 0 in the task's queue: it has more than one process, and the SFU queue none
-  pub record Several : Type 0 where
+  -- one of several in the task's queue: the SFU queue has None
+  pub record Many : Type 0 where
     pub many : 2 ≤ get_or c (2 * t) 0
     pub empty : get_or c (2 * t + 1) 0 ≡ 0
 
-  pub acts_several : Acting t l (queues_in a b c) → get_or l (numbers + t) 0 ≡ 2 * t → get_or l (2 * numbers + t) 0 ≡ 0 → Several
-  acts_several (alone e p q) r n = absurd (omega (arith, n, alones t l _ _ _ e))
-  acts_several (several e p q) r n = record { many = omega (arith, p, ownl); empty = sym sful ∙ q }
-  acts_several (follows e p) r n = absurd (omega (arith, n, alones t l _ _ _ e))
-  acts_several (tries e p) r n = absurd (omega (arith, r, rings t l _ _ _ e))
+  pub acts_several : Acting t l (queues_in a b c) → n.role ≡ Several → Many
+  acts_several (alone e p q) r = let x : Alone ≡ Several = sym (is _ _ e) ∙ r in cc
+  acts_several (several e p q) r = record { many = omega (arith, p, ownl); empty = sym sful ∙ q }
+  acts_several (follows e p) r = let x : Follows ≡ Several = sym (is _ _ e) ∙ r in cc
+  acts_several (tries e p) r = let x : Tries ≡ Several = sym (is _ _ e) ∙ r in cc
 
 -- ---- the motions by number, for a task below `numbers`
 
@@ -305,39 +243,46 @@ went_on t place a b c a' b' c' h n m =
     m ∙ sym (try_passes t (queues_in a b c) h)
     ∙ ap (λ (x : Bool). moved_queues (going_motion x Try) Try t (queues_in a b c)) (sym (ne_eqb place numbers n))
 
--- ---- an attempt is a step or a try by the ring that its process heads
+-- ---- an attempt is a step or a try by its process's role
 
-pub as_step : (t : ℕ) (l : List ℕ) → get_or l (numbers + t) 0 ≡ 2 * t → attempt_at t l ≡ Step
-unfolding attempt_at
-as_step t l e = ap (λ (b : Bool). cond {A = Attempt} b Step Try) (eq-eqb (get_or l (numbers + t) 0) (2 * t) e)
+step_role : (r : Role) → r ≢ Tries → attempt_as r ≡ Step
+unfolding attempt_as
+step_role Alone n = refl
+step_role Several n = refl
+step_role Follows n = refl
+step_role Tries n = absurd (n refl)
 
-pub as_try : (t : ℕ) (l : List ℕ) → get_or l (numbers + t) 0 ≢ 2 * t → attempt_at t l ≡ Try
-unfolding attempt_at
-as_try t l n = ap (λ (b : Bool). cond {A = Attempt} b Step Try) (ne_eqb (get_or l (numbers + t) 0) (2 * t) n)
+pub as_step : (t : ℕ) (l : List (Option Next)) (n : Next) → next_at l t ≡ Some n → n.role ≢ Tries → attempt_at t l ≡ Step
+unfolding attempt_in
+as_step t l n e r = ap attempt_in e ∙ step_role n.role r
 
-module _ (t place r : ℕ) (had : Bool) (m : Attempt → Motion) (a b c l a' b' c' l' : List ℕ) where
+pub as_try : (t : ℕ) (l : List (Option Next)) (n : Next) → next_at l t ≡ Some n → n.role ≡ Tries → attempt_at t l ≡ Try
+unfolding attempt_in attempt_as
+as_try t l n e r = ap attempt_in e ∙ ap attempt_as r
+
+module _ (t place r : ℕ) (had : Bool) (m : Attempt → Motion) (a b c : List ℕ) (l : List (Option Next)) (a' b' c' : List ℕ) (l' : List (Option Next)) (n : Next) (here : next_at l t ≡ Some n) where
   -- a step: queues as its motion says, and the next attempt worked out from them
-  pub ends_step : get_or l (numbers + t) 0 ≡ 2 * t → r ≡ place → queues_in a' b' c' ≡ moved_queues (m Step) Step t (queues_in a b c) → Puts t (standing false t (queues_in a' b' c')) l l'
+  pub ends_step : n.role ≢ Tries → r ≡ place → queues_in a' b' c' ≡ moved_queues (m Step) Step t (queues_in a b c) → l' ≡ set l t (standing false t (queues_in a' b' c'))
       → (r ≡ place_after (attempt_at t l) had place) × Goes t had m a b c l a' b' c' l'
   unfolding place_after followed
   ends_step e f q p = (
-    f ∙ ap (λ (x : Attempt). place_after x had place) (sym (as_step t l e)),
+    f ∙ ap (λ (x : Attempt). place_after x had place) (sym (as_step t l n here e)),
     record {
-      queues = q ∙ ap (λ (x : Attempt). moved_queues (m x) x t (queues_in a b c)) (sym (as_step t l e));
+      queues = q ∙ ap (λ (x : Attempt). moved_queues (m x) x t (queues_in a b c)) (sym (as_step t l n here e));
       puts = puts_as t (standing false t (queues_in a' b' c')) (standing (followed (attempt_at t l) had) t (queues_in a' b' c')) l l'
-          (ap (λ (x : Attempt). standing (followed x had) t (queues_in a' b' c')) (as_step t l e)) p;
+          (ap (λ (x : Attempt). standing (followed x had) t (queues_in a' b' c')) (as_step t l n here e)) (put_as t l l' n (standing false t (queues_in a' b' c')) here p);
     },
   )
 
-  pub ends_try : get_or l (numbers + t) 0 ≢ 2 * t → r ≡ place_after Try had place → queues_in a' b' c' ≡ moved_queues (m Try) Try t (queues_in a b c)
-      → Puts t (standing had t (queues_in a' b' c')) l l' → (r ≡ place_after (attempt_at t l) had place) × Goes t had m a b c l a' b' c' l'
+  pub ends_try : n.role ≡ Tries → r ≡ place_after Try had place → queues_in a' b' c' ≡ moved_queues (m Try) Try t (queues_in a b c)
+      → l' ≡ set l t (standing had t (queues_in a' b' c')) → (r ≡ place_after (attempt_at t l) had place) × Goes t had m a b c l a' b' c' l'
   unfolding followed
-  ends_try n f q p = (
-    f ∙ ap (λ (x : Attempt). place_after x had place) (sym (as_try t l n)),
+  ends_try e f q p = (
+    f ∙ ap (λ (x : Attempt). place_after x had place) (sym (as_try t l n here e)),
     record {
-      queues = q ∙ ap (λ (x : Attempt). moved_queues (m x) x t (queues_in a b c)) (sym (as_try t l n));
+      queues = q ∙ ap (λ (x : Attempt). moved_queues (m x) x t (queues_in a b c)) (sym (as_try t l n here e));
       puts = puts_as t (standing had t (queues_in a' b' c')) (standing (followed (attempt_at t l) had) t (queues_in a' b' c')) l l'
-          (ap (λ (x : Attempt). standing (followed x had) t (queues_in a' b' c')) (as_try t l n)) p;
+          (ap (λ (x : Attempt). standing (followed x had) t (queues_in a' b' c')) (as_try t l n here e)) (put_as t l l' n (standing had t (queues_in a' b' c')) here p);
     },
   )
 
@@ -401,32 +346,31 @@ turns_none qs k h = ap (set qs k) (turned_one (get_or qs k no_queue) h) ∙ set-
 
 -- ---- the short ways
 
-module _ (t : ℕ) (l l' : List ℕ) (small : t < numbers) where
+module _ (t : ℕ) (l : List (Option Next)) (n : Next) (small : t < numbers) (here : next_at l t ≡ Some n) where
   -- the head of several leaves: the next one's head, and whether it is alone
-  pub left_several : (a b c b' c' : List ℕ) (u r o : ℕ) → Several t l a b c small → Moves (2 * t) shifted a b c a b' c' → Puts t (next_is u r o) l l'
-      → u ≡ head_of (queue_at a b' c' (2 * t)) → r ≡ 2 * t → o ≡ only (get_or c (2 * t) 0 - 1) → Puts t (standing false t (queues_in a b' c')) l l'
-  left_several a b c b' c' u r o s m p e f g =
-      let n : get_or c' (2 * t) 0 ≡ get_or c (2 * t) 0 - 1 = left_len (2 * t) a b c a b' c' m in
-      set_own t a b' c' l l' small u r o p e f (g ∙ ap only (sym n))
-      (moves_len (2 * t) (2 * t + 1) shifted a b c a b' c' (λ z. omega (arith, z)) m ∙ s.empty)
+  pub left_several : (a b c a' b' c' : List ℕ) (u : ℕ) (r : Role) → Many t l n a b c small here → Moves (2 * t) shifted a b c a' b' c'
+      → u ≡ head_of (queue_at a' b' c' (2 * t)) → r ≡ only (get_or c' (2 * t) 0) → next_is u r ≡ standing false t (queues_in a' b' c')
+  left_several a b c a' b' c' u r s m e f =
+      let n : get_or c' (2 * t) 0 ≡ get_or c (2 * t) 0 - 1 = left_len (2 * t) a b c a' b' c' m in
+      is_own t a' b' c' small u r e f
+      (moves_len (2 * t) (2 * t + 1) shifted a b c a' b' c' (λ z. omega (arith, z)) m ∙ s.empty)
       (λ z. omega (arith, z, n, s.many))
 
   -- a PT joins the task's only process: its head stays head
-  pub joined_alone : (p : ℕ) (a b c a' b' c' : List ℕ) → Only t l a b c small → Moves (2 * t) (λ q. joined q p) a b c a' b' c'
-      → Puts t (next_is (get_or l t 0) (get_or l (numbers + t) 0) 0) l l' → Puts t (standing false t (queues_in a' b' c')) l l'
+  pub joined_alone : (p : ℕ) (a b c a' b' c' : List ℕ) → Only t l n a b c small here → Moves (2 * t) (λ q. joined q p) a b c a' b' c'
+      → next_is n.pt Several ≡ standing false t (queues_in a' b' c')
   unfolding queue_at
-  joined_alone p a b c a' b' c' s m x =
-      let n : get_or c' (2 * t) 0 ≡ get_or c (2 * t) 0 + 1 = joined_len_at (2 * t) p a b c a' b' c' (omega (arith, s.one)) m in
-      set_own t a' b' c' l l' small (get_or l t 0) (get_or l (numbers + t) 0) 0 x
-      (s.up ∙ ap head_of (in_ring a b c (2 * t) (omega (arith, small)))
+  joined_alone p a b c a' b' c' s m =
+      let k : get_or c' (2 * t) 0 ≡ get_or c (2 * t) 0 + 1 = joined_len_at (2 * t) p a b c a' b' c' (omega (arith, s.one)) m in
+      is_own t a' b' c' small n.pt Several
+      (s.pt ∙ ap head_of (in_ring a b c (2 * t) (omega (arith, small)))
       ∙ sym (joined_head (queue_at a b c (2 * t)) p (omega (arith, s.one)) (omega (arith, s.one)))
       ∙ sym (ap head_of m.mine))
-      s.ring
-      (sym (only_several (get_or c' (2 * t) 0) (omega (arith, n, s.one))))
+      (sym (only_several (get_or c' (2 * t) 0) (omega (arith, k, s.one))))
       (moves_len (2 * t) (2 * t + 1) (λ q. joined q p) a b c a' b' c' (λ z. omega (arith, z)) m ∙ s.empty)
-      (λ z. omega (arith, z, n))
+      (λ z. omega (arith, z, k))
 
-  pub joined_alone_in : (p : ℕ) (a b c a' b' c' : List ℕ) → Only t l a b c small → Moves (2 * t) (λ q. joined q p) a b c a' b' c'
+  pub joined_alone_in : (p : ℕ) (a b c a' b' c' : List ℕ) → Only t l n a b c small here → Moves (2 * t) (λ q. joined q p) a b c a' b' c'
       → queues_in a' b' c' ≡ moved_queues (created_motion Step p) Step t (queues_in a b c)
   unfolding created_motion
   joined_alone_in p a b c a' b' c' s m =
@@ -435,13 +379,11 @@ module _ (t : ℕ) (l l' : List ℕ) (small : t < numbers) where
       ∙ sym (step_creates t (queues_in a b c) small p)
 
   -- the task's only process goes on or waits: nothing moves
-  pub stays_alone : (place : ℕ) (had : Bool) (x : Bool) (a b c : List ℕ) → Only t l a b c small
+  pub stays_alone : (place : ℕ) (had : Bool) (x : Bool) (a b c : List ℕ) → Only t l n a b c small here
       → (place ≡ place_after (attempt_at t l) had place) × Goes t had (going_motion x) a b c l a b c l
-  unfolding only
   stays_alone place had x a b c s =
-      let n = len_in a b c (2 * t) (omega (arith, small)) in
+      let k = len_in a b c (2 * t) (omega (arith, small)) in
       let o = len_in a b c (2 * t + 1) (omega (arith, small)) in
-      ends_step t place place had (going_motion x) a b c l a b c l s.ring refl
-      (sym (turns_none (queues_in a b c) (2 * t) (omega (arith, s.one, n))) ∙ sym (step_goes x t (queues_in a b c) small))
-      (none_puts t (standing false t (queues_in a b c)) l
-      (s.is ∙ sym (stands_own t (queues_in a b c) (o ∙ s.empty) (λ z. omega (arith, z, n, s.one)) ∙ ap (λ (m : ℕ). next_is (head_of (queue_in (queues_in a b c) (2 * t))) (2 * t) (only m)) (n ∙ s.one))))
+      ends_step t place place had (going_motion x) a b c l a b c l n here (λ z. let y : Alone ≡ Tries = sym s.role ∙ z in cc) refl
+      (sym (turns_none (queues_in a b c) (2 * t) (omega (arith, s.one, k))) ∙ sym (step_goes x t (queues_in a b c) small))
+      (sym (ap (set l t) (sym (s.is ∙ sym (stands_own t (queues_in a b c) (o ∙ s.empty) (λ z. omega (arith, z, k, s.one)) ∙ ap (λ (r : Role). next_is (head_of (queue_in (queues_in a b c) (2 * t))) r) (only_alone _ (k ∙ s.one))))) ∙ set-get_or l t None))

@@ -1,9 +1,8 @@
 -- An attempt of a run in numbers: performed, and then settled by its course, it is that of the definitions.
-use Rattle.std.specs.Prelude.{◌≡◌, ◌≢◌, Bool, true, false, not, ◌&&◌, ℕ, ◌+◌, ◌*◌, ◌/◌, ◌%◌, ◌^◌, ◌≤◌, ◌<◌, leb, set}
+use Rattle.std.specs.Prelude.{◌≡◌, ◌≢◌, Bool, true, false, not, ◌&&◌, ℕ, ◌+◌, ◌*◌, ◌/◌, ◌%◌, ◌^◌, ◌≤◌, ◌<◌, leb, set, Option, Some, None}
 use Rattle.std.proofs.Math.Path.{refl, ap, ap₂, subst}
 use Rattle.std.proofs.Common.{sym, ◌∙◌, subst₂, true≢false, arith, length-set, get_or-take, get_or-set_other, eq-eqb}
 use Rattle.std.proofs.lemmas.Bool.{false≢true}
-use Rattle.std.proofs.Math.Option.{Option, none, some}
 use mathlib.Core.List.{List}
 use Rattle.std.specs.Int.Count.{count_trailing_zeros}
 use Rattle.std.proofs.Math.ListN.{length, get_or, take}
@@ -23,7 +22,6 @@ use Rattle.operation.specs.Decide.{decide}
 use Rattle.operation.proofs.Laws.SoundDecisions.{SoundFate, SoundDecision}
 use Rattle.step.specs.declared.Attempt.{Attempt}
 use Rattle.step.specs.declared.Attempt.TheVariants.{Step, Try}
-use Rattle.step.specs.declared.Decided.TheVariants.{Decides}
 use Rattle.step.specs.declared.Queue.{Queue}
 use Rattle.step.specs.declared.StepResult.{StepResult}
 use Rattle.step.specs.Queues.{pt_count, numbers, own_number, sfu_number, task_place, acting_number, below_total, head_of, live_pts, live_total}
@@ -48,10 +46,12 @@ use Rattle.run_rings.specs.Laws.Live.{lowest_is, lowest_lt, lowest_fits, total_l
 use Rattle.run_rings.specs.Laws.Records.{find_in, records_after}
 use Rattle.run_rings.specs.Laws.Rows.{rising_in, listed, Row-of, live_row}
 use Rattle.run_rings.specs.Laws.Spans.{windows_in}
-use Rattle.run_next.specs.Code.Next.{next_at, Acting, alone, several, follows, tries, attempt_at}
+use Rattle.run_next.specs.declared.Next.{Next}
+use Rattle.run_next.specs.declared.Role.{Role}
+use Rattle.run_next.specs.Code.Next.{next_is, next_at, Acting, alone, several, follows, tries, attempt_as, attempt_in, attempt_at}
 use Rattle.run_next.specs.Code.Settled.{Lines, lines, queues_of, attempt_of, result_by, psws_by, Ready, Settles}
 use Rattle.run_next.specs.Code.Numbers.{Cells, state_from, Numbers, Attempted}
-use Rattle.run_next.specs.Laws.Next.{own_number_lem, sfu_number_lem, as_step, as_try}
+use Rattle.run_next.specs.Laws.Next.{own_number_lem, sfu_number_lem, pt_of}
 use Rattle.run_next.specs.Laws.Frees.{Fit, course_fits}
 use Rattle.run_next.specs.Laws.Fits.{both_fit}
 use Rattle.run_next.specs.Laws.Psws.{psws_kept}
@@ -90,10 +90,10 @@ room_down live fl e z = on (leb 64 live) (le? 64 live) (ap (λ (b : Bool). not (
     on true (below k) p = absurd (false≢true p)
     on false (above k) p = k
 
-decides_some : (o : Option Decision) (d : Decision) → Decides d ≡ decided_as o → o ≡ some d
+decides_some : (o : Option Decision) (d : Decision) → Some d ≡ decided_as o → o ≡ Some d
 unfolding decided_as
-decides_some none d e = let q : true ≡ false = cc in absurd (true≢false q)
-decides_some (some x) d e = cc
+decides_some None d e = let q : true ≡ false = cc in absurd (true≢false q)
+decides_some (Some x) d e = cc
 
 -- ---- the PSWs of settling
 
@@ -140,26 +140,30 @@ decided_length pt f (decision.Executes e) w = on e.fate
 
 -- ---- the process that acts
 
-acts_head : (t : ℕ) (l : List ℕ) (qs : List Queue) → t < numbers → Acting t l qs → get_or l t 0 ≡ head_of (queue_in qs (acting_number (attempt_at t l) t))
-unfolding next_at acting_number
-acts_head t l qs h (alone e o s) = rw (as_step t l (ap (λ n. n.ring) e), own_number_lem t h) (ap (λ n. n.up) e)
-acts_head t l qs h (several e o s) = rw (as_step t l (ap (λ n. n.ring) e), own_number_lem t h) (ap (λ n. n.up) e)
-acts_head t l qs h (follows e o) = rw (as_step t l (ap (λ n. n.ring) e), own_number_lem t h) (ap (λ n. n.up) e)
-acts_head t l qs h (tries e o) = let r = ap (λ n. n.ring) e in rw (as_try t l (λ q. omega (arith, q, r)), sfu_number_lem t h) (ap (λ n. n.up) e)
+pub step_at : (t : ℕ) (l : List (Option Next)) (u : ℕ) (r : Role) → next_at l t ≡ next_is u r → attempt_at t l ≡ attempt_as r
+unfolding attempt_in
+step_at t l u r e = ap attempt_in e
 
-acts_some : (t : ℕ) (l : List ℕ) (qs : List Queue) → t < numbers → Acting t l qs → (queue_in qs (acting_number (attempt_at t l) t)).len ≢ 0
-unfolding next_at acting_number
-acts_some t l qs h (alone e o s) = rw (as_step t l (ap (λ n. n.ring) e), own_number_lem t h) (λ z. absurd (omega (arith, o, z)))
-acts_some t l qs h (several e o s) = rw (as_step t l (ap (λ n. n.ring) e), own_number_lem t h) (λ z. absurd (omega (arith, o, z)))
-acts_some t l qs h (follows e o) = rw (as_step t l (ap (λ n. n.ring) e), own_number_lem t h) (λ z. absurd (omega (arith, o, z)))
-acts_some t l qs h (tries e o) = let r = ap (λ n. n.ring) e in rw (as_try t l (λ q. omega (arith, q, r)), sfu_number_lem t h) (λ z. absurd (omega (arith, o, z)))
+acts_head : (t : ℕ) (l : List (Option Next)) (n : Next) (qs : List Queue) → t < numbers → next_at l t ≡ Some n → Acting t l qs → n.pt ≡ head_of (queue_in qs (acting_number (attempt_at t l) t))
+unfolding acting_number attempt_as
+acts_head t l n qs h f (alone e o s) = rw (step_at t l _ _ e, own_number_lem t h) (pt_of l t n _ _ f e)
+acts_head t l n qs h f (several e o s) = rw (step_at t l _ _ e, own_number_lem t h) (pt_of l t n _ _ f e)
+acts_head t l n qs h f (follows e o) = rw (step_at t l _ _ e, own_number_lem t h) (pt_of l t n _ _ f e)
+acts_head t l n qs h f (tries e o) = rw (step_at t l _ _ e, sfu_number_lem t h) (pt_of l t n _ _ f e)
+
+acts_some : (t : ℕ) (l : List (Option Next)) (qs : List Queue) → t < numbers → Acting t l qs → (queue_in qs (acting_number (attempt_at t l) t)).len ≢ 0
+unfolding acting_number attempt_as
+acts_some t l qs h (alone e o s) = rw (step_at t l _ _ e, own_number_lem t h) (λ z. absurd (omega (arith, o, z)))
+acts_some t l qs h (several e o s) = rw (step_at t l _ _ e, own_number_lem t h) (λ z. absurd (omega (arith, o, z)))
+acts_some t l qs h (follows e o) = rw (step_at t l _ _ e, own_number_lem t h) (λ z. absurd (omega (arith, o, z)))
+acts_some t l qs h (tries e o) = rw (step_at t l _ _ e, sfu_number_lem t h) (λ z. absurd (omega (arith, o, z)))
 
 acting_task : (a : Attempt) (t : ℕ) → t < numbers → acting_number a t / 2 ≡ t
 unfolding acting_number own_number sfu_number task_place
 acting_task Step t h = let m : t % numbers ≡ t = omega (arith, h) in omega (arith, m)
 acting_task Try t h = let m : t % numbers ≡ t = omega (arith, h) in omega (arith, m)
 
-module _ (rs : List Row) (sp : List ℕ) (x : Lines) (m : Cells) (h : Numbers rs sp x m) (t : ℕ) (low : t < numbers) (acting : Acting t x.marks (queues_of x)) where
+module _ (rs : List Row) (sp : List ℕ) (x : Lines) (m : Cells) (h : Numbers rs sp x m) (t : ℕ) (low : t < numbers) (nx : Next) (next : next_at x.next t ≡ Some nx) (acting : Acting t x.next (queues_of x)) where
   abbrev now : State
   now =
       state (rows_in x.kinds x.stored rs) (table_of (take pt_count x.psws) (queues_of x) x.flag) m.constants m.registers m.program m.data_words
@@ -168,7 +172,7 @@ module _ (rs : List Row) (sp : List ℕ) (x : Lines) (m : Cells) (h : Numbers rs
   which = attempt_of t x
 
   abbrev pt : ℕ
-  pt = get_or x.marks t 0
+  pt = nx.pt
 
   parts : Sound now
   unfolding state_from
@@ -178,12 +182,12 @@ module _ (rs : List Row) (sp : List ℕ) (x : Lines) (m : Cells) (h : Numbers rs
   tidy = tidy_of (rows_in x.kinds x.stored rs) now.table.users parts.table
 
   live : (queue_in (queues_of x) (acting_number which t)).len ≢ 0
-  live = acts_some t x.marks (queues_of x) low acting
+  live = acts_some t x.next (queues_of x) low acting
 
   head_is : pt ≡ head_of (queue_in (queues_of x) (acting_number which t))
-  head_is = acts_head t x.marks (queues_of x) low acting
+  head_is = acts_head t x.next nx (queues_of x) low next acting
 
-  pub head_lt : get_or x.marks t 0 < pt_count
+  pub head_lt : nx.pt < pt_count
   head_lt = omega (arith, head_is, LiveLaws.head_lt (queues_of x) tidy (acting_number which t) (acting_inside which t) live)
 
   -- the task is listed
@@ -209,12 +213,12 @@ module _ (rs : List Row) (sp : List ℕ) (x : Lines) (m : Cells) (h : Numbers rs
   -- what its process decides, and that it is done
   module _ (untrapped : get_or x.kinds t 0 ≡ no_trap) (c : Course) (ps : List ℕ) (n : Cells)
       (p : Performs (row_in x.kinds x.stored acting_row.row)
-      (decide (environment_of (row_in x.kinds x.stored acting_row.row) (get_or x.psws (get_or x.marks t 0) 0) x.flag m.program m.constants m.registers m.data_words))
-      (get_or x.marks t 0) 64 c x.psws ps m.registers n.registers m.data_words n.data_words) where
+      (decide (environment_of (row_in x.kinds x.stored acting_row.row) (get_or x.psws nx.pt 0) x.flag m.program m.constants m.registers m.data_words))
+      nx.pt 64 c x.psws ps m.registers n.registers m.data_words n.data_words) where
     abbrev mid : Lines
-    mid = lines x.marks x.pts x.heads x.lens x.kinds x.stored ps x.flag x.free x.count
+    mid = lines x.next x.pts x.heads x.lens x.kinds x.stored ps x.flag x.free x.count
 
-    finds : find_row t (rows_in x.kinds x.stored rs) ≡ some the_row
+    finds : find_row t (rows_in x.kinds x.stored rs) ≡ Some the_row
     unfolding the_row
     finds = find_in x.kinds x.stored t rs acting_row.row acting_row.finds
 
@@ -222,7 +226,7 @@ module _ (rs : List Row) (sp : List ℕ) (x : Lines) (m : Cells) (h : Numbers rs
     unfolding the_row
     no_trap_yet = ap (λ (y : ℕ). get_or x.kinds y 0) (find_task t rs acting_row.row acting_row.finds) ∙ untrapped
 
-    decides : Decides decision_now ≡ decided_as (row_decides decide now the_row (processes_acting now.table.users which t))
+    decides : Some decision_now ≡ decided_as (row_decides decide now the_row (processes_acting now.table.users which t))
     unfolding decision_now environment processes_at
     decides =
         head_decides_lem now the_row (take pt_count x.psws) (queue_in (queues_of x) (acting_number which t)) pt (get_or x.psws pt 0) decision_now no_trap_yet live head_is
@@ -245,9 +249,10 @@ module _ (rs : List Row) (sp : List ℕ) (x : Lines) (m : Cells) (h : Numbers rs
     both_few : get_or x.lens (2 * t) 0 + get_or x.lens (2 * t + 1) 0 ≤ pt_count
     both_few = omega (arith, both_fit t x.pts x.heads x.lens low, total_le (queues_of x) tidy)
 
-    pub acting_ready : Ready t (get_or x.marks t 0) c mid
+    pub acting_ready : Ready t nx c mid
     acting_ready = record {
       small = low;
+      next = next;
       acting = acting;
       fits = both_few;
       given =
@@ -266,7 +271,7 @@ module _ (rs : List Row) (sp : List ℕ) (x : Lines) (m : Cells) (h : Numbers rs
     }
 
     -- the attempt
-    module _ (r : ℕ) (y : Lines) (wide : numbers ≤ length x.kinds) (long : numbers ≤ length x.stored) (s : Settles t (get_or x.marks t 0) c (get_or ps (get_or x.marks t 0) 0) r mid y)
+    module _ (r : ℕ) (y : Lines) (wide : numbers ≤ length x.kinds) (long : numbers ≤ length x.stored) (s : Settles t nx.pt c (get_or ps nx.pt 0) r mid y)
         (constants : m.constants ≡ n.constants) (program : m.program ≡ n.program) where
       abbrev result_now : StepResult
       result_now = result_by t c (get_or ps pt 0) mid
@@ -292,7 +297,7 @@ module _ (rs : List Row) (sp : List ℕ) (x : Lines) (m : Cells) (h : Numbers rs
         data_words = p.data_words;
       }
 
-      parts_made : Parts which t now the_row (Decides decision_now) result_now (take pt_count y.psws) n.registers n.data_words
+      parts_made : Parts which t now the_row (Some decision_now) result_now (take pt_count y.psws) n.registers n.data_words
       unfolding result_by
       parts_made = record {
         head = pt;
@@ -305,7 +310,7 @@ module _ (rs : List Row) (sp : List ℕ) (x : Lines) (m : Cells) (h : Numbers rs
         lowest = λ _. ap (count_trailing_zeros 64) h.frees ∙ lowest_is (queues_of x);
         places = λ _. ap below_total h.counted;
         acts =
-            subst (λ (q : ℕ). Acts which the_row (Decides decision_now) pt (count_trailing_zeros 64 x.free) (below_total x.count)
+            subst (λ (q : ℕ). Acts which the_row (Some decision_now) pt (count_trailing_zeros 64 x.free) (below_total x.count)
             (course_result which (count_trailing_zeros 64 x.free) (below_total x.count) q c) (take pt_count x.psws) (take pt_count y.psws) m.registers n.registers m.data_words n.data_words)
             psw_kept
             (performs_acts which pt (count_trailing_zeros 64 x.free) (below_total x.count) (take pt_count x.psws) (omega (arith, head_lt, tidy.wide)) not_fresh
@@ -322,7 +327,7 @@ module _ (rs : List Row) (sp : List ℕ) (x : Lines) (m : Cells) (h : Numbers rs
       attempt_is : attempt_by decide which t now ≡ record { state = state_from rs y n; ending = result_now.ending }
       unfolding state_from
       attempt_is =
-          attempt_made which t now the_row (row_after result_now.ending the_row) (Decides decision_now) result_now (take pt_count y.psws) n.registers n.data_words (queues_of y) y.flag
+          attempt_made which t now the_row (row_after result_now.ending the_row) (Some decision_now) result_now (take pt_count y.psws) n.registers n.data_words (queues_of y) y.flag
           parts_made refl s.moved.queues s.moved.flag
           ∙ rw (← rows_made, constants, program) refl
 
@@ -332,7 +337,7 @@ module _ (rs : List Row) (sp : List ℕ) (x : Lines) (m : Cells) (h : Numbers rs
           rw (s.moved.free, s.moved.count, s.moved.queues, h.frees, h.counted)
           (course_fits (queues_of x) tidy t (get_or ps pt 0) pt (below_total (live_total (queues_of x))) which c live head_is room)
 
-      pub attempted : Attempted (attempt_of t x) t (result_by t c (get_or ps (get_or x.marks t 0) 0) mid).ending rs sp x m y n
+      pub attempted : Attempted (attempt_of t x) t (result_by t c (get_or ps nx.pt 0) mid).ending rs sp x m y n
       unfolding state_from decision_now the_row
       attempted = record {
         attempt = attempt_is;

@@ -1,9 +1,8 @@
 -- The loop over the attempts of a run: an idle item, an attempt, the end.
-use Rattle.std.specs.Prelude.{◌≡◌, ◌≢◌, Bool, List, ◌∷◌, ℕ, suc, ◌+◌, ◌*◌, ◌≤◌, ◌<◌, eqb, length, get_or, drop}
+use Rattle.std.specs.Prelude.{◌≡◌, ◌≢◌, Bool, List, ◌∷◌, ℕ, suc, ◌+◌, ◌*◌, ◌≤◌, ◌<◌, eqb, length, get_or, drop, Option, None, Some}
 use Rattle.std.proofs.Math.Path.{refl, sym, ap, subst}
 use Rattle.std.proofs.Common.{◌∙◌, true≢false, arith, drop_of_length-le, drop-cons}
 use Rattle.std.proofs.Math.Bool.{true, false, cond, not}
-use Rattle.std.proofs.Math.Option.{Option, none, some}
 use Rattle.word.proofs.Laws.Bools.{Eq?, same, differ, eq?}
 use Rattle.window.specs.declared.Row.{Row}
 use Rattle.operation.specs.declared.Course.{Course}
@@ -26,15 +25,16 @@ use Rattle.run.proofs.Laws.Run.{sum_counted, tries_counted}
 use Rattle.run_rings.specs.Code.Records.{rows_in}
 use Rattle.run_rings.specs.Laws.Rings.{len_in}
 use Rattle.run_rings.specs.Laws.Rows.{listed, listed_kind}
-use Rattle.run_next.specs.Code.Next.{no_attempt, next_is, next_at, only, standing, Acting, alone, several, tries, had_in, goes_on}
+use Rattle.run_next.specs.declared.Role.TheVariants.{Alone, Several, Follows, Tries}
+use Rattle.run_next.specs.Code.Next.{next_is, next_at, only, standing, Acting, alone, several, follows, tries, attempt_as, had_in, goes_on}
 use Rattle.run_next.specs.Code.Settled.{Lines, lines, queues_of, attempt_of, result_by, Settles}
 use Rattle.run_next.specs.Code.Stands.{StandsAt, Between}
 use Rattle.run_next.specs.Code.Numbers.{Cells, state_from, Attempted}
 use Rattle.run_next.specs.Code.Tally.{attempt_counts}
 use Rattle.run_next.specs.Code.Running.{Runs, Standing, before, between, Running}
-use Rattle.run_next.specs.Laws.Next.{own_number_lem, sfu_number_lem, as_step, as_try, stands_sfu, stands_own}
+use Rattle.run_next.specs.Laws.Next.{own_number_lem, sfu_number_lem, stands_sfu, stands_own}
 use Rattle.run_next.specs.Laws.Stands.{stands_acting, between_acting, not_idle, stands_kept, between_kept}
-use Rattle.run_next.specs.Laws.Numbers.{head_lt}
+use Rattle.run_next.specs.Laws.Numbers.{step_at}
 
 -- ---- one attempt more of a run
 
@@ -89,9 +89,9 @@ module _ (l : List ℕ) (i : ℕ) (s₀ s s' : State) (c : Tally) (e : Ending) (
     one (Trapped k p) n = refl
     one Idle n = absurd (n refl)
 
-    follows : (b : Bool) → step_follows had e ≡ b
+    goes_with : (b : Bool) → step_follows had e ≡ b
         → run_from decide false (drop i l) s c ≡ cond b (run_from decide true (t ∷ ts) s' (tried t 1 c)) (run_from decide false ts s' (tallied t (stepped e) (tried t 1 c)))
-    follows b f =
+    goes_with b f =
         first_item false l i s c here ∙ from_try decide t ts s c
         ∙ ap (λ (y : Stepped). cond (step_follows (has_process s.table.users t) y.ending) (run_from decide true (t ∷ ts) y.state (tried t (tries_of y.ending) c))
         (run_from decide false ts y.state (tallied t (stepped y.ending) (tried t (tries_of y.ending) c)))) q
@@ -107,7 +107,7 @@ module _ (l : List ℕ) (i : ℕ) (s₀ s s' : State) (c : Tally) (e : Ending) (
       within = r.within;
       counts = omega (arith, r.counts);
       tries = omega (arith, r.tries);
-      runs = first_item true l i s' (tried t 1 c) here ∙ sym (follows true f) ∙ r.runs;
+      runs = first_item true l i s' (tried t 1 c) here ∙ sym (goes_with true f) ∙ r.runs;
     }
 
     -- that ends its item
@@ -119,7 +119,7 @@ module _ (l : List ℕ) (i : ℕ) (s₀ s s' : State) (c : Tally) (e : Ending) (
           within = omega (arith, here);
           counts = omega (arith, r.counts, sum_counted (record { ending = e; tries = 1 }) c.counts);
           tries = omega (arith, r.tries, tries_counted (record { ending = e; tries = 1 }) c.counts);
-          runs = behind (added t (counts_of e 1) c) (ap (run_from decide false ts s') k ∙ sym (follows false f) ∙ r.runs);
+          runs = behind (added t (counts_of e 1) c) (ap (run_from decide false ts s') k ∙ sym (goes_with false f) ∙ r.runs);
         }
 
 -- ---- the start, and the end
@@ -143,10 +143,6 @@ step_try : Step ≡ Try → ⊥
 unfolding step?
 step_try e = true≢false (ap step? e)
 
-pub ring_of : (l : List ℕ) (t : ℕ) {u r o : ℕ} → next_at l t ≡ next_is u r o → get_or l (numbers + t) 0 ≡ r
-unfolding next_at
-ring_of l t e = ap (λ n. n.ring) e
-
 module _ (l : List ℕ) (i : ℕ) (s₀ : State) (rows : List Row) (spans : List ℕ) (x : Lines) (m : Cells) (c : Tally) (going : Running l i s₀ rows spans x m c) (here : i < length l)
     (small : get_or l i 0 < numbers) where
   abbrev task : ℕ
@@ -167,9 +163,12 @@ module _ (l : List ℕ) (i : ℕ) (s₀ : State) (rows : List Row) (spans : List
   empty_sfu = ap (queue_in queues) (sfu_number_lem task small)
 
   -- an active task without an attempt has no process
-  module _ (up : get_or x.marks task 0 ≡ no_attempt) (stands : next_at x.marks task ≡ standing false task queues) where
-    not_acting : Acting task x.marks queues → ⊥
-    not_acting a = absurd (omega (arith, up, head_lt rows spans x m going.numbers task small a))
+  module _ (idle : next_at x.next task ≡ None) (stands : next_at x.next task ≡ standing false task queues) where
+    not_acting : Acting task x.next queues → ⊥
+    not_acting (alone e p q) = let z : None ≡ next_is (head_of (queue_in queues (2 * task))) Alone = sym idle ∙ e in cc
+    not_acting (several e p q) = let z : None ≡ next_is (head_of (queue_in queues (2 * task))) Several = sym idle ∙ e in cc
+    not_acting (follows e p) = let z : None ≡ next_is (head_of (queue_in queues (2 * task))) Follows = sym idle ∙ e in cc
+    not_acting (tries e p) = let z : None ≡ next_is (head_of (queue_in queues (2 * task + 1))) Tries = sym idle ∙ e in cc
 
     no_sfu : (queue_in queues (2 * task + 1)).len ≡ 0
     no_sfu = on (eqb (queue_in queues (2 * task + 1)).len 0) (eq? (queue_in queues (2 * task + 1)).len 0)
@@ -183,7 +182,7 @@ module _ (l : List ℕ) (i : ℕ) (s₀ : State) (rows : List Row) (spans : List
     no_own = on (eqb (queue_in queues (2 * task)).len 0) (eq? (queue_in queues (2 * task)).len 0)
       where
         one : (b : Bool) → Eq? (queue_in queues (2 * task)).len 1 b → (queue_in queues (2 * task)).len ≢ 0
-            → next_at x.marks task ≡ next_is (head_of (queue_in queues (2 * task))) (2 * task) (cond b 1 0) → Acting task x.marks queues
+            → next_at x.next task ≡ next_is (head_of (queue_in queues (2 * task))) (cond b Alone Several) → Acting task x.next queues
         one true (same e) n k = alone k e no_sfu
         one false (differ e) n k = several k (omega (arith, e, n)) no_sfu
 
@@ -206,11 +205,11 @@ module _ (l : List ℕ) (i : ℕ) (s₀ : State) (rows : List Row) (spans : List
   trapped_idle n a = on (find_row task (rows_in x.kinds x.stored rows)) refl
     where
       on : (o : Option Row) → find_row task (rows_in x.kinds x.stored rows) ≡ o → attempt_by decide a task now ≡ record { state = now; ending = Idle }
-      on none e = idle_unlisted decide a task now e
-      on (some r) e =
+      on None e = idle_unlisted decide a task now e
+      on (Some r) e =
           idle_trapped decide a task now r e (λ q. n (sym (listed_kind x.kinds x.stored task rows r (listed x.kinds x.stored task rows r e)) ∙ q))
 
-  no_attempt_lem : get_or x.marks task 0 ≡ no_attempt → StandsAt x.kinds x.marks queues task → (a : Attempt) → attempt_by decide a task now ≡ record { state = now; ending = Idle }
+  no_attempt_lem : next_at x.next task ≡ None → StandsAt x.kinds x.next queues task → (a : Attempt) → attempt_by decide a task now ≡ record { state = now; ending = Idle }
   no_attempt_lem up s a = on (eqb (get_or x.kinds task 0) no_trap) (eq? (get_or x.kinds task 0) no_trap)
     where
       on : (b : Bool) → Eq? (get_or x.kinds task 0) no_trap b → attempt_by decide a task now ≡ record { state = now; ending = Idle }
@@ -218,11 +217,12 @@ module _ (l : List ℕ) (i : ℕ) (s₀ : State) (rows : List Row) (spans : List
       on false (differ n) = trapped_idle n a
 
   -- an idle item
-  pub idles_on : get_or x.marks task 0 ≡ no_attempt → Running l (i + 1) s₀ rows spans x m (added task (counts_of Idle 0) c)
+  pub idles_on : next_at x.next task ≡ None → Running l (i + 1) s₀ rows spans x m (added task (counts_of Idle 0) c)
+  unfolding standing
   idles_on up = on going.tried going.runs going.stands
     where
-      on : (b : Bool) → Runs l i b s₀ now c → Standing l i x.kinds x.marks queues b → Running l (i + 1) s₀ rows spans x m (added task (counts_of Idle 0) c)
-      on true r (between k b) = absurd (omega (arith, up, head_lt rows spans x m going.numbers task small (between_acting x.kinds x.marks queues task b)))
+      on : (b : Bool) → Runs l i b s₀ now c → Standing l i x.kinds x.next queues b → Running l (i + 1) s₀ rows spans x m (added task (counts_of Idle 0) c)
+      on true r (between k b) = let z : None ≡ next_is (head_of (queue_in queues (2 * task))) Follows = sym up ∙ b.here in cc
       on false r (before s) = record {
         tried = false;
         runs = steps_on l i s₀ now now c Idle here false (λ _. no_attempt_lem up (s.stands task small) Try) (no_attempt_lem up (s.stands task small) Step) r;
@@ -231,46 +231,46 @@ module _ (l : List ℕ) (i : ℕ) (s₀ : State) (rows : List Row) (spans : List
       }
 
   -- an attempt
-  module _ (up : get_or x.marks task 0 ≢ no_attempt) where
-    pub acting_now : Acting task x.marks (queues_of x)
+  module _ (up : next_at x.next task ≢ None) where
+    pub acting_now : Acting task x.next (queues_of x)
     acting_now = on going.tried going.stands
       where
-        on : (b : Bool) → Standing l i x.kinds x.marks queues b → Acting task x.marks queues
-        on true (between k b) = between_acting x.kinds x.marks queues task b
-        on false (before s) = stands_acting x.kinds x.marks queues task (s.stands task small) up
+        on : (b : Bool) → Standing l i x.kinds x.next queues b → Acting task x.next queues
+        on true (between k b) = between_acting x.kinds x.next queues task b
+        on false (before s) = stands_acting x.kinds x.next queues task (s.stands task small) up
 
     pub untrapped_now : get_or x.kinds task 0 ≡ no_trap
     untrapped_now = on going.tried going.stands
       where
-        by : (b : Bool) → Eq? (get_or x.kinds task 0) no_trap b → StandsAt x.kinds x.marks queues task → get_or x.kinds task 0 ≡ no_trap
+        by : (b : Bool) → Eq? (get_or x.kinds task 0) no_trap b → StandsAt x.kinds x.next queues task → get_or x.kinds task 0 ≡ no_trap
         by true (same e) s = e
         by false (differ n) s = absurd (up (s.idle n))
 
-        on : (b : Bool) → Standing l i x.kinds x.marks queues b → get_or x.kinds task 0 ≡ no_trap
+        on : (b : Bool) → Standing l i x.kinds x.next queues b → get_or x.kinds task 0 ≡ no_trap
         on true (between k b) = b.active
         on false (before s) = by (eqb (get_or x.kinds task 0) no_trap) (eq? (get_or x.kinds task 0) no_trap) (s.stands task small)
 
-    others_now : (u : ℕ) → u < numbers → u ≢ task → StandsAt x.kinds x.marks queues u
+    others_now : (u : ℕ) → u < numbers → u ≢ task → StandsAt x.kinds x.next queues u
     others_now = on going.tried going.stands
       where
-        on : (b : Bool) → Standing l i x.kinds x.marks queues b → (u : ℕ) → u < numbers → u ≢ task → StandsAt x.kinds x.marks queues u
+        on : (b : Bool) → Standing l i x.kinds x.next queues b → (u : ℕ) → u < numbers → u ≢ task → StandsAt x.kinds x.next queues u
         on true (between k b) = b.stands
         on false (before s) = λ u h n. s.stands u h
 
     -- a step without a try: nothing waits in the SFU queue
-    step_alone : (b : Bool) → Standing l i x.kinds x.marks queues b → attempt_of task x ≡ Step → b ≡ false → attempt_by decide Try task now ≡ record { state = now; ending = Idle }
-    unfolding acting_number
+    step_alone : (b : Bool) → Standing l i x.kinds x.next queues b → attempt_of task x ≡ Step → b ≡ false → attempt_by decide Try task now ≡ record { state = now; ending = Idle }
+    unfolding acting_number attempt_as
     step_alone true (between k b) a f = absurd (true≢false f)
     step_alone false (before s) a f = idle_empty decide Try task now (ap (λ (q : Queue). q.len) empty_sfu ∙ on (eqb (queue_in queues (2 * task + 1)).len 0) (eq? (queue_in queues (2 * task + 1)).len 0))
       where
         on : (b : Bool) → Eq? (queue_in queues (2 * task + 1)).len 0 b → (queue_in queues (2 * task + 1)).len ≡ 0
         on true (same e) = e
-        on false (differ n) = absurd (step_try (sym a ∙ as_try task x.marks (λ q. absurd (omega (arith, q, ring_of x.marks task ((s.stands task small).active untrapped_now ∙ stands_sfu task queues n))))))
+        on false (differ n) = absurd (step_try (sym a ∙ step_at task x.next _ _ ((s.stands task small).active untrapped_now ∙ stands_sfu task queues n)))
 
     -- between a try and its step the attempt is a step
-    between_step : Between task x.kinds x.marks queues → attempt_of task x ≡ Step
-    unfolding standing
-    between_step b = as_step task x.marks (ring_of x.marks task b.here)
+    between_step : Between task x.kinds x.next queues → attempt_of task x ≡ Step
+    unfolding standing attempt_as
+    between_step b = step_at task x.next _ _ b.here
 
     has_now : has_process now.table.users task ≡ had_in task x.lens
     unfolding has_process had_in
@@ -278,10 +278,10 @@ module _ (l : List ℕ) (i : ℕ) (s₀ : State) (rows : List Row) (spans : List
 
     -- performed and settled
     module _ (pt p r : ℕ) (k : Course) (ps : List ℕ) (y : Lines) (n : Cells) (wide : numbers ≤ length x.kinds)
-        (settles : Settles task pt k p r (lines x.marks x.pts x.heads x.lens x.kinds x.stored ps x.flag x.free x.count) y)
-        (attempted : Attempted (attempt_of task x) task (result_by task k p (lines x.marks x.pts x.heads x.lens x.kinds x.stored ps x.flag x.free x.count)).ending rows spans x m y n) where
+        (settles : Settles task pt k p r (lines x.next x.pts x.heads x.lens x.kinds x.stored ps x.flag x.free x.count) y)
+        (attempted : Attempted (attempt_of task x) task (result_by task k p (lines x.next x.pts x.heads x.lens x.kinds x.stored ps x.flag x.free x.count)).ending rows spans x m y n) where
       abbrev mid : Lines
-      mid = lines x.marks x.pts x.heads x.lens x.kinds x.stored ps x.flag x.free x.count
+      mid = lines x.next x.pts x.heads x.lens x.kinds x.stored ps x.flag x.free x.count
 
       abbrev ending : Ending
       ending = (result_by task k p mid).ending
@@ -306,7 +306,7 @@ module _ (l : List ℕ) (i : ℕ) (s₀ : State) (rows : List Row) (spans : List
         stands = before (stands_kept task pt p r k mid y small wide settles untrapped_now f others_now);
       }
         where
-          on : (a : Attempt) → attempt_of task x ≡ a → (b : Bool) → Runs l i b s₀ now c → Standing l i x.kinds x.marks queues b → goes_on a had ending ≡ false
+          on : (a : Attempt) → attempt_of task x ≡ a → (b : Bool) → Runs l i b s₀ now c → Standing l i x.kinds x.next queues b → goes_on a had ending ≡ false
               → Runs l (i + 1) false s₀ (state_from rows y n) (added task (attempt_counts a had ending) c)
           on Step e b u s g = steps_on l i s₀ now (state_from rows y n) c ending here b (step_alone b s e) (attempt_by_lem Step e) u
           on Try e true u (between j b) g = absurd (step_try (sym (between_step b) ∙ e))
@@ -331,7 +331,7 @@ module _ (l : List ℕ) (i : ℕ) (s₀ : State) (rows : List Row) (spans : List
           on Step g = absurd (true≢false (sym g))
           on Try g = (refl, g)
 
-      pub follows_stands : goes_on (attempt_of task x) (had_in task x.lens) (result_by task k p mid).ending ≡ true → Standing l i y.kinds y.marks (queues_of y) true
+      pub follows_stands : goes_on (attempt_of task x) (had_in task x.lens) (result_by task k p mid).ending ≡ true → Standing l i y.kinds y.next (queues_of y) true
       follows_stands f =
           let e = try_follows f in
           let h = had_so had ending e.1 acts in
@@ -344,7 +344,7 @@ module _ (l : List ℕ) (i : ℕ) (s₀ : State) (rows : List Row) (spans : List
           let e = try_follows f in
           record { tried = true; runs = on (attempt_of task x) refl e.0 going.tried going.runs going.stands; numbers = attempted.numbers; stands = follows_stands f }
         where
-          on : (a : Attempt) → attempt_of task x ≡ a → a ≡ Try → (b : Bool) → Runs l i b s₀ now c → Standing l i x.kinds x.marks queues b
+          on : (a : Attempt) → attempt_of task x ≡ a → a ≡ Try → (b : Bool) → Runs l i b s₀ now c → Standing l i x.kinds x.next queues b
               → Runs l i true s₀ (state_from rows y n) (added task (attempt_counts a had ending) c)
           on Step e z b u s = absurd (step_try z)
           on Try e z true u (between j b) = absurd (step_try (sym (between_step b) ∙ e))

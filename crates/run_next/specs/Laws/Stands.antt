@@ -1,4 +1,5 @@
 -- The invariant of the next attempts gives the attempt that is made, and is kept by what settles it.
+use Rattle.std.specs.Prelude.{Option, None}
 use Rattle.std.specs.Prelude.{◌≡◌, ◌≢◌, Bool, cond, ℕ, ◌+◌, ◌*◌, ◌≤◌, ◌<◌, eqb, leb, length, set}
 use Rattle.std.proofs.Math.Path.{refl, ap}
 use Rattle.std.proofs.Common.{sym, ◌∙◌, subst, true≢false, length-set, get_or-set_other}
@@ -33,38 +34,32 @@ use Rattle.step.specs.State.{no_queue, queue_in, with_queue}
 use Rattle.step.specs.Act.{turned_at, left_at, joined_at, passed_to}
 use Rattle.step.specs.Step.{no_trap, step_follows}
 use Rattle.step.specs.Code.Parts.{moved_queues, other_number}
-use Rattle.run_next.specs.Code.Next.{then_places, no_attempt, next_is, next_at, only, item_next, standing, Puts, Acting, alone, several, follows, tries, had_in, followed, goes_on, place_after}
+use Rattle.run_next.specs.declared.Next.{Next}
+use Rattle.run_next.specs.declared.Role.TheVariants.{Alone, Several}
+use Rattle.run_next.specs.Code.Next.{then_places, next_is, next_at, only, item_next, standing, Puts, Acting, alone, several, follows, tries, had_in, followed, goes_on, place_after}
 use Rattle.run_next.specs.Code.Stands.{StandsAt, Stands, Between, Laid}
 use Rattle.run_next.specs.Laws.Next.{own_number_lem, sfu_number_lem, stands_sfu, stands_none, stands_own}
 
-up_of : (l : List ℕ) (t u r o : ℕ) → next_at l t ≡ next_is u r o → get_or l t 0 ≡ u
-unfolding next_at
-up_of l t u r o e = ap (λ n. n.up) e
-
-up_same : (l l' : List ℕ) (u : ℕ) → next_at l' u ≡ next_at l u → get_or l' u 0 ≡ get_or l u 0
-unfolding next_at
-up_same l l' u e = ap (λ n. n.up) e
-
 -- ---- the attempt that is made
 
-module _ (kinds l : List ℕ) (qs : List Queue) (t : ℕ) where
-  acts : next_at l t ≡ standing false t qs → get_or l t 0 ≢ no_attempt → Acting t l qs
+module _ (kinds : List ℕ) (l : List (Option Next)) (qs : List Queue) (t : ℕ) where
+  acts : next_at l t ≡ standing false t qs → next_at l t ≢ None → Acting t l qs
   unfolding only
   acts e n = on (eqb (queue_in qs (2 * t + 1)).len 0) (eq? (queue_in qs (2 * t + 1)).len 0)
     where
-      one : (b : Bool) → Eq? (queue_in qs (2 * t)).len 1 b → (queue_in qs (2 * t + 1)).len ≡ 0 → (queue_in qs (2 * t)).len ≢ 0 → next_at l t ≡ next_is (head_of (queue_in qs (2 * t))) (2 * t) (cond b 1 0) → Acting t l qs
+      one : (b : Bool) → Eq? (queue_in qs (2 * t)).len 1 b → (queue_in qs (2 * t + 1)).len ≡ 0 → (queue_in qs (2 * t)).len ≢ 0 → next_at l t ≡ next_is (head_of (queue_in qs (2 * t))) (cond b Alone Several) → Acting t l qs
       one true (same f) s m i = alone i f s
       one false (differ f) s m i = several i (omega (arith, f, m)) s
 
       own : (b : Bool) → Eq? (queue_in qs (2 * t)).len 0 b → (queue_in qs (2 * t + 1)).len ≡ 0 → Acting t l qs
-      own true (same f) s = absurd (n (up_of l t 255 (2 * t) 0 (e ∙ stands_none t qs s f)))
+      own true (same f) s = absurd (n (e ∙ stands_none t qs s f))
       own false (differ f) s = one (eqb (queue_in qs (2 * t)).len 1) (eq? (queue_in qs (2 * t)).len 1) s f (e ∙ stands_own t qs s f)
 
       on : (b : Bool) → Eq? (queue_in qs (2 * t + 1)).len 0 b → Acting t l qs
       on true (same f) = own (eqb (queue_in qs (2 * t)).len 0) (eq? (queue_in qs (2 * t)).len 0) f
       on false (differ f) = tries (e ∙ stands_sfu t qs f) (omega (arith, f))
 
-  pub stands_acting : StandsAt kinds l qs t → get_or l t 0 ≢ no_attempt → Acting t l qs
+  pub stands_acting : StandsAt kinds l qs t → next_at l t ≢ None → Acting t l qs
   stands_acting s n = on (eqb (get_or kinds t 0) no_trap) (eq? (get_or kinds t 0) no_trap)
     where
       on : (b : Bool) → Eq? (get_or kinds t 0) no_trap b → Acting t l qs
@@ -120,14 +115,14 @@ module _ (t u : ℕ) (tl : t < numbers) (ul : u < numbers) (apart : u ≢ t) whe
   standing_other m a qs =
       let o : own_number t ≡ 2 * t = own_number_lem t tl in
       let s : sfu_number t ≡ 2 * t + 1 = sfu_number_lem t tl in
-      ap (λ (q : Queue). item_next u q (queue_in (moved_queues m a t qs) (2 * u + 1))) (moved_other t (2 * u) (λ e. apart (omega (arith, e, o))) (λ e. omega (arith, e, s)) m a qs)
-      ∙ ap (item_next u (queue_in qs (2 * u))) (moved_other t (2 * u + 1) (λ e. omega (arith, e, o)) (λ e. apart (omega (arith, e, s))) m a qs)
+      ap (λ (q : Queue). item_next q (queue_in (moved_queues m a t qs) (2 * u + 1))) (moved_other t (2 * u) (λ e. apart (omega (arith, e, o))) (λ e. omega (arith, e, s)) m a qs)
+      ∙ ap (item_next (queue_in qs (2 * u))) (moved_other t (2 * u + 1) (λ e. omega (arith, e, o)) (λ e. apart (omega (arith, e, s))) m a qs)
 
   -- the invariant of another task is kept, its trap kind being the same
-  pub stands_other : (m : Motion) (a : Attempt) (qs : List Queue) (kinds kinds' l l' : List ℕ) → get_or kinds' u 0 ≡ get_or kinds u 0 → next_at l' u ≡ next_at l u → StandsAt kinds l qs u
+  pub stands_other : (m : Motion) (a : Attempt) (qs : List Queue) (kinds kinds' : List ℕ) (l l' : List (Option Next)) → get_or kinds' u 0 ≡ get_or kinds u 0 → next_at l' u ≡ next_at l u → StandsAt kinds l qs u
       → StandsAt kinds' l' (moved_queues m a t qs) u
   stands_other m a qs kinds kinds' l l' k e s = record {
-    idle = λ n. up_same l l' u e ∙ s.idle (λ z. n (k ∙ z));
+    idle = λ n. e ∙ s.idle (λ z. n (k ∙ z));
     active = λ f. e ∙ s.active (sym k ∙ f) ∙ sym (standing_other m a qs);
   }
 
@@ -200,32 +195,31 @@ waved_goes Try had = refl
 
 module _ (t pt p r : ℕ) (c : Course) (x y : Lines) (tl : t < numbers) (wide : numbers ≤ length x.kinds) (settles : Settles t pt c p r x y) where
   -- of the other tasks
-  pub kept_other : (u : ℕ) → u < numbers → u ≢ t → StandsAt x.kinds x.marks (queues_of x) u → StandsAt y.kinds y.marks (queues_of y) u
+  pub kept_other : (u : ℕ) → u < numbers → u ≢ t → StandsAt x.kinds x.next (queues_of x) u → StandsAt y.kinds y.next (queues_of y) u
   kept_other u ul n s =
-      subst (λ (qs : List Queue). StandsAt y.kinds y.marks qs u) (sym settles.moved.queues)
-      (stands_other t u tl ul n (result_by t c p x).motion (attempt_of t x) (queues_of x) x.kinds y.kinds x.marks y.marks
-      (ap (λ (l : List ℕ). get_or l u 0) settles.kinds ∙ kinds_other (result_by t c p x).ending t u x.kinds n) (settles.marks.others u ul n) s)
+      subst (λ (qs : List Queue). StandsAt y.kinds y.next qs u) (sym settles.moved.queues)
+      (stands_other t u tl ul n (result_by t c p x).motion (attempt_of t x) (queues_of x) x.kinds y.kinds x.next y.next
+      (ap (λ (l : List ℕ). get_or l u 0) settles.kinds ∙ kinds_other (result_by t c p x).ending t u x.kinds n) (settles.next.others u ul n) s)
 
-  here : (e : Ending) → (result_by t c p x).ending ≡ e → get_or x.kinds t 0 ≡ no_trap → goes_on (attempt_of t x) (had_in t x.lens) e ≡ false → StandsAt y.kinds y.marks (queues_of y) t
+  here : (e : Ending) → (result_by t c p x).ending ≡ e → get_or x.kinds t 0 ≡ no_trap → goes_on (attempt_of t x) (had_in t x.lens) e ≡ false → StandsAt y.kinds y.next (queues_of y) t
   unfolding next_by kinds_after
   here Executed i k f = record {
     idle = λ n. absurd (n (ap (λ (l : List ℕ). get_or l t 0) (settles.kinds ∙ ap (λ (e : Ending). kinds_after e t x.kinds) i) ∙ k));
     active = λ z.
-        settles.marks.mine ∙ ap (λ (e : Ending). next_by t (attempt_of t x) (had_in t x.lens) e (queues_of y) x.marks) i
+        settles.next.mine ∙ ap (λ (e : Ending). next_by t (attempt_of t x) (had_in t x.lens) e (queues_of y)) i
         ∙ ap (λ (b : Bool). standing b t (queues_of y)) (executed_goes (attempt_of t x) (had_in t x.lens) ∙ f);
   }
   here Waved i k f = record {
     idle = λ n. absurd (n (ap (λ (l : List ℕ). get_or l t 0) (settles.kinds ∙ ap (λ (e : Ending). kinds_after e t x.kinds) i) ∙ k));
     active = λ z.
-        settles.marks.mine ∙ ap (λ (e : Ending). next_by t (attempt_of t x) (had_in t x.lens) e (queues_of y) x.marks) i
+        settles.next.mine ∙ ap (λ (e : Ending). next_by t (attempt_of t x) (had_in t x.lens) e (queues_of y)) i
         ∙ ap (λ (b : Bool). standing b t (queues_of y)) (waved_goes (attempt_of t x) (had_in t x.lens) ∙ f);
   }
   here (Trapped d q) i k f = trapped d q i
     where
-      trapped : (d : Trap) (q : ℕ) → (result_by t c p x).ending ≡ Trapped d q → StandsAt y.kinds y.marks (queues_of y) t
+      trapped : (d : Trap) (q : ℕ) → (result_by t c p x).ending ≡ Trapped d q → StandsAt y.kinds y.next (queues_of y) t
       trapped d q i = record {
-        idle = λ n. up_of y.marks t no_attempt (get_or x.marks (numbers + t) 0) (get_or x.marks (2 * numbers + t) 0)
-            (settles.marks.mine ∙ ap (λ (e : Ending). next_by t (attempt_of t x) (had_in t x.lens) e (queues_of y) x.marks) i);
+        idle = λ n. settles.next.mine ∙ ap (λ (e : Ending). next_by t (attempt_of t x) (had_in t x.lens) e (queues_of y)) i;
         active = λ z.
             let v : get_or y.kinds t 0 ≡ kind_of d =
             ap (λ (l : List ℕ). get_or l t 0) (settles.kinds ∙ ap (λ (e : Ending). kinds_after e t x.kinds) i) ∙ get_or-set_same x.kinds t (kind_of d) 0 (omega (arith, tl, wide)) in
@@ -237,16 +231,16 @@ module _ (t pt p r : ℕ) (c : Course) (x y : Lines) (tl : t < numbers) (wide : 
       never i = not_idle t c p x i
 
   -- of the task itself, where no step follows
-  pub kept_here : get_or x.kinds t 0 ≡ no_trap → goes_on (attempt_of t x) (had_in t x.lens) (result_by t c p x).ending ≡ false → StandsAt y.kinds y.marks (queues_of y) t
+  pub kept_here : get_or x.kinds t 0 ≡ no_trap → goes_on (attempt_of t x) (had_in t x.lens) (result_by t c p x).ending ≡ false → StandsAt y.kinds y.next (queues_of y) t
   kept_here = here (result_by t c p x).ending refl
 
   -- a step, or a try that no step follows, keeps the invariant
-  pub stands_kept : get_or x.kinds t 0 ≡ no_trap → goes_on (attempt_of t x) (had_in t x.lens) (result_by t c p x).ending ≡ false → ((u : ℕ) → u < numbers → u ≢ t → StandsAt x.kinds x.marks (queues_of x) u)
-      → Stands y.kinds y.marks (queues_of y)
+  pub stands_kept : get_or x.kinds t 0 ≡ no_trap → goes_on (attempt_of t x) (had_in t x.lens) (result_by t c p x).ending ≡ false → ((u : ℕ) → u < numbers → u ≢ t → StandsAt x.kinds x.next (queues_of x) u)
+      → Stands y.kinds y.next (queues_of y)
   stands_kept k f s = record { stands = λ u ul. on u ul (eqb u t) (eq? u t) }
     where
-      on : (u : ℕ) → u < numbers → (b : Bool) → Eq? u t b → StandsAt y.kinds y.marks (queues_of y) u
-      on u ul true (same e) = subst (λ (u : ℕ). StandsAt y.kinds y.marks (queues_of y) u) (sym e) (kept_here k f)
+      on : (u : ℕ) → u < numbers → (b : Bool) → Eq? u t b → StandsAt y.kinds y.next (queues_of y) u
+      on u ul true (same e) = subst (λ (u : ℕ). StandsAt y.kinds y.next (queues_of y) u) (sym e) (kept_here k f)
       on u ul false (differ n) = kept_other u ul n (s u ul n)
 
 -- ---- a try that a step follows
@@ -345,40 +339,40 @@ module _ (t pt p r : ℕ) (c : Course) (x y : Lines) (tl : t < numbers) (wide : 
       omega (arith, g, n, h, m, try_keeps t qs (length_in x.pts x.heads x.lens) tl (result_by t c p x).motion)
 
   waits_here : (e : Ending) → (result_by t c p x).ending ≡ e → step_follows true e ≡ true
-      → (next_at y.marks t ≡ standing true t (queues_of y)) × (get_or y.kinds t 0 ≡ no_trap)
+      → (next_at y.next t ≡ standing true t (queues_of y)) × (get_or y.kinds t 0 ≡ no_trap)
   unfolding next_by kinds_after followed step_follows
   waits_here Executed i f = (
-    settles.marks.mine ∙ ap (λ (e : Ending). next_by t (attempt_of t x) (had_in t x.lens) e (queues_of y) x.marks) i
+    settles.next.mine ∙ ap (λ (e : Ending). next_by t (attempt_of t x) (had_in t x.lens) e (queues_of y)) i
         ∙ ap (λ (a : Attempt). standing (followed a (had_in t x.lens)) t (queues_of y)) tries ∙ ap (λ (b : Bool). standing b t (queues_of y)) had,
     ap (λ (l : List ℕ). get_or l t 0) (settles.kinds ∙ ap (λ (e : Ending). kinds_after e t x.kinds) i) ∙ k,
   )
   waits_here Waved i f = (
-    settles.marks.mine ∙ ap (λ (e : Ending). next_by t (attempt_of t x) (had_in t x.lens) e (queues_of y) x.marks) i
+    settles.next.mine ∙ ap (λ (e : Ending). next_by t (attempt_of t x) (had_in t x.lens) e (queues_of y)) i
         ∙ ap (λ (a : Attempt). standing (followed a (had_in t x.lens)) t (queues_of y)) tries ∙ ap (λ (b : Bool). standing b t (queues_of y)) had,
     ap (λ (l : List ℕ). get_or l t 0) (settles.kinds ∙ ap (λ (e : Ending). kinds_after e t x.kinds) i) ∙ k,
   )
   waits_here (Trapped d q) i f = absurd (true≢false (sym f))
   waits_here Idle i f = absurd (not_idle t c p x i)
 
-  pub between_kept : step_follows true (result_by t c p x).ending ≡ true → ((u : ℕ) → u < numbers → u ≢ t → StandsAt x.kinds x.marks (queues_of x) u)
-      → Between t y.kinds y.marks (queues_of y)
+  pub between_kept : step_follows true (result_by t c p x).ending ≡ true → ((u : ℕ) → u < numbers → u ≢ t → StandsAt x.kinds x.next (queues_of x) u)
+      → Between t y.kinds y.next (queues_of y)
   between_kept f s =
       let w = waits_here (result_by t c p x).ending refl f in
       record { here = w.0; active = w.1; some = some_left; stands = λ u ul n. kept_other t pt p r c x y tl wide settles u ul n (s u ul n) }
 
 -- ---- the next attempts of all tasks laid
 
-pub laid_idle : (n : ℕ) (kinds l : List ℕ) (qs : List Queue) → get_or kinds n 0 ≢ no_trap → Laid n kinds l qs → Laid (n + 1) kinds l qs
+pub laid_idle : (n : ℕ) (kinds : List ℕ) (l : List (Option Next)) (qs : List Queue) → get_or kinds n 0 ≢ no_trap → Laid n kinds l qs → Laid (n + 1) kinds l qs
 laid_idle n kinds l qs f d = record { stands = λ t h i. on t h i (eqb t n) (eq? t n); none = λ t h i. d.none t (omega (arith, h)) i }
   where
     on : (t : ℕ) → t < n + 1 → t < numbers → (b : Bool) → Eq? t n b → StandsAt kinds l qs t
     on t h i true (same e) = record { idle = λ z. d.none t (omega (arith, e)) i; active = λ z. absurd (f (ap (λ (u : ℕ). get_or kinds u 0) (sym e) ∙ z)) }
     on t h i false (differ m) = d.stands t (omega (arith, h, m)) i
 
-pub laid_active : (n : ℕ) (kinds l l' : List ℕ) (qs : List Queue) → get_or kinds n 0 ≡ no_trap → Puts n (standing false n qs) l l' → Laid n kinds l qs → Laid (n + 1) kinds l' qs
+pub laid_active : (n : ℕ) (kinds : List ℕ) (l l' : List (Option Next)) (qs : List Queue) → get_or kinds n 0 ≡ no_trap → Puts n (standing false n qs) l l' → Laid n kinds l qs → Laid (n + 1) kinds l' qs
 laid_active n kinds l l' qs f p d = record {
   stands = λ t h i. on t h i (eqb t n) (eq? t n);
-  none = λ t h i. up_same l l' t (p.others t i (λ e. omega (arith, e, h))) ∙ d.none t (omega (arith, h)) i;
+  none = λ t h i. p.others t i (λ e. omega (arith, e, h)) ∙ d.none t (omega (arith, h)) i;
 }
   where
     on : (t : ℕ) → t < n + 1 → t < numbers → (b : Bool) → Eq? t n b → StandsAt kinds l' qs t
@@ -386,7 +380,7 @@ laid_active n kinds l l' qs f p d = record {
         subst (λ (t : ℕ). StandsAt kinds l' qs t) (sym e) (record { idle = λ z. absurd (z f); active = λ z. p.mine })
     on t h i false (differ m) =
         let s = d.stands t (omega (arith, h, m)) i in
-        record { idle = λ z. up_same l l' t (p.others t i m) ∙ s.idle z; active = λ z. p.others t i m ∙ s.active z }
+        record { idle = λ z. p.others t i m ∙ s.idle z; active = λ z. p.others t i m ∙ s.active z }
 
-pub laid_all : (n : ℕ) (kinds l : List ℕ) (qs : List Queue) → 8 ≤ n → Laid n kinds l qs → Stands kinds l qs
+pub laid_all : (n : ℕ) (kinds : List ℕ) (l : List (Option Next)) (qs : List Queue) → 8 ≤ n → Laid n kinds l qs → Stands kinds l qs
 laid_all n kinds l qs h d = record { stands = λ t i. d.stands t (omega (arith, h, i)) i }

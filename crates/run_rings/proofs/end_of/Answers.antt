@@ -9,9 +9,6 @@ pub returns-then-last-first : goal.returns-then-last-first
 unfolding end_of
 returns-then-last-first c = sym (rw (lt-leb c.args.first c.args.last c.if-last-first.true))
 
-pub overflow_add-result : goal.overflow_add-result
-overflow_add-result c = omega (arith, c.requires)
-
 pub returns : goal.returns
 unfolding end_of
 returns c = let e : suc c.args.last ≡ c.args.last + 1 = omega arith in sym (rw (le-leb c.args.first c.args.last c.if-last-first.false) e)

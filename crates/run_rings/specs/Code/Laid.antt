@@ -1,6 +1,5 @@
 -- Queues into rings, and the trap records and windows of rows into numbers by task.
-use Rattle.std.specs.Prelude.{ℕ, zero, suc, ◌*◌, List, [], ◌∷◌, set, replicate}
-use Rattle.std.proofs.Math.Option.{Option, none, some}
+use Rattle.std.specs.Prelude.{ℕ, zero, suc, ◌*◌, List, [], ◌∷◌, set, replicate, Option, None, Some}
 use Rattle.std.proofs.Math.Seq.{paste}
 use Rattle.window.specs.declared.Row.{Row}
 use Rattle.step.specs.declared.Queue.{Queue}
@@ -34,8 +33,8 @@ no_tasks = task_numbers (replicate numbers 0) (replicate numbers 0) (replicate a
 
 -- the trap record and the windows of the row of task t; they stay where it is unlisted
 unfoldable pub row_laid : (t : ℕ) → Option Row → Tasks → Tasks
-row_laid t none x = x
-row_laid t (some r) x = task_numbers (set x.kinds t r.kind) (set x.stored t r.psw) (windows_laid x.spans t r)
+row_laid t None x = x
+row_laid t (Some r) x = task_numbers (set x.kinds t r.kind) (set x.stored t r.psw) (windows_laid x.spans t r)
 
 -- those of n tasks, task t first
 unfoldable pub tasks_laid : (n t : ℕ) → List Row → Tasks → Tasks

@@ -1,7 +1,6 @@
 -- Windows in numbers by task, of task t eight from 8 t on: CB doubled, then first and end of the registers, of the program words and of the
 -- data bytes.
-use Rattle.std.specs.Prelude.{◌≡◌, List, [], ◌∷◌, ℕ, ◌+◌, ◌*◌, ◌%◌, ◌≤◌, ◌<◌, get_or}
-use Rattle.std.proofs.Math.Option.{some}
+use Rattle.std.specs.Prelude.{◌≡◌, List, [], ◌∷◌, ℕ, ◌+◌, ◌*◌, ◌%◌, ◌≤◌, ◌<◌, get_or, Some}
 use Rattle.std.proofs.Math.Seq.{paste}
 use Rattle.window.specs.declared.Row.{Row}
 use Rattle.window.specs.declared.Window.{Window}
@@ -56,4 +55,4 @@ pub record Tells (kinds stored spans : List ℕ) (t : ℕ) (r : Row) : Type 0 wh
 
 -- they say it of the rows of the tasks below m
 pub record Told (rows : List Row) (kinds stored spans : List ℕ) (m : ℕ) : Type 0 where
-  pub tells : (t : ℕ) (r : Row) → 1 ≤ t → t < m → find_row t rows ≡ some r → Tells kinds stored spans t r
+  pub tells : (t : ℕ) (r : Row) → 1 ≤ t → t < m → find_row t rows ≡ Some r → Tells kinds stored spans t r

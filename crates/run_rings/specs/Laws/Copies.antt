@@ -1,20 +1,15 @@
 -- Queues into rings and back: the loops that copy a ring, and the loop over the queues.
 use Rattle.std.specs.Prelude.{◌≡◌, refl, ◌≢◌, Bool, true, false, List, [], ◌∷◌, ◌++◌, ℕ, zero, suc, ◌+◌, ◌*◌, ◌≤◌, ◌<◌, ltb, length, get_or, set, take, drop}
-use Rattle.std.proofs.Common.{sym, ap, ap₂, ◌∙◌, arith, add-zero, add-one, length-set, length-drop, get_or-set_same, get_or-set_other, get_or-take, get_or-drop, length-take-le, take_all, take-take, take-suc, take-suc-set, take_at, drop_at, ltb-true, ltb-false}
+use Rattle.std.proofs.Common.{sym, ap, ap₂, ◌∙◌, arith, add-zero, length-set, length-drop, get_or-set_same, get_or-set_other, get_or-take, get_or-drop, length-take-le, take_all, take-take, take-suc, take-suc-set, take_at, drop_at, ltb-true, ltb-false}
 use Rattle.std.proofs.lemmas.List.{drop-append-le}
 use Rattle.std.proofs.lemmas.List.Edits.{sets, sets-eq}
-use Rattle.std.proofs.Math.Seq.{paste, paste-suc, length_paste_head}
+use Rattle.std.proofs.Math.Seq.{paste, length_paste_head}
 use Rattle.step.specs.declared.Queue.{Queue}
 use Rattle.step.specs.State.{no_queue}
 use Rattle.run_rings.specs.Code.Rings.{queue_at, queues_from, queues_in, Moves}
 use Rattle.run_rings.specs.Laws.Rings.{queue, queue_eq, places, places_before, places_behind, rings_stay}
 
 -- ---- the places of a queue into a ring
-
-pub lay_goes : (d : List ℕ) (at : ℕ) (s : List ℕ) (j : ℕ) (x : List ℕ) → at + j < length d → j < length s → x ≡ paste d at s j
-    → set x (at + j) (get_or s j 0) ≡ paste d at s (j + 1)
-lay_goes d at s j x h k e =
-    ap (λ (x : List ℕ). set x (at + j) (get_or s j 0)) e ∙ paste-suc d at s j 0 h k ∙ ap (paste d at s) (sym (add-one j))
 
 sets_before : (pts : List ℕ) (j m : ℕ) (vs : List ℕ) → 64 * j + 64 ≤ m → places (sets pts m vs) j ≡ places pts j
 sets_before pts j m [] h = refl

@@ -1,8 +1,7 @@
 -- Queues and rows into numbers one by one, and what the numbers then say.
-use Rattle.std.specs.Prelude.{◌≡◌, refl, length, get_or, drop}
+use Rattle.std.specs.Prelude.{◌≡◌, refl, length, get_or, drop, Option, None, Some}
 use Rattle.std.proofs.Math.Path.{sym, subst}
 use Rattle.std.proofs.Common.{ap, ◌∙◌, add-zero, length-set, drop_of_length-le, drop-cons}
-use Rattle.std.proofs.Math.Option.{Option, none, some}
 use mathlib.Core.List.{List, [], ◌∷◌}
 use Prim.Native.Nat.{ℕ, zero, suc, ◌+◌, ◌-◌, ◌*◌, ◌≤◌, ◌<◌}
 use native.Mathlib.Omega.{arith}
@@ -55,8 +54,8 @@ pub record Eight (x : Tasks) : Type 0 where
 
 row_eight : (t : ℕ) (o : Option Row) (x : Tasks) → t < 8 → Eight x → Eight (row_laid t o x)
 unfolding row_laid window_numbers
-row_eight t none x h e = e
-row_eight t (some r) x h e = record {
+row_eight t None x h e = e
+row_eight t (Some r) x h e = record {
   kinds = length-set x.kinds t r.kind ∙ e.kinds;
   stored = length-set x.stored t r.psw ∙ e.stored;
   spans = length-paste x.spans (8 * t) (window_numbers r) 8 (omega (arith, h, e.spans)) (omega arith) ∙ e.spans;
@@ -68,12 +67,12 @@ tasks_eight rs zero t x h e = e
 tasks_eight rs (suc n) t x h e = tasks_eight rs n (suc t) (row_laid t (find_row t rs) x) (omega arith) (row_eight t (find_row t rs) x (omega arith) e)
 
 -- rows whose numbers fit
-module _ (rs : List Row) (narrow : (t : ℕ) (r : Row) → find_row t rs ≡ some r → Narrow r) where
+module _ (rs : List Row) (narrow : (t : ℕ) (r : Row) → find_row t rs ≡ Some r → Narrow r) where
   row_told : (t : ℕ) (x : Tasks) → t < 8 → Eight x → Told rs x.kinds x.stored x.spans t → (o : Option Row) → find_row t rs ≡ o
       → Told rs (row_laid t o x).kinds (row_laid t o x).stored (row_laid t o x).spans (suc t)
   unfolding row_laid
-  row_told t x h e p none f = rw (← add-one t) (told_past rs x.kinds x.stored x.spans t f p)
-  row_told t x h e p (some r) f =
+  row_told t x h e p None f = rw (← add-one t) (told_past rs x.kinds x.stored x.spans t f p)
+  row_told t x h e p (Some r) f =
       rw (← add-one t)
       (told_next rs x.kinds x.stored x.spans t r (omega (arith, e.kinds)) (omega (arith, e.stored)) (omega (arith, e.spans)) (narrow t r f) f p)
 

@@ -1,8 +1,7 @@
 -- Trap records in numbers by task against find_row and put_row.
-use Rattle.std.specs.Prelude.{◌≡◌, ◌≢◌, ℕ, ◌≤◌, ◌<◌, length, set}
+use Rattle.std.specs.Prelude.{◌≡◌, ◌≢◌, ℕ, ◌≤◌, ◌<◌, length, set, Some}
 use Rattle.std.proofs.Math.Path.{refl, sym, ap, ap₂}
 use Rattle.std.proofs.Common.{◌∙◌, arith, get_or-set_other}
-use Rattle.std.proofs.Math.Option.{some}
 use mathlib.Core.List.{List, [], ◌∷◌}
 use Rattle.std.proofs.Math.ListN.{get_or}
 use Rattle.std.proofs.Math.Seq.{get_or-set_same}
@@ -21,12 +20,12 @@ pub data Rising : ℕ → List Row → Type 0 where
   goes : {b : ℕ} {r : Row} {rs : List Row} → b < r.task → Rising r.task rs → Rising b (r ∷ rs)
 
 -- the row of a task, with its record
-pub find_in : (ks ss : List ℕ) (t : ℕ) (rs : List Row) (r : Row) → find_row t rs ≡ some r → find_row t (rows_in ks ss rs) ≡ some (row_in ks ss r)
+pub find_in : (ks ss : List ℕ) (t : ℕ) (rs : List Row) (r : Row) → find_row t rs ≡ Some r → find_row t (rows_in ks ss rs) ≡ Some (row_in ks ss r)
 unfolding rows_in
 find_in ks ss t [] r e = absurd (none_some r (unfold find_row in e))
 find_in ks ss t (y ∷ rs) r e =
     elim (found t r y rs e) [
-      | here q p ↦ find_here t (row_in ks ss y) (rows_in ks ss rs) q ∙ ap (λ (x : Row). some (row_in ks ss x)) p
+      | here q p ↦ find_here t (row_in ks ss y) (rows_in ks ss rs) q ∙ ap (λ (x : Row). Some (row_in ks ss x)) p
       | there q k ↦ find_there t (row_in ks ss y) (rows_in ks ss rs) q ∙ find_in ks ss t rs r k
     ]
 
@@ -41,7 +40,7 @@ module _ (ks ss : List ℕ) (t v w : ℕ) where
       ap₂ {C = List Row} (λ x y. x ∷ y) (row_other r (λ e. omega (arith, e, h, l))) (rows_other r.task rs g (omega (arith, h, l)))
 
   -- a record stored at t is the row of task t put anew
-  store_in : (b : ℕ) (rs : List Row) (r : Row) → Rising b rs → t < length ks → t < length ss → find_row t rs ≡ some r
+  store_in : (b : ℕ) (rs : List Row) (r : Row) → Rising b rs → t < length ks → t < length ss → find_row t rs ≡ Some r
       → rows_in (set ks t v) (set ss t w) rs ≡ put_row t (with_record r v w) (rows_in ks ss rs)
   unfolding rows_in
   store_in b [] r g l m e = absurd (none_some r (unfold find_row in e))
@@ -61,7 +60,7 @@ module _ (ks ss : List ℕ) (t v w : ℕ) where
       ]
 
 -- the rows after a step of task t
-module _ (ks ss : List ℕ) (t b : ℕ) (rs : List Row) (r : Row) (g : Rising b rs) (l : t < length ks) (m : t < length ss) (e : find_row t rs ≡ some r) where
+module _ (ks ss : List ℕ) (t b : ℕ) (rs : List Row) (r : Row) (g : Rising b rs) (l : t < length ks) (m : t < length ss) (e : find_row t rs ≡ Some r) where
   stays : rows_in ks ss rs ≡ put_row t (row_in ks ss r) (rows_in ks ss rs)
   stays = sym (put_same t (rows_in ks ss rs) (row_in ks ss r) (find_in ks ss t rs r e))
 

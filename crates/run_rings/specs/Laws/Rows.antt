@@ -1,9 +1,8 @@
 -- The rows of a sound state against their numbers.
-use Rattle.std.specs.Prelude.{◌≡◌, ◌≢◌, Bool, true, false, cond, ◌||◌, eqb, leb, ltb, length, get_or, take}
+use Rattle.std.specs.Prelude.{◌≡◌, ◌≢◌, Bool, true, false, cond, ◌||◌, eqb, leb, ltb, min, length, get_or, take, Option, None, Some}
 use Rattle.std.proofs.Math.Path.{refl, sym, ap, ap₂}
-use Rattle.std.proofs.Common.{◌∙◌, drop_of_length-le, length-take-le, take_all, take-suc, drop-cons, leb-true, ltb-true}
+use Rattle.std.proofs.Common.{◌∙◌, drop_of_length-le, length-take-le, take_all, take-suc, drop-cons, leb-true, leb-false, ltb-true}
 use Rattle.std.proofs.lemmas.Bool.{false≢true}
-use Rattle.std.proofs.Math.Option.{Option, none, some}
 use mathlib.Core.List.{List, [], ◌∷◌, ◌++◌}
 use Prim.Native.Nat.{ℕ, suc, ◌+◌, ◌*◌, ◌/◌, ◌≤◌, ◌<◌, ◌^◌}
 use native.Mathlib.Omega.{arith}
@@ -45,7 +44,7 @@ rising_in ks ss b (r ∷ rs) e =
 
 -- numbers that say the records of the rows
 pub rows_start : (ks ss : List ℕ) (b : ℕ) (rs : List Row) → rows_sound b rs ≡ true
-    → ((t : ℕ) (r : Row) → find_row t rs ≡ some r → (get_or ks t 0 ≡ r.kind) × (get_or ss t 0 ≡ r.psw)) → rows_in ks ss rs ≡ rs
+    → ((t : ℕ) (r : Row) → find_row t rs ≡ Some r → (get_or ks t 0 ≡ r.kind) × (get_or ss t 0 ≡ r.psw)) → rows_in ks ss rs ≡ rs
 unfolding rows_in
 rows_start ks ss b [] e h = refl
 rows_start ks ss b (r ∷ rs) e h =
@@ -60,10 +59,10 @@ rows_start ks ss b (r ∷ rs) e h =
 -- the row that is found among rows with records
 pub record Listed (ks ss : List ℕ) (t : ℕ) (rs : List Row) (x : Row) : Type 0 where
   pub row : Row
-  pub finds : find_row t rs ≡ some row
+  pub finds : find_row t rs ≡ Some row
   pub is : x ≡ row_in ks ss row
 
-pub listed : (ks ss : List ℕ) (t : ℕ) (rs : List Row) (x : Row) → find_row t (rows_in ks ss rs) ≡ some x → Listed ks ss t rs x
+pub listed : (ks ss : List ℕ) (t : ℕ) (rs : List Row) (x : Row) → find_row t (rows_in ks ss rs) ≡ Some x → Listed ks ss t rs x
 unfolding rows_in
 listed ks ss t [] x e = absurd (none_some x (unfold find_row in e))
 listed ks ss t (y ∷ rs) x e =
@@ -79,19 +78,19 @@ listed_kind ks ss t rs x l = ap (λ (r : Row). r.kind) l.is ∙ ap (λ (u : ℕ)
 
 -- ---- a task with processes is listed
 
-pub has_none : (t : ℕ) (rs : List Row) → find_row t rs ≡ none → has_row t rs ≡ false
+pub has_none : (t : ℕ) (rs : List Row) → find_row t rs ≡ None → has_row t rs ≡ false
 unfolding has_row find_row
 has_none t [] e = refl
 has_none t (r ∷ rs) e = go (eqb r.task t) (λ f. has_none t rs f) e
   where
-    go : (b : Bool) → (find_row t rs ≡ none → has_row t rs ≡ false) → cond b (some r) (find_row t rs) ≡ none → b || has_row t rs ≡ false
+    go : (b : Bool) → (find_row t rs ≡ None → has_row t rs ≡ false) → cond b (Some r) (find_row t rs) ≡ None → b || has_row t rs ≡ false
     go true ih e = absurd (none_some r (sym e))
     go false ih e = ih e
 
 -- the row of a task with processes
 pub record Row-of (t : ℕ) (rs : List Row) : Type 0 where
   pub row : Row
-  pub finds : find_row t rs ≡ some row
+  pub finds : find_row t rs ≡ Some row
 
 -- of which queue k holds one
 pub live_row : (rows : List Row) (t k : ℕ) (qs : List Queue) → queues_sound rows 0 qs ≡ true → k < length qs → k / 2 ≡ t → (queue_in qs k).len ≢ 0 → Row-of t rows
@@ -99,10 +98,10 @@ unfolding may_hold
 live_row rows t k qs e l u n = go (find_row t rows) refl
   where
     go : (o : Option Row) → find_row t rows ≡ o → Row-of t rows
-    go none f =
+    go None f =
         let s : k + 0 ≡ k = omega arith in
         absurd (false≢true (sym (has_none t rows f) ∙ ap (λ (u : ℕ). has_row u rows) (sym u) ∙ ap (may_hold rows) (sym s) ∙ nonempty_holds rows 0 qs e k l n))
-    go (some r) f = record { row = r; finds = f }
+    go (Some r) f = record { row = r; finds = f }
 
 -- ---- the numbers of a sound row fit in 32 bits
 
@@ -132,7 +131,7 @@ narrow b nr np nd r e w h =
     go true q l p = absurd (omega (arith, ltb-true (r.dl * 32 + 31) (r.db * 32) q, l))
     go false q l p = omega (arith, ltb-true (r.dl * 32 + 31) nd p, h)
 
-pub narrow_row : (b nr np nd t : ℕ) (rs : List Row) (r : Row) → rows_sound b rs ≡ true → windows_sound nr np nd rs ≡ true → nd ≤ most_data → find_row t rs ≡ some r → Narrow r
+pub narrow_row : (b nr np nd t : ℕ) (rs : List Row) (r : Row) → rows_sound b rs ≡ true → windows_sound nr np nd rs ≡ true → nd ≤ most_data → find_row t rs ≡ Some r → Narrow r
 unfolding rows_sound windows_sound
 narrow_row b nr np nd t [] r e w h f = absurd (none_some r (unfold find_row in f))
 narrow_row b nr np nd t (y ∷ rs) r e w h f =
@@ -179,6 +178,20 @@ module _ (ks ss : List ℕ) (rows : List Row) where
       ap₂ {C = List Row} (λ x y. rows_in ks ss x ++ y)
       (take_all i rows h ∙ sym (take_all n rows k))
       (drop_of_length-le rows h ∙ sym (drop_of_length-le rows k))
+
+  -- up to the nth, of which there may be fewer
+  pub with_first : (i n : ℕ) → i ≡ min n (length rows) → rows_with ks ss rows i ≡ rows_with ks ss rows n
+  unfolding rows_with
+  with_first i n e = go (leb n (length rows)) refl
+    where
+      go : (b : Bool) → leb n (length rows) ≡ b → rows_in ks ss (take i rows) ++ drop i rows ≡ rows_in ks ss (take n rows) ++ drop n rows
+      go true q = let s : i ≡ n = omega (arith, e, leb-true n (length rows) q) in ap (λ (n : ℕ). rows_in ks ss (take n rows) ++ drop n rows) s
+      go false q =
+          let h : length rows ≤ n = omega (arith, leb-false n (length rows) q) in
+          let k : length rows ≤ i = omega (arith, e, leb-false n (length rows) q) in
+          ap₂ {C = List Row} (λ x y. rows_in ks ss x ++ y)
+          (take_all i rows k ∙ sym (take_all n rows h))
+          (drop_of_length-le rows k ∙ sym (drop_of_length-le rows h))
 
   pub with_take : (n : ℕ) (next : List Row) → n ≤ length rows → next ≡ rows_with ks ss rows n → take n next ≡ rows_in ks ss (take n rows)
   unfolding rows_with

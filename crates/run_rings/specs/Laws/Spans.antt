@@ -1,8 +1,7 @@
 -- Windows in numbers by task: the numbers of one task laid, those of the others as they are.
-use Rattle.std.specs.Prelude.{◌≡◌, ◌≢◌, Bool, true, false, ℕ, zero, suc, ◌+◌, ◌*◌, ◌≤◌, ◌<◌, eqb, ltb, length, set}
+use Rattle.std.specs.Prelude.{◌≡◌, ◌≢◌, Bool, true, false, ℕ, zero, suc, ◌+◌, ◌*◌, ◌≤◌, ◌<◌, eqb, ltb, length, set, None, Some}
 use Rattle.std.proofs.Math.Path.{refl, sym, ap}
 use Rattle.std.proofs.Common.{◌∙◌, subst, arith, add-zero, length-set, get_or-set_same, get_or-set_other, ltb-true, ltb-false}
-use Rattle.std.proofs.Math.Option.{none, some}
 use mathlib.Core.List.{List, [], ◌∷◌}
 use Rattle.std.proofs.Math.Nat.{mod-eq_of_lt}
 use Rattle.std.proofs.Math.ListN.{get_or}
@@ -95,22 +94,22 @@ module _ (rs : List Row) (ks ss sp : List ℕ) where
   told_none = record { tells = λ t r l u f. absurd (omega (arith, l, u)) }
 
   -- the next task is unlisted
-  pub told_past : (m : ℕ) → find_row m rs ≡ none → Told rs ks ss sp m → Told rs ks ss sp (m + 1)
+  pub told_past : (m : ℕ) → find_row m rs ≡ None → Told rs ks ss sp m → Told rs ks ss sp (m + 1)
   told_past m e h = record { tells = λ t r l u f. go t r l u f (eqb t m) (eq? t m) }
     where
-      go : (t : ℕ) (r : Row) → 1 ≤ t → t < m + 1 → find_row t rs ≡ some r → (b : Bool) → Eq? t m b → Tells ks ss sp t r
+      go : (t : ℕ) (r : Row) → 1 ≤ t → t < m + 1 → find_row t rs ≡ Some r → (b : Bool) → Eq? t m b → Tells ks ss sp t r
       go t r l u f true (same q) = absurd (none_some r (sym e ∙ ap (λ (x : ℕ). find_row x rs) (sym q) ∙ f))
       go t r l u f false (differ q) = h.tells t r l (omega (arith, u, q)) f
 
   -- its row is carried over
-  pub told_next : (m : ℕ) (x : Row) → m < length ks → m < length ss → 8 * m + 8 ≤ length sp → Narrow x → find_row m rs ≡ some x → Told rs ks ss sp m
+  pub told_next : (m : ℕ) (x : Row) → m < length ks → m < length ss → 8 * m + 8 ≤ length sp → Narrow x → find_row m rs ≡ Some x → Told rs ks ss sp m
       → Told rs (set ks m x.kind) (set ss m x.psw) (windows_laid sp m x) (m + 1)
   told_next m x i j k n e h = record { tells = λ t r l u f. go t r l u f (eqb t m) (eq? t m) }
     where
       mine : (r : Row) → x ≡ r → Tells (set ks m x.kind) (set ss m x.psw) (windows_laid sp m x) m r
       mine r q = rw (← q) (record { kind = get_or-set_same ks m x.kind 0 i; psw = get_or-set_same ss m x.psw 0 j; windows = laid_mine sp m x k n })
 
-      go : (t : ℕ) (r : Row) → 1 ≤ t → t < m + 1 → find_row t rs ≡ some r → (b : Bool) → Eq? t m b
+      go : (t : ℕ) (r : Row) → 1 ≤ t → t < m + 1 → find_row t rs ≡ Some r → (b : Bool) → Eq? t m b
           → Tells (set ks m x.kind) (set ss m x.psw) (windows_laid sp m x) t r
       go t r l u f true (same q) = rw q (mine r (some_inj x r (sym e ∙ ap (λ (x : ℕ). find_row x rs) (sym q) ∙ f)))
       go t r l u f false (differ q) =

@@ -1,10 +1,10 @@
 use Rattle.run_schedule.specs.Code.OneItem.{answer_of}
 use Rattle.run_schedule.proofs.answer_of.Goals as goal
 
-pub returns-in-Refused : goal.returns-in-Refused
+pub returns-in-Err : goal.returns-in-Err
 unfolding answer_of
-returns-in-Refused c = simp c.in-Refused.is
+returns-in-Err c = simp c.in-Err.is
 
-pub returns-in-Counted : goal.returns-in-Counted
+pub returns-in-Ok : goal.returns-in-Ok
 unfolding answer_of
-returns-in-Counted c = simp (c.in-Counted.is, ← c.ending_of.ensures)
+returns-in-Ok c = simp (c.in-Ok.is, ← c.ending_of.ensures)

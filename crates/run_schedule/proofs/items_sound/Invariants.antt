@@ -3,11 +3,7 @@ use Rattle.step.specs.Soundness.{every}
 use lib.ListN.{drop}
 use mathlib.Core.Path.{◌≡◌}
 use mathlib.Core.Bool.{◌&&◌}
-use Prim.Native.Nat.{◌-◌}
 use Rattle.run_schedule.proofs.items_sound.Given as goal
 
-abbrev pub invariant-loop-i : goal.invariant-loop-i
-invariant-loop-i l = (l.good && every item_sound (drop l.i l.schedule)) ≡ every item_sound l.schedule
-
-abbrev pub decreases-loop-i : goal.decreases-loop-i
-decreases-loop-i l = l.n - l.i
+abbrev pub invariant-loop-t : goal.invariant-loop-t
+invariant-loop-t l = (l.good && every item_sound (drop l.t-index l.schedule)) ≡ every item_sound l.schedule

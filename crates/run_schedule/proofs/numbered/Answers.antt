@@ -1,12 +1,21 @@
-use lib.ListN.{length}
-use native.Mathlib.Omega.{arith}
-use mathlib.Core.Path.{refl, ◌≡◌}
-use Rattle.run_schedule.specs.Laws.Carried.{laid_none, none_counted}
-use borrow.Author.Rules.{rules}
+use mathlib.Core.Path.{refl, sym, ap, ◌∙◌, subst}
+use Rattle.run_schedule.specs.Laws.Carried.{none_counted}
+use Rattle.run_rings.specs.declared.Rings.{Rings}
+use Rattle.run_next.specs.Code.Stands.{Stands}
+use Rattle.run_schedule.specs.Code.Queued.{all_queues}
 use Rattle.run_schedule.proofs.numbered.Goals as goal
 
-pub lay_next-requires : goal.lay_next-requires
-lay_next-requires c = let a = c.args in let q = c.rings_of-laid.result in let f : length a.records.kinds ≡ 8 = search rules in let g : length q.pts ≡ 1024 = search rules in let h : length q.heads ≡ 16 = search rules in let k : length q.lens ≡ 16 = search rules in (omega arith, omega (arith, f), omega (arith, g), omega (arith, h), omega (arith, k), laid_none _ _)
-
 pub returns : goal.returns
-returns c = record { queues = c.rings_of-laid.ensures.1; stands = c.lay_next.ensures; kinds = refl; stored = refl; psws = c.with_fresh-psws.ensures; flag = refl; free = c.free_mask-free.ensures; count = refl; tally = none_counted }
+returns c =
+    let e = c.laid-queued.ensures in
+    record {
+      queues = ap all_queues e.0 ∙ c.rings_of-rings.ensures.1;
+      stands = subst (λ (r : Rings). Stands c.args.records.kinds c.laid-queued.result.next (all_queues r)) (sym e.0) e.1;
+      kinds = refl;
+      stored = refl;
+      psws = c.with_fresh-psws.ensures;
+      flag = refl;
+      free = c.free_mask.ensures;
+      count = refl;
+      tally = none_counted;
+    }

@@ -1,5 +1,5 @@
 -- The numbers that a run carries, at its start and at its end.
-use Rattle.std.specs.Prelude.{◌≡◌, true, List, ℕ, suc, ◌^◌, ◌<◌, length, take}
+use Rattle.std.specs.Prelude.{◌≡◌, true, List, ℕ, ◌^◌, ◌<◌, length, take}
 use Rattle.window.specs.declared.Row.{Row}
 use Rattle.step.specs.declared.Processes.{Processes}
 use Rattle.step.specs.Queues.{numbers, pt_count, live_counts, live_total}
@@ -10,18 +10,23 @@ use Rattle.run.specs.declared.Counts.{Counts}
 use Rattle.run.specs.Run.{no_tally, run}
 use Rattle.run_rings.specs.declared.Tasks.{Tasks}
 use Rattle.run_rings.specs.Code.Mask.{free_word}
-use Rattle.run_rings.specs.Code.Rings.{ring_count, ring_places, queues_in}
 use Rattle.run_rings.specs.Code.Spans.{Told, all_span_places}
-use Rattle.run_next.specs.Code.Next.{mark_count}
 use Rattle.run_next.specs.Code.Settled.{Lines, lines}
 use Rattle.run_next.specs.Code.Stands.{Stands}
 use Rattle.run_next.specs.Code.Numbers.{Cells, state_from, Numbers}
 use Rattle.run_next.specs.Code.Tally.{tally_cells, tally_in}
 use Rattle.run_next.specs.Code.Running.{Running}
 use Rattle.run_schedule.specs.declared.Carried.{Carried}
+use Rattle.run_schedule.specs.Code.Queued.{all_queues}
 
 abbrev pub lines_of : Carried → Lines
-lines_of r = lines r.marks r.pts r.heads r.lens r.kinds r.stored r.psws r.flag r.free r.count
+lines_of r = lines r.queued.next r.queued.rings.pts r.queued.rings.heads r.queued.rings.lens r.kinds r.stored r.psws r.flag r.free r.count
+
+-- trap records and counts stay
+pub record Keeps (r r' : Carried) : Type 0 where
+  pub kinds : r'.kinds ≡ r.kinds
+  pub stored : r'.stored ≡ r.stored
+  pub tally : r'.tally ≡ r.tally
 
 -- the state of these rows and processes, their live counts worked out
 unfoldable pub open_state : List Row → Processes → Cells → State
@@ -40,8 +45,8 @@ pub record Opened (users : Processes) (tasks : Tasks) (m : Cells) : Type 0 where
 
 -- the numbers at the start
 pub record Begins (users : Processes) (tasks : Tasks) (r : Carried) : Type 0 where
-  pub queues : queues_in r.pts r.heads r.lens ≡ users.queues
-  pub stands : Stands r.kinds r.marks (queues_in r.pts r.heads r.lens)
+  pub queues : all_queues r.queued.rings ≡ users.queues
+  pub stands : Stands r.kinds r.queued.next (all_queues r.queued.rings)
   pub kinds : r.kinds ≡ tasks.kinds
   pub stored : r.stored ≡ tasks.stored
   pub psws : take pt_count r.psws ≡ users.psw
@@ -59,9 +64,9 @@ pub record Ends (rows : List Row) (spans schedule : List ℕ) (s : State) (r : C
 unfoldable pub users_of : Carried → Processes
 users_of r = record {
   psw = take pt_count r.psws;
-  queues = queues_in r.pts r.heads r.lens;
+  queues = all_queues r.queued.rings;
   flag = r.flag;
-  live = live_counts (queues_in r.pts r.heads r.lens);
+  live = live_counts (all_queues r.queued.rings);
   count = r.count;
 }
 
@@ -73,14 +78,9 @@ pub record Small (c : Counts) : Type 0 where
   pub idle : c.idle < 2 ^ 32
   pub tries : c.tries < 2 ^ 32
 
--- what the loop over the attempts keeps: x₀ and m₀ are the numbers and memories at the start, x and m those before the next attempt
-pub record Looping (schedule : List ℕ) (i : ℕ) (spans : List ℕ) (x₀ : Lines) (m₀ : Cells) (x : Lines) (m : Cells) (tally : List ℕ) : Type 0 where
-  pub running : (rows : List Row) → Numbers rows spans x₀ m₀ → Running schedule i (state_from rows x₀ m₀) rows spans x m (tally_in tally)
-  pub marks : length x.marks ≡ mark_count
-  pub pts : length x.pts ≡ ring_places
-  pub heads : length x.heads ≡ ring_count
-  pub lens : length x.lens ≡ ring_count
-  pub kinds : length x.kinds ≡ numbers
-  pub stored : length x.stored ≡ numbers
-  pub psws : length x.psws ≡ suc pt_count
-  pub cells : length tally ≡ tally_cells
+-- what the loop over the attempts keeps: r₀ and m₀ are the numbers and memories at the start, r and m those before the next attempt
+pub record Looping (schedule : List ℕ) (i : ℕ) (spans : List ℕ) (r₀ : Carried) (m₀ : Cells) (r : Carried) (m : Cells) : Type 0 where
+  pub running : (rows : List Row) → Numbers rows spans (lines_of r₀) m₀ → Running schedule i (state_from rows (lines_of r₀) m₀) rows spans (lines_of r) m (tally_in r.tally)
+  pub kinds : length r.kinds ≡ numbers
+  pub stored : length r.stored ≡ numbers
+  pub cells : length r.tally ≡ tally_cells

@@ -1,5 +1,5 @@
 -- A run over one item: how it ended is told by its counts and, of a trap, by the trap record of the task's row.
-use Rattle.std.specs.Prelude.{cond, List, ℕ, ◌%◌, eqb, get_or}
+use Rattle.std.specs.Prelude.{cond, List, ℕ, ◌%◌, eqb, get_or, Result, Ok, Err}
 use Rattle.window.specs.Limits.{tasks}
 use Rattle.window.specs.declared.Row.{Row}
 use Rattle.operation.specs.declared.Trap.{Trap}
@@ -8,10 +8,7 @@ use Rattle.step.specs.declared.Ending.{Ending}
 use Rattle.step.specs.declared.Ending.TheVariants.{Executed, Waved, Trapped, Idle}
 use Rattle.run.specs.declared.Counts.{Counts}
 use Rattle.library.specs.Empty.{empty_row}
-use Rattle.library.specs.declared.RunAnswer.{RunAnswer}
-use Rattle.library.specs.declared.RunAnswer.TheVariants.{Refused, Counted}
-use Rattle.library.specs.declared.StepAnswer.{StepAnswer}
-use Rattle.library.specs.declared.StepAnswer.TheVariants.{Refused as RefusedStep, Stepped}
+use Rattle.refusal.specs.declared.Refusal.{Refusal}
 
 -- the trap of a kind; of any other number the last
 unfoldable pub trap_of : ℕ → Trap
@@ -25,9 +22,9 @@ ending_of c r =
     cond (eqb c.executed 1) Executed (cond (eqb c.waved 1) Waved (cond (eqb c.idle 1) Idle (Trapped (trap_of r.kind) r.psw)))
 
 -- what a step answers, by what the run answered and the row
-unfoldable pub answer_of : RunAnswer → Row → StepAnswer
-answer_of (Refused e) r = RefusedStep e
-answer_of (Counted c) r = Stepped (ending_of c r)
+unfoldable pub answer_of : Result Counts Refusal → Row → Result Ending Refusal
+answer_of (Err e) r = Err e
+answer_of (Ok c) r = Ok (ending_of c r)
 
 -- row i of seven, counted round
 abbrev pub row_at : List Row → ℕ → Row

@@ -1,6 +1,5 @@
 -- What a run promises by its refusals: 8, then 9, then 10, then the counts.
-use Rattle.std.specs.Prelude.{ℕ, ◌≤◌, ◌<◌, ◌≡◌, true, false, List, length}
-use Rattle.std.proofs.Math.Option.{none, some}
+use Rattle.std.specs.Prelude.{ℕ, ◌≤◌, ◌<◌, ◌≡◌, true, false, List, length, None, Some}
 use borrow.Author.Tests.{lt-ltb, le-ltb}
 use Rattle.refusal.specs.declared.Refusal.{Refusal}
 use Rattle.refusal.specs.declared.Refusal.TheVariants.{UnsoundState, ListTooLong, ItemOutOfRange}
@@ -14,7 +13,7 @@ use Rattle.library.specs.Promises.{run_answered, RunPromise}
 use Rattle.library.proofs.Laws.Numbers.{run_promise}
 
 module _ (n : Sizes) (b : Buffers) (l : List ℕ) where
-  refused : (e : Refusal) → run_refusal n b l ≡ some e → RunPromise n b l (run_answered (refuses e)) b
+  refused : (e : Refusal) → run_refusal n b l ≡ Some e → RunPromise n b l (run_answered (refuses e)) b
   unfolding run_answered run_answer run_leaves unless leaving
   refused e q = run_promise (rw q) (rw q)
 
@@ -34,5 +33,5 @@ module _ (n : Sizes) (b : Buffers) (l : List ℕ) where
       → RunPromise n b l (run_answered (answers (run l (fields_in n b)).notes)) (holding (run l (fields_in n b)).state b)
   unfolding run_answered run_answer run_leaves unless leaving run_refusal state_refusal or_else schedule_refusal
   runs e h i =
-      let q : run_refusal n b l ≡ none = rw (e, le-ltb most_items (length l) h, i) in
+      let q : run_refusal n b l ≡ None = rw (e, le-ltb most_items (length l) h, i) in
       run_promise (rw q) (rw q)

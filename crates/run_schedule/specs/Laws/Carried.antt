@@ -1,8 +1,7 @@
 -- A run in numbers: its start, its loop, its end.
-use Rattle.std.specs.Prelude.{ℕ, zero, suc, ◌+◌, ◌≤◌, ◌<◌, ◌≡◌, Bool, true, false, cond, ltb, length, set, take, drop, replicate}
+use Rattle.std.specs.Prelude.{ℕ, zero, suc, ◌+◌, ◌≤◌, ◌<◌, ◌≡◌, Bool, true, false, cond, ltb, length, set, take, drop, replicate, Some, None}
 use Rattle.std.proofs.Math.Path.{refl, ap}
 use Rattle.std.proofs.Common.{sym, ap₂, ◌∙◌, subst, add-one, arith, length-set, drop_of_length-le, take_all, take-suc, get_or-set_same, drop-cons, leb-true, ltb-true, ltb-false}
-use Rattle.std.proofs.Math.Option.{some}
 use mathlib.Core.List.{List, [], ◌∷◌, ◌++◌}
 use Rattle.std.proofs.Math.ListN.{get_or, get_or-eq_default}
 use Rattle.std.proofs.lemmas.List.{get_or-replicate, take-set-le}
@@ -36,7 +35,7 @@ use Rattle.run_rings.specs.Code.Laid.{no_tasks, tasks_laid}
 use Rattle.run_rings.specs.Laws.Spans.{told_none}
 use Rattle.run_rings.specs.Laws.Laid.{tasks_told}
 use Rattle.run_rings.specs.Laws.Rows.{rows_start, narrow_row}
-use Rattle.run_next.specs.Code.Next.{mark_count, no_attempt, place_after}
+use Rattle.run_next.specs.Code.Next.{place_after}
 use Rattle.run_next.specs.Code.Settled.{Lines, queues_of, place_of}
 use Rattle.run_next.specs.Code.Numbers.{Cells, state_from, Numbers}
 use Rattle.run_next.specs.Code.Stands.{Laid}
@@ -53,7 +52,7 @@ module _ (rows : List Row) (users : Processes) (tasks : Tasks) (m : Cells) (r : 
   parts : Sound (open_state rows users m)
   parts = sound_parts (open_state rows users m) o.sound
 
-  tells : (t : ℕ) (x : Row) → find_row t rows ≡ some x → Tells tasks.kinds tasks.stored tasks.spans t x
+  tells : (t : ℕ) (x : Row) → find_row t rows ≡ Some x → Tells tasks.kinds tasks.stored tasks.spans t x
   unfolding open_state
   tells t x f = let l = has_row_range 0 t rows parts.rows (found_has_row t rows x f) in o.told.tells t x l.0 (omega (arith, l.1)) f
 
@@ -207,7 +206,7 @@ module _ (rows : List Row) (users : Processes) (m : Cells) (h : sound (open_stat
   sound_open = sound_parts _ h
 
   -- the numbers of a row fit
-  narrow_rows : (t : ℕ) (r : Row) → find_row t rows ≡ some r → Narrow r
+  narrow_rows : (t : ℕ) (r : Row) → find_row t rows ≡ Some r → Narrow r
   narrow_rows t r f =
       narrow_row 0 _ _ (length m.data_words.words) t rows r sound_open.rows sound_open.windows
       (leb-true (length m.data_words.words) most_data (memory_parts most_data state_sound m.data_words sound_open.memories.data_words).few) f
@@ -269,8 +268,8 @@ small_part c d e q s = record {
 
 -- ---- no next attempt yet, and nothing counted
 
-pub laid_none : (kinds : List ℕ) (qs : List Queue) → Laid 0 kinds (replicate mark_count no_attempt) qs
-laid_none kinds qs = record { stands = λ t a b. absurd (omega (arith, a)); none = λ t a b. get_or-replicate mark_count t no_attempt 0 (omega (arith, b)) }
+pub laid_none : (kinds : List ℕ) (qs : List Queue) → Laid 0 kinds (replicate numbers None) qs
+laid_none kinds qs = record { stands = λ t a b. absurd (omega (arith, a)); none = λ t a b. get_or-replicate numbers t None None (omega (arith, b)) }
 
 pub none_counted : tally_in (replicate tally_cells 0) ≡ no_tally
 unfolding tally_in own_in own_from summed plus

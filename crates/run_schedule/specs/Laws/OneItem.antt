@@ -1,9 +1,8 @@
 -- A run over one item is a step: the same refusals, the same buffers, the ending told by the counts and the row of the task.
-use Rattle.std.specs.Prelude.{◌≡◌, Bool, not, ◌&&◌, ◌||◌, ℕ, suc, ◌%◌, ◌<◌, eqb}
+use Rattle.std.specs.Prelude.{◌≡◌, Bool, not, ◌&&◌, ◌||◌, ℕ, suc, ◌%◌, ◌<◌, eqb, Option, None, Some, Ok}
 use Rattle.std.proofs.Math.Path.{refl, sym, ap, subst}
 use Rattle.std.proofs.Common.{◌∙◌, arith, eq-eqb}
 use Rattle.std.proofs.Math.Bool.{true, false, cond}
-use Rattle.std.proofs.Math.Option.{Option, none, some}
 use mathlib.Core.List.{List, [], ◌∷◌}
 use Rattle.std.proofs.Math.ListN.{length, get_or, set, take, length-take}
 use Rattle.std.proofs.Math.Seq.{get_or-take, get_or-set_same}
@@ -38,7 +37,6 @@ use Rattle.run.proofs.Laws.Run.{run_lengths}
 use Rattle.library.specs.declared.Rows.{Rows}
 use Rattle.library.specs.declared.Sizes.{Sizes}
 use Rattle.library.specs.declared.RunResult.{RunResult}
-use Rattle.library.specs.declared.StepAnswer.TheVariants as StepAnswers
 use Rattle.library.specs.Buffers.{Buffers, fields_in, holding}
 use Rattle.library.specs.Calls.{unless, leaving, or_else, state_refusal, run_refusal, run_answer, run_leaves, task_refusal, step_refusal, step_answer, step_leaves}
 use Rattle.library.specs.Code.HeldRows.{held_rows}
@@ -184,7 +182,7 @@ module _ (n : Sizes) (b : Buffers) (t : ℕ) where
   unfolding schedule_refusal task_refusal every
   schedule_same = go (item_sound t)
     where
-      go : (i : Bool) → cond (not (i && true)) (some ItemOutOfRange) none ≡ cond (not i) (some ItemOutOfRange) none
+      go : (i : Bool) → cond (not (i && true)) (Some ItemOutOfRange) None ≡ cond (not i) (Some ItemOutOfRange) None
       go true = refl
       go false = refl
 
@@ -199,13 +197,13 @@ module _ (n : Sizes) (b : Buffers) (t : ℕ) where
       go : (o : Option Refusal) → step_refusal n b t ≡ o
           → leaving (unless (run_refusal n b (t ∷ [])) (run (t ∷ []) (fields_in n b)).notes) b (holding (run (t ∷ []) (fields_in n b)).state b)
           ≡ leaving (unless (step_refusal n b t) (item t (fields_in n b)).ending) b (holding (item t (fields_in n b)).state b)
-      go (some e) q = rw (refusal_same, q) refl
-      go none q = rw (refusal_same, q) (ap (λ (r : Ran). holding r.state b) (one_run t (fields_in n b)))
+      go (Some e) q = rw (refusal_same, q) refl
+      go None q = rw (refusal_same, q) (ap (λ (r : Ran). holding r.state b) (one_run t (fields_in n b)))
 
   -- rows of seven that the run leaves, and the place where the task's row stood
   module _ (v : Rows) (seven : length v.at ≡ 7) (i : ℕ) (stands : StandsAt t b.rows i) where
     -- what stands there among the first n of them
-    row_there : run_refusal n b (t ∷ []) ≡ none → held_rows v ≡ (run_leaves n b (t ∷ [])).rows → has_row t (fields_in n b).rows ≡ true
+    row_there : run_refusal n b (t ∷ []) ≡ None → held_rows v ≡ (run_leaves n b (t ∷ [])).rows → has_row t (fields_in n b).rows ≡ true
         → row_at v.at i ≡ get_or (run (t ∷ []) (fields_in n b)).state.rows (place_of t (fields_in n b).rows) empty_row
     unfolding fields_in held_rows
     row_there q h e =
@@ -226,8 +224,8 @@ module _ (n : Sizes) (b : Buffers) (t : ℕ) where
         go : (o : Option Refusal) → step_refusal n b t ≡ o
             → answer_of (run_answered (unless (run_refusal n b (t ∷ [])) (run (t ∷ []) (fields_in n b)).notes)).answer (row_at v.at i)
             ≡ step_answered (unless (step_refusal n b t) (item t (fields_in n b)).ending)
-        go (some e) q = rw (refusal_same, q) refl
-        go none q = rw (refusal_same, q) (ap StepAnswers.Stepped (one_item t (fields_in n b) (row_at v.at i) (row_there (refusal_same ∙ q) h)))
+        go (Some e) q = rw (refusal_same, q) refl
+        go None q = rw (refusal_same, q) (ap Ok (one_item t (fields_in n b) (row_at v.at i) (row_there (refusal_same ∙ q) h)))
 
     pub step_by_run : (r : RunResult) (a : Buffers) → held_rows v ≡ a.rows → RunPromise n b (t ∷ []) r a → StepPromise n b t (answer_of r.answer (row_at v.at i)) a
     step_by_run r a h p =

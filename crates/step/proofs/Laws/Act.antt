@@ -1,9 +1,8 @@
 -- One act of a task: what it does to its own share of the table, to another's, and to the invariant.
 use Rattle.std.specs.Prelude.{◌≡◌, ◌≢◌, Bool, cond, List, [], ◌∷◌, ◌++◌, length, set, eqb}
 use Rattle.std.proofs.Math.Path.{refl, sym, ap, subst}
-use Rattle.std.proofs.Common.{ap₂, ◌∙◌, arith, get_or-set_same, ltb-true}
+use Rattle.std.proofs.Common.{ap₂, ◌∙◌, arith, get_or-set_same, ltb-true, Option, None, Some}
 use Rattle.std.proofs.Math.Bool.{true, false}
-use Rattle.std.proofs.Math.Option.{Option, none, some}
 use Prim.Native.Nat.{ℕ, suc, ◌/◌, ◌%◌, ◌≤◌, ◌<◌}
 use Rattle.word.proofs.Laws.Bools.{Eq?, same, differ, eq?}
 use Rattle.window.specs.declared.Row.{Row}
@@ -44,15 +43,15 @@ fixed r = record {
 
 -- the fixed part of a task's row; none: the task is unlisted
 abbrev pub fixed_of : Option Row → Option Row
-fixed_of none = none
-fixed_of (some r) = some (fixed r)
+fixed_of None = None
+fixed_of (Some r) = Some (fixed r)
 
 unfoldable pub fixed_at : ℕ → State → Option Row
 fixed_at t s = fixed_of (find_row t s.rows)
 
 -- the invariant of a run: every PT stands once, and the count is that of the live processes
 pub record Inv (s : State) : Type 0 where
-  pub tasks : (t : ℕ) (r : Row) → find_row t s.rows ≡ some r → (1 ≤ t) × (t ≤ 7)
+  pub tasks : (t : ℕ) (r : Row) → find_row t s.rows ≡ Some r → (1 ≤ t) × (t ≤ 7)
   pub tidy : Tidy s.table.users.psw s.table.users.queues
   pub counted : s.table.users.count ≡ live_total s.table.users.queues
 
@@ -358,7 +357,7 @@ change_fixed table a r (Executes e) = fate_fixed table a r e.fate
 
 -- ---- the same of the whole state
 
-module _ (s : State) (a : Attempt) (t : ℕ) (r : Row) (at : find_row t s.rows ≡ some r) (d : Decision) where
+module _ (s : State) (a : Attempt) (t : ℕ) (r : Row) (at : find_row t s.rows ≡ Some r) (d : Decision) where
   task_t : r.task ≡ t
   task_t = find_task t s.rows r at
 
@@ -369,7 +368,7 @@ module _ (s : State) (a : Attempt) (t : ℕ) (r : Row) (at : find_row t s.rows �
   unfolding act
   rows_act = ap (λ (n : ℕ). put_row n (change_of s.table.users a r d).row s.rows) task_t
 
-  find_act : find_row t (act s a r d).state.rows ≡ some (change_of s.table.users a r d).row
+  find_act : find_row t (act s a r d).state.rows ≡ Some (change_of s.table.users a r d).row
   find_act = ap (find_row t) rows_act ∙ find_put_same t s.rows r (change_of s.table.users a r d).row at changed_task
 
   find_act_other : (u : ℕ) → t ≢ u → find_row u (act s a r d).state.rows ≡ find_row u s.rows
@@ -383,7 +382,7 @@ module _ (s : State) (a : Attempt) (t : ℕ) (r : Row) (at : find_row t s.rows �
       go : (b : Bool) → Eq? t u b → fixed_at u (act s a r d).state ≡ fixed_at u s
       go true (same k) =
           subst (λ (v : ℕ). fixed_at v (act s a r d).state ≡ fixed_at v s) k
-          (ap fixed_of find_act ∙ ap some (change_fixed s.table.users a r d) ∙ ap fixed_of (sym at))
+          (ap fixed_of find_act ∙ ap Some (change_fixed s.table.users a r d) ∙ ap fixed_of (sym at))
       go false (differ k) = ap fixed_of (find_act_other u k)
 
   module _ (inv : Inv s) (nonempty : (acting_queue s.table.users a t).len ≢ 0) (down : (act s a r d).state.table.users.flag ≡ 0) where
@@ -393,11 +392,11 @@ module _ (s : State) (a : Attempt) (t : ℕ) (r : Row) (at : find_row t s.rows �
         good s.table.users a r inv.tidy inv.counted
         (subst (λ (x : ℕ). (acting_queue s.table.users a x).len ≢ 0) (sym task_t) nonempty) d down
 
-    pub own_act : own t (act s a r d).state ≡ some (local a d (own_of r t s.table.users.psw s.table.users.queues))
+    pub own_act : own t (act s a r d).state ≡ Some (local a d (own_of r t s.table.users.psw s.table.users.queues))
     unfolding own act
     own_act =
         ap (own_in (change_of s.table.users a r d).table t) find_act
-        ∙ ap some
+        ∙ ap Some
         (subst (λ (x : ℕ). own_of (change_of s.table.users a r d).row x (change_of s.table.users a r d).table.psw (change_of s.table.users a r d).table.queues
         ≡ local a d (own_of r x s.table.users.psw s.table.users.queues))
         task_t facts.mine)
@@ -411,11 +410,11 @@ module _ (s : State) (a : Attempt) (t : ℕ) (r : Row) (at : find_row t s.rows �
     own_act_other u ne = ap (own_in (change_of s.table.users a r d).table u) (find_act_other u ne) ∙ go (find_row u s.rows) refl
       where
         go : (o : Option Row) → find_row u s.rows ≡ o → own_in (change_of s.table.users a r d).table u o ≡ own_in s.table.users u o
-        go none e = refl
-        go (some x) e =
+        go None e = refl
+        go (Some x) e =
             let h : t ≤ 7 = (inv.tasks t r at).1 in
             let l : u ≤ 7 = (inv.tasks u x e).1 in
-            ap some
+            ap Some
             (owner_same x
             (facts.others (own_number u) (own_inside u) (λ k. own_differ t u ne h l (ap own_number (sym task_t) ∙ sym k)) (λ k. own_sfu u r.task k))
             (facts.others (sfu_number u) (sfu_inside u) (λ k. own_sfu r.task u (sym k)) (λ k. sfu_differ t u ne h l (ap sfu_number (sym task_t) ∙ sym k))))
@@ -424,6 +423,6 @@ module _ (s : State) (a : Attempt) (t : ℕ) (r : Row) (at : find_row t s.rows �
     unfolding act
     act_inv = record { tasks = λ u x e. go u x e (eqb t u) (eq? t u); tidy = facts.tidy; counted = facts.counted }
       where
-        go : (u : ℕ) (x : Row) → find_row u (act s a r d).state.rows ≡ some x → (b : Bool) → Eq? t u b → (1 ≤ u) × (u ≤ 7)
+        go : (u : ℕ) (x : Row) → find_row u (act s a r d).state.rows ≡ Some x → (b : Bool) → Eq? t u b → (1 ≤ u) × (u ≤ 7)
         go u x e true (same k) = subst (λ (y : ℕ). (1 ≤ y) × (y ≤ 7)) k (inv.tasks t r at)
         go u x e false (differ k) = inv.tasks u x (sym (find_act_other u k) ∙ e)

@@ -1,11 +1,9 @@
 -- Two states that agree on a set of tasks, and one step or try in each. For any instruction set.
 use Rattle.std.specs.Prelude.{◌≡◌, Bool, true, false, ℕ, eqb}
 use Rattle.std.proofs.Math.Path.{refl, ap}
-use Rattle.std.proofs.Common.{sym, ap₂, ◌∙◌, subst, true≢false}
+use Rattle.std.proofs.Common.{sym, ap₂, ◌∙◌, subst, true≢false, Option, None, Some, slice_get}
 use Rattle.std.proofs.Math.Bool.{cond}
-use Rattle.std.proofs.Math.Option.{Option, none, some}
 use mathlib.Core.List.{List, [], ◌∷◌}
-use Rattle.std.proofs.Math.ListN.{get_elem?}
 use Rattle.word.proofs.Laws.Bools.{Eq?, same, differ, eq?}
 use Rattle.window.specs.declared.Row.{Row}
 use Rattle.window.specs.declared.Window.{Window}
@@ -28,28 +26,28 @@ use Rattle.step.proofs.Laws.Step.{Part, register_tags, register_words, data_tags
 pub record Agree (A : ℕ → Bool) (s s' : State) : Type 0 where
   pub owns : (t : ℕ) → A t ≡ true → own t s ≡ own t s'
   pub constants : (a : ℕ) → constant_at s.constants a ≡ constant_at s'.constants a
-  pub cells : (m : Part) (t : ℕ) → A t ≡ true → (r : Row) → fixed_at t s ≡ some r → (a : ℕ) → inside (window_in m r) a ≡ true
-      → get_elem? (list_in m s) a ≡ get_elem? (list_in m s') a
-  pub code : (t : ℕ) → A t ≡ true → (r : Row) → fixed_at t s ≡ some r → (a : ℕ) → inside (program_window r) a ≡ true
-      → get_elem? s.program a ≡ get_elem? s'.program a
+  pub cells : (m : Part) (t : ℕ) → A t ≡ true → (r : Row) → fixed_at t s ≡ Some r → (a : ℕ) → inside (window_in m r) a ≡ true
+      → slice_get (list_in m s) a ≡ slice_get (list_in m s') a
+  pub code : (t : ℕ) → A t ≡ true → (r : Row) → fixed_at t s ≡ Some r → (a : ℕ) → inside (program_window r) a ≡ true
+      → slice_get s.program a ≡ slice_get s'.program a
 
 -- no register or data window of a task of A meets that of a task outside A
 pub record Apart (A : ℕ → Bool) (s : State) : Type 0 where
-  pub windows : (m : Part) (t u : ℕ) → A t ≡ true → A u ≡ false → (r x : Row) → fixed_at t s ≡ some r → fixed_at u s ≡ some x
+  pub windows : (m : Part) (t u : ℕ) → A t ≡ true → A u ≡ false → (r x : Row) → fixed_at t s ≡ Some r → fixed_at u s ≡ Some x
       → (a : ℕ) → inside (window_in m r) a ≡ true → inside (window_in m x) a ≡ false
 
 -- the fixed part of a task's row, by what the task owns
 abbrev fixed_own : Option Own → Option Row
-fixed_own none = none
-fixed_own (some o) = some (fixed o.row)
+fixed_own None = None
+fixed_own (Some o) = Some (fixed o.row)
 
 own_fixed : (t : ℕ) (s : State) → fixed_at t s ≡ fixed_own (own t s)
 unfolding fixed_at own
 own_fixed t s = go (find_row t s.rows)
   where
     go : (o : Option Row) → fixed_of o ≡ fixed_own (own_in s.table.users t o)
-    go none = refl
-    go (some r) = refl
+    go None = refl
+    go (Some r) = refl
 
 module _ (A : ℕ → Bool) where
   agree_fixed : (s s' : State) → Agree A s s' → (t : ℕ) → A t ≡ true → fixed_at t s ≡ fixed_at t s'
@@ -76,7 +74,7 @@ module _ (A : ℕ → Bool) where
 
 -- the cell at an operand, where the two register lists and the constants agree
 visible_same : (w : Window) (m n c d : Memory)
-    → ((a : ℕ) → inside w a ≡ true → get_elem? m.tags a ≡ get_elem? n.tags a) → ((a : ℕ) → inside w a ≡ true → get_elem? m.words a ≡ get_elem? n.words a)
+    → ((a : ℕ) → inside w a ≡ true → slice_get m.tags a ≡ slice_get n.tags a) → ((a : ℕ) → inside w a ≡ true → slice_get m.words a ≡ slice_get n.words a)
     → ((a : ℕ) → constant_at c a ≡ constant_at d a) → (o : Operand) → visible_cell w m c o ≡ visible_cell w n d o
 unfolding visible_cell cell_in
 visible_same w m n c d h k e (Register a) = λ i. record { tag = seen_same w m.tags n.tags h a i; word = seen_same w m.words n.words k a i }
@@ -96,12 +94,12 @@ module _ (instructions : Environment → Decision) where
     owns = λ t m. sym (own_attempt_other instructions a u t s (λ e. true≢false (sym m ∙ ap A (sym e) ∙ out)) inv z);
     constants = λ i. ap (λ (m : Memory). constant_at m i) (sym (constants_attempt instructions a u s));
     cells = λ x t m r e i h. sym (attempt_outside instructions x a u s i (λ y f. k.windows x t u m out r y e f i h));
-    code = λ t m r e i h. ap (λ (l : List ℕ). get_elem? l i) (sym (program_attempt instructions a u s));
+    code = λ t m r e i h. ap (λ (l : List ℕ). slice_get l i) (sym (program_attempt instructions a u s));
   }
 
   -- a step of a task of A, in two states that agree on A
   module _ (A : ℕ → Bool) (s s' : State) (g : Agree A s s') (flags : s.table.users.flag ≡ s'.table.users.flag) (a : Attempt) (t : ℕ) (m : A t ≡ true) where
-    environment_same : (r : Row) → fixed_at t s ≡ some (fixed r) → (p : ℕ) → environment s r p ≡ environment s' r p
+    environment_same : (r : Row) → fixed_at t s ≡ Some (fixed r) → (p : ℕ) → environment s r p ≡ environment s' r p
     unfolding environment environment_of cell_in program_window register_window data_word_window
     environment_same r e p = λ i. record {
       row = r;
@@ -117,19 +115,19 @@ module _ (instructions : Environment → Decision) where
       };
     }
 
-    head_same : (r : Row) → fixed_at t s ≡ some (fixed r) → (ps : List ℕ) → head_decides instructions s r ps ≡ head_decides instructions s' r ps
+    head_same : (r : Row) → fixed_at t s ≡ Some (fixed r) → (ps : List ℕ) → head_decides instructions s r ps ≡ head_decides instructions s' r ps
     unfolding head_decides
     head_same r e [] = refl
-    head_same r e (p ∷ ps) = ap (λ (x : Environment). some (instructions x)) (environment_same r e p)
+    head_same r e (p ∷ ps) = ap (λ (x : Environment). Some (instructions x)) (environment_same r e p)
 
     decided_same : decided instructions a s (own t s) ≡ decided instructions a s' (own t s')
     unfolding row_decides
     decided_same = go (own t s) refl ∙ ap (decided instructions a s') (g.owns t m)
       where
         go : (o : Option Own) → own t s ≡ o → decided instructions a s o ≡ decided instructions a s' o
-        go none e = refl
-        go (some o) e =
-            ap (λ (x : Option Decision). cond (eqb o.row.kind no_trap) x none) (head_same o.row (own_fixed t s ∙ ap fixed_own e) (acting_of a o))
+        go None e = refl
+        go (Some o) e =
+            ap (λ (x : Option Decision). cond (eqb o.row.kind no_trap) x None) (head_same o.row (own_fixed t s ∙ ap fixed_own e) (acting_of a o))
 
     -- the two end alike
     pub ends_same : Inv s → Inv s' → (attempt_by instructions a t s).state.table.users.flag ≡ 0 → (attempt_by instructions a t s').state.table.users.flag ≡ 0
@@ -148,9 +146,9 @@ module _ (instructions : Environment → Decision) where
           ∙ (λ j. hits_in x (decided_same j) (agree_fixed A s s' g t m j) i (g.cells x u n r (sym (fixed_attempt instructions a t u s) ∙ e) i h j))
           ∙ sym (list_attempt instructions x a t s' i);
       code = λ u n r e i h.
-          ap (λ (l : List ℕ). get_elem? l i) (program_attempt instructions a t s)
+          ap (λ (l : List ℕ). slice_get l i) (program_attempt instructions a t s)
           ∙ g.code u n r (sym (fixed_attempt instructions a t u s) ∙ e) i h
-          ∙ sym (ap (λ (l : List ℕ). get_elem? l i) (program_attempt instructions a t s'));
+          ∙ sym (ap (λ (l : List ℕ). slice_get l i) (program_attempt instructions a t s'));
     }
       where
         go : (u : ℕ) → A u ≡ true → (b : Bool) → Eq? t u b → own u (attempt_by instructions a t s).state ≡ own u (attempt_by instructions a t s').state

@@ -1,7 +1,6 @@
 -- Addresses inside the windows of rows that end in their memories.
 use Rattle.std.specs.Prelude.{◌≡◌, refl, Bool, true, false, ◌||◌, List, [], ◌∷◌, ℕ, ◌<◌, ltb}
-use Rattle.std.proofs.Common.{subst, arith, ltb-true}
-use Rattle.std.proofs.Math.Option.{some}
+use Rattle.std.proofs.Common.{subst, arith, ltb-true, Some}
 use Rattle.word.proofs.Laws.Bools.{and_left, and_right}
 use Rattle.window.specs.declared.Row.{Row}
 use Rattle.window.specs.declared.Window.{Window}
@@ -19,7 +18,7 @@ ends_at w n e a i = go (ltb w.last w.first) refl e
     go true q k = let h = in_of w a i in let z = ltb-true w.last w.first q in absurd (omega (arith, h.from, h.to, z))
     go false q k = let h = in_of w a i in let z = ltb-true w.last n k in omega (arith, h.to, z)
 
-pub row_ends : (nr np nd t : ℕ) (rs : List Row) (r : Row) → windows_sound nr np nd rs ≡ true → find_row t rs ≡ some r → row_ends_in nr np nd r ≡ true
+pub row_ends : (nr np nd t : ℕ) (rs : List Row) (r : Row) → windows_sound nr np nd rs ≡ true → find_row t rs ≡ Some r → row_ends_in nr np nd r ≡ true
 unfolding windows_sound
 row_ends nr np nd t [] r e f = absurd (none_some r (unfold find_row in f))
 row_ends nr np nd t (y ∷ rs) r e f =

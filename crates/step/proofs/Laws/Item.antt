@@ -1,9 +1,7 @@
 -- One item of a task: what every step and every try keeps, an item keeps. For any instruction set.
 use Rattle.std.specs.Prelude.{◌≡◌, Bool, true, false, cond, not, ℕ, ◌≤◌, length, eqb}
 use Rattle.std.proofs.Math.Path.{refl, sym, ap, ap₂}
-use Rattle.std.proofs.Common.{◌∙◌, subst, subst₂, arith}
-use Rattle.std.proofs.Math.Option.{Option, none, some}
-use Rattle.std.proofs.Math.ListN.{get_elem?}
+use Rattle.std.proofs.Common.{◌∙◌, subst, subst₂, arith, Option, None, Some, slice_get}
 use Rattle.window.specs.declared.Row.{Row}
 use Rattle.window.specs.Windows.{inside}
 use Rattle.operation.specs.Environment.{Environment}
@@ -36,13 +34,13 @@ tries_le (Trapped k p) = omega arith
 tries_le Idle = omega arith
 
 -- whether the task's queue has a process, by what the task owns
-had_own : (t : ℕ) (s : State) (o : Own) → own t s ≡ some o → has_process s.table.users t ≡ not (eqb (length o.processes) 0)
+had_own : (t : ℕ) (s : State) (o : Own) → own t s ≡ Some o → has_process s.table.users t ≡ not (eqb (length o.processes) 0)
 unfolding own has_process
 had_own t s o = go (find_row t s.rows)
   where
-    go : (x : Option Row) → own_in s.table.users t x ≡ some o → has_process s.table.users t ≡ not (eqb (length o.processes) 0)
-    go none e = absurd (none_some o e)
-    go (some r) e =
+    go : (x : Option Row) → own_in s.table.users t x ≡ Some o → has_process s.table.users t ≡ not (eqb (length o.processes) 0)
+    go None e = absurd (none_some o e)
+    go (Some r) e =
         ap (λ (n : ℕ). not (eqb n 0)) (sym (length_processes s.table.users.psw s.table.users.queues (own_number t)))
         ∙ ap (λ (y : Own). not (eqb (length y.processes) 0)) (some_inj _ o e)
 
@@ -100,11 +98,11 @@ module _ (instructions : Environment → Decision) where
   item_lengths t s = item_keeps (λ x. SameLengths x s) t (λ a x k. lengths_join (attempt_lengths instructions a t x) k) s (same_lengths s)
 
   -- a place outside the window of a task
-  pub item_outside : (m : Part) (t : ℕ) (s : State) (i : ℕ) → ((r : Row) → find_row t s.rows ≡ some r → inside (window_in m r) i ≡ false)
-      → get_elem? (list_in m (item_by instructions t s).state) i ≡ get_elem? (list_in m s) i
+  pub item_outside : (m : Part) (t : ℕ) (s : State) (i : ℕ) → ((r : Row) → find_row t s.rows ≡ Some r → inside (window_in m r) i ≡ false)
+      → slice_get (list_in m (item_by instructions t s).state) i ≡ slice_get (list_in m s) i
   item_outside m t s i h =
       let k =
-      item_keeps (λ x. ((r : Row) → fixed_at t x ≡ some r → inside (window_in m r) i ≡ false) × (get_elem? (list_in m x) i ≡ get_elem? (list_in m s) i)) t
+      item_keeps (λ x. ((r : Row) → fixed_at t x ≡ Some r → inside (window_in m r) i ≡ false) × (slice_get (list_in m x) i ≡ slice_get (list_in m s) i)) t
       (λ a x k. (λ r e. k.0 r (sym (fixed_attempt instructions a t t x) ∙ e), attempt_outside instructions m a t x i k.0 ∙ k.1)) s
       (outside_fixed m t s i h, refl) in
       k.1
@@ -152,10 +150,10 @@ module _ (instructions : Environment → Decision) where
     follows_same = go (own t s) refl
       where
         go : (o : Option Own) → own t s ≡ o → follows t s ≡ follows t s'
-        go none e =
+        go None e =
             let i : (tried t s).ending ≡ Idle = attempt_ends instructions Try t s inv z ∙ ap (λ (x : Option Own). ending_in (decided instructions Try s x)) e in
             ap (step_follows (has_process s.table.users t)) i ∙ sym (ap (step_follows (has_process s'.table.users t)) (sym tries_end ∙ i))
-        go (some o) e = ap₂ step_follows (had_own t s o e ∙ sym (had_own t s' o (sym (g.owns t m) ∙ e))) tries_end
+        go (Some o) e = ap₂ step_follows (had_own t s o e ∙ sym (had_own t s' o (sym (g.owns t m) ∙ e))) tries_end
 
     step_flags : (tried t s).state.table.users.flag ≡ (tried t s').state.table.users.flag
     step_flags = z ∙ sym z'

@@ -1,12 +1,10 @@
 -- Writes of sound cells through a window leave a memory sound, and what is seen through a window is sound.
 use Rattle.std.specs.Prelude.{ℕ, ◌≡◌, Bool, cond, length, get_or, set, leb}
-use Rattle.std.proofs.Common.{sym, ap, ◌∙◌, eqb-true, eq-eqb}
+use Rattle.std.proofs.Common.{sym, ap, ◌∙◌, eqb-true, eq-eqb, Option, Some, None}
 use Rattle.std.proofs.Math.Bool.{true, false}
 use mathlib.Core.List.{List, [], ◌∷◌}
 use Rattle.window.specs.declared.Window.{Window}
 use Rattle.window.specs.declared.Cell.{Cell}
-use Rattle.window.specs.declared.Write.{Write}
-use Rattle.window.specs.declared.Write.TheVariants.{Nothing, Put}
 use Rattle.window.specs.Windows.{inside}
 use Rattle.window.specs.Memories.{Memory, seen, stored, stored_one, stored_all, written, tag_of, word_of}
 use Rattle.window.proofs.Laws.Memories.{length_stored_all}
@@ -26,22 +24,22 @@ every_seen test w l a z e = go (inside w a)
 
 -- ---- writes
 
-pub data SoundWrites (tag : ℕ → Bool) : List Write → Type 0 where
+pub data SoundWrites (tag : ℕ → Bool) : List (Option (ℕ × Cell)) → Type 0 where
   done : SoundWrites tag []
-  more : {x : Write} {xs : List Write} → SoundWrite tag x → SoundWrites tag xs → SoundWrites tag (x ∷ xs)
+  more : {x : (Option (ℕ × Cell))} {xs : List (Option (ℕ × Cell))} → SoundWrite tag x → SoundWrites tag xs → SoundWrites tag (x ∷ xs)
 
 -- a number that f takes of a cell passes the test, if the cell is sound
 module _ (tag test : ℕ → Bool) (f : Cell → ℕ) (passes : (c : Cell) → tag c.tag ≡ true → word_sound c.word ≡ true → test (f c) ≡ true) (w : Window) where
-  every_one : (x : Write) (l : List ℕ) → SoundWrite tag x → every test l ≡ true → every test (stored_one f w x l) ≡ true
+  every_one : (x : Option (ℕ × Cell)) (l : List ℕ) → SoundWrite tag x → every test l ≡ true → every test (stored_one f w x l) ≡ true
   unfolding stored_one stored
-  every_one Nothing l s e = e
-  every_one (Put a c) l s e = go (inside w a)
+  every_one None l s e = e
+  every_one (Some (a, c)) l s e = go (inside w a)
     where
       go : (b : Bool) → every test (cond b (set l a (f c)) l) ≡ true
       go true = every_set test l a (f c) (passes c s.0 s.1) e
       go false = e
 
-  every_all : (xs : List Write) (l : List ℕ) → SoundWrites tag xs → every test l ≡ true → every test (stored_all f w xs l) ≡ true
+  every_all : (xs : List (Option (ℕ × Cell))) (l : List ℕ) → SoundWrites tag xs → every test l ≡ true → every test (stored_all f w xs l) ≡ true
   unfolding stored_all
   every_all [] l done e = e
   every_all (x ∷ xs) l (more s ss) e = every_all xs (stored_one f w x l) ss (every_one x l s e)
@@ -64,7 +62,7 @@ memory_parts most tag m e =
     let u = both (eqb-true (length m.tags) (length m.words)) (both (λ k. k) (words_parts most m.words)) e in
     record { even = u.0; tags = u.1.0; few = u.1.1.0; words = u.1.1.1 }
 
-pub written_sound : (most : ℕ) (tag : ℕ → Bool) (w : Window) (xs : List Write) (m : Memory) → SoundWrites tag xs
+pub written_sound : (most : ℕ) (tag : ℕ → Bool) (w : Window) (xs : List (Option (ℕ × Cell))) (m : Memory) → SoundWrites tag xs
     → memory_sound most tag m ≡ true → memory_sound most tag (written w xs m) ≡ true
 unfolding memory_sound words_sound written
 written_sound most tag w xs m s e =

@@ -1,9 +1,8 @@
 -- The parts of a step or a try make it.
 use Rattle.std.specs.Prelude.{◌≡◌, ◌≢◌, Bool, ℕ, get_or}
 use Rattle.std.proofs.Math.Path.{refl, ap}
-use Rattle.std.proofs.Common.{sym, ◌∙◌, subst, eq-eqb}
+use Rattle.std.proofs.Common.{sym, ◌∙◌, subst, eq-eqb, Option, Some, None}
 use Rattle.std.proofs.Math.Bool.{true, false, cond}
-use Rattle.std.proofs.Math.Option.{Option, none, some}
 use mathlib.Core.List.{List}
 use Rattle.window.specs.declared.Row.{Row}
 use Rattle.window.specs.Windows.{register_window, data_word_window}
@@ -21,8 +20,6 @@ use Rattle.step.specs.declared.Queue.{Queue}
 use Rattle.step.specs.declared.Processes.{Processes}
 use Rattle.step.specs.declared.Ending.{Ending}
 use Rattle.step.specs.declared.Ending.TheVariants as ending
-use Rattle.step.specs.declared.Decided.{Decided}
-use Rattle.step.specs.declared.Decided.TheVariants.{Decides}
 use Rattle.step.specs.declared.StepResult.{StepResult}
 use Rattle.step.specs.Queues.{acting_number, below_total, list_of, head_of, lowest_free}
 use Rattle.step.specs.State.{State, state, find_row, put_row, acting_queue, psws_of, processes_acting, environment}
@@ -35,7 +32,7 @@ use Rattle.step.proofs.Laws.Rows.{put_same, find_task}
 
 -- what is decided where the task has not trapped and has a process
 pub head_decides_lem : (s : State) (r : Row) (psw : List ℕ) (q : Queue) (head word : ℕ) (d : Decision) → r.kind ≡ no_trap → q.len ≢ 0
-    → head ≡ head_of q → word ≡ get_or psw head 0 → d ≡ decide (environment s r word) → Decides d ≡ decided_as (row_decides decide s r (psws_of psw (list_of q)))
+    → head ≡ head_of q → word ≡ get_or psw head 0 → d ≡ decide (environment s r word) → Some d ≡ decided_as (row_decides decide s r (psws_of psw (list_of q)))
 unfolding row_decides head_decides decided_as psws_of
 head_decides_lem s r psw q head word d k n p w e =
     let h : Heads (head_of q) (list_of q) = heads q n in
@@ -64,8 +61,8 @@ module _ (table : Processes) (r : Row) (free : ℕ) (below : Bool) where
       go Try true = refl
       go a false = refl
 
-  change_parts : (a : Attempt) (d : Decision) → (creates (decided_as (some d)) ≡ true → free ≡ lowest_free table.queues)
-      → (creates (decided_as (some d)) ≡ true → below ≡ below_total table.count)
+  change_parts : (a : Attempt) (d : Decision) → (creates (decided_as (Some d)) ≡ true → free ≡ lowest_free table.queues)
+      → (creates (decided_as (Some d)) ≡ true → below ≡ below_total table.count)
       → change_of table a r d ≡ changed table a r (decision_result a free below d) (decision_psws (head_of (acting_queue table a r.task)) free d table.psw)
   unfolding change_of creates decided_as decision_result decision_psws actor_psws row_after moved_queues flag_after waved_motion waved_queues acting_number other_number
   change_parts a (Waits w) g h = waits a w
@@ -94,12 +91,12 @@ module _ (s : State) (a : Attempt) (r : Row) (head free : ℕ) (below : Bool) (x
       → Acts a r (decided_as o) head free below x s.table.users.psw psw s.registers m s.data_words n
       → acted decide s a r o ≡ stepped_by s a r x psw m n
   unfolding acted act stepped_by decided_as result_of psws_after registers_written data_written written stored_all row_after moved_queues flag_after
-  acted_parts none g h z =
+  acted_parts None g h z =
       rw (z.ends, z.psws, z.registers, z.data_words)
       (ap (λ (t : Processes). after s s.rows t s.registers s.data_words ending.Idle) counted
       ∙ ap (λ (rs : List Row). after s rs (with_counts s.table.users.psw s.table.users.queues s.table.users.flag) s.registers s.data_words ending.Idle)
       (sym stands))
-  acted_parts (some d) g h z =
+  acted_parts (Some d) g h z =
       rw (z.ends, z.psws, z.registers, z.data_words, heads)
       (ap
       (λ (c : Change). after s (put_row r.task c.row s.rows) c.table
@@ -109,11 +106,11 @@ module _ (s : State) (a : Attempt) (r : Row) (head free : ℕ) (below : Bool) (x
       (change_parts s.table.users r free below a d g h))
 
 -- the parts that a step or a try of task t makes, one after another
-pub record Parts (a : Attempt) (t : ℕ) (s : State) (r : Row) (d : Decided) (x : StepResult) (psw : List ℕ) (m n : Memory) : Type 0 where
+pub record Parts (a : Attempt) (t : ℕ) (s : State) (r : Row) (d : Option Decision) (x : StepResult) (psw : List ℕ) (m n : Memory) : Type 0 where
   pub head : ℕ
   pub free : ℕ
   pub below : Bool
-  pub row : find_row t s.rows ≡ some r
+  pub row : find_row t s.rows ≡ Some r
   pub counted : s.table.users ≡ with_counts s.table.users.psw s.table.users.queues s.table.users.flag
   pub decides : d ≡ decided_as (row_decides decide s r (processes_acting s.table.users a t))
   pub heads : head ≡ head_of (acting_queue s.table.users a t)
@@ -121,7 +118,7 @@ pub record Parts (a : Attempt) (t : ℕ) (s : State) (r : Row) (d : Decided) (x 
   pub places : creates d ≡ true → below ≡ below_total s.table.users.count
   pub acts : Acts a r d head free below x s.table.users.psw psw s.registers m s.data_words n
 
-attempt_parts : (a : Attempt) (t : ℕ) (s : State) (r : Row) (d : Decided) (x : StepResult) (psw : List ℕ) (m n : Memory) → Parts a t s r d x psw m n
+attempt_parts : (a : Attempt) (t : ℕ) (s : State) (r : Row) (d : Option Decision) (x : StepResult) (psw : List ℕ) (m n : Memory) → Parts a t s r d x psw m n
     → attempt_by decide a t s ≡ stepped_by s a r x psw m n
 unfolding attempt_by attempt_row
 attempt_parts a t s r d x psw m n p =
@@ -131,12 +128,12 @@ attempt_parts a t s r d x psw m n p =
     (subst (λ (u : ℕ). put_row u r s.rows ≡ s.rows) e (put_same t s.rows r p.row))
     (subst (λ (u : ℕ). p.head ≡ head_of (acting_queue s.table.users a u)) e p.heads) p.counted
     (row_decides decide s r (processes_acting s.table.users a t))
-    (subst (λ (d : Decided). creates d ≡ true → p.free ≡ lowest_free s.table.users.queues) p.decides p.lowest)
-    (subst (λ (d : Decided). creates d ≡ true → p.below ≡ below_total s.table.users.count) p.decides p.places)
-    (subst (λ (d : Decided). Acts a r d p.head p.free p.below x s.table.users.psw psw s.registers m s.data_words n) p.decides p.acts))
+    (subst (λ (d : Option Decision). creates d ≡ true → p.free ≡ lowest_free s.table.users.queues) p.decides p.lowest)
+    (subst (λ (d : Option Decision). creates d ≡ true → p.below ≡ below_total s.table.users.count) p.decides p.places)
+    (subst (λ (d : Option Decision). Acts a r d p.head p.free p.below x s.table.users.psw psw s.registers m s.data_words n) p.decides p.acts))
 
 -- with what a run holds after it: the row, the queues and the flag, each left as it is where it does not change
-pub attempt_made : (a : Attempt) (t : ℕ) (s : State) (r r' : Row) (d : Decided) (x : StepResult) (psw : List ℕ) (m n : Memory) (queues : List Queue) (flag : ℕ)
+pub attempt_made : (a : Attempt) (t : ℕ) (s : State) (r r' : Row) (d : Option Decision) (x : StepResult) (psw : List ℕ) (m n : Memory) (queues : List Queue) (flag : ℕ)
     → Parts a t s r d x psw m n
     → r' ≡ row_after x.ending r
     → queues ≡ moved_queues x.motion a t s.table.users.queues

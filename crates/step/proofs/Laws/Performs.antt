@@ -1,7 +1,7 @@
 -- Performs for each kind of decision, along an equation of decisions, and against Acts.
 use Rattle.std.specs.Prelude.{ℕ, ◌<◌, ◌≡◌, ◌≢◌, Bool, List, [], ◌∷◌, length, set}
 use Rattle.std.proofs.Math.Path.{refl, ap}
-use Rattle.std.proofs.Common.{sym, ◌∙◌, subst}
+use Rattle.std.proofs.Common.{sym, ◌∙◌, subst, Some}
 use Rattle.std.proofs.Math.Bool.{cond}
 use Rattle.std.proofs.Math.ListN.{get_or}
 use Rattle.std.proofs.lemmas.List.{set-get_or}
@@ -23,7 +23,6 @@ use Rattle.step.specs.declared.Attempt.{Attempt}
 use Rattle.step.specs.declared.Attempt.TheVariants.{Step, Try}
 use Rattle.step.specs.declared.Ending.TheVariants.{Executed, Waved, Trapped}
 use Rattle.step.specs.declared.Motion.TheVariants.{Stays, Joins}
-use Rattle.step.specs.declared.Decided.TheVariants.{Decides}
 use Rattle.step.specs.Act.{register_writes, data_writes}
 use Rattle.step.specs.Code.Parts.{result, created_motion, waved_motion, fate_result, decision_result, result_of, fate_psws, decision_psws, psws_after, registers_written, data_written, Acts}
 use Rattle.step.specs.Code.Performs.{trap_course, wait_course, fate_course, course_of, Performs, course_result}
@@ -89,7 +88,7 @@ module _ (a : Attempt) (pt free : ℕ) (room : Bool) (psw : List ℕ) (here : pt
   course_result_lem (decision.Executes e) = fate_result_lem e.fate
 
   pub performs_acts : (row : Row) (d : Decision) (c : Course) (psw' : List ℕ) (m m' n n' : Memory) → Performs row d pt free c psw psw' m m' n n'
-      → Acts a row (Decides d) pt free room (course_result a free room (get_or psw' pt 0) c) psw psw' m m' n n'
+      → Acts a row (Some d) pt free room (course_result a free room (get_or psw' pt 0) c) psw psw' m m' n n'
   unfolding result_of psws_after registers_written data_written
   performs_acts row d c psw' m m' n n' p = record {
     ends = rw (p.psws, p.course) (sym (course_result_lem d));

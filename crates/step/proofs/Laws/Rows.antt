@@ -1,25 +1,24 @@
 -- Rows of tasks: search by number, replacement of a row.
 use Rattle.std.specs.Prelude.{◌≡◌, ◌≢◌, Bool, true, false, cond, List, [], ◌∷◌, ℕ, eqb}
 use Rattle.std.proofs.Math.Path.{refl}
-use Rattle.std.proofs.Common.{sym, ap, ◌∙◌, subst, arith, eq-eqb, ne_eqb}
-use Rattle.std.proofs.Math.Option.{Option, none, some}
+use Rattle.std.proofs.Common.{sym, ap, ◌∙◌, subst, arith, eq-eqb, ne_eqb, Option, None, Some}
 use Rattle.word.proofs.Laws.Bools.{Eq?, same, differ, eq?}
 use Rattle.window.specs.declared.Row.{Row}
 use Rattle.step.specs.State.{find_row, put_row}
 
-pub some_inj : {A : Type 0} (x y : A) → ◌≡◌ {A = Option A} (some x) (some y) → x ≡ y
+pub some_inj : {A : Type 0} (x y : A) → ◌≡◌ {A = Option A} (Some x) (Some y) → x ≡ y
 some_inj x y e = cc
 
-pub none_some : {A : Type 0} (x : A) → ◌≡◌ {A = Option A} none (some x) → ⊥
+pub none_some : {A : Type 0} (x : A) → ◌≡◌ {A = Option A} None (Some x) → ⊥
 none_some x e = let z : ◌≡◌ {A = ℕ} 0 1 = cc in omega arith
 
-pub find_here : (t : ℕ) (r : Row) (rs : List Row) → r.task ≡ t → find_row t (r ∷ rs) ≡ some r
+pub find_here : (t : ℕ) (r : Row) (rs : List Row) → r.task ≡ t → find_row t (r ∷ rs) ≡ Some r
 unfolding find_row
-find_here t r rs q = ap (λ (b : Bool). cond b (some r) (find_row t rs)) (eq-eqb r.task t q)
+find_here t r rs q = ap (λ (b : Bool). cond b (Some r) (find_row t rs)) (eq-eqb r.task t q)
 
 pub find_there : (t : ℕ) (r : Row) (rs : List Row) → r.task ≢ t → find_row t (r ∷ rs) ≡ find_row t rs
 unfolding find_row
-find_there t r rs q = ap (λ (b : Bool). cond b (some r) (find_row t rs)) (ne_eqb r.task t q)
+find_there t r rs q = ap (λ (b : Bool). cond b (Some r) (find_row t rs)) (ne_eqb r.task t q)
 
 pub put_here : (t : ℕ) (x r : Row) (rs : List Row) → r.task ≡ t → put_row t x (r ∷ rs) ≡ x ∷ rs
 unfolding put_row
@@ -32,17 +31,17 @@ put_there t x r rs q = ap (λ (b : Bool). cond b (x ∷ rs) (r ∷ put_row t x r
 -- the row that a search finds is the first one, or is found behind it
 pub data Found (t : ℕ) (r y : Row) (rs : List Row) : Type 0 where
   here : y.task ≡ t → y ≡ r → Found t r y rs
-  there : y.task ≢ t → find_row t rs ≡ some r → Found t r y rs
+  there : y.task ≢ t → find_row t rs ≡ Some r → Found t r y rs
 
-pub found : (t : ℕ) (r y : Row) (rs : List Row) → find_row t (y ∷ rs) ≡ some r → Found t r y rs
+pub found : (t : ℕ) (r y : Row) (rs : List Row) → find_row t (y ∷ rs) ≡ Some r → Found t r y rs
 unfolding find_row
 found t r y rs e = go (eqb y.task t) (eq? y.task t) e
   where
-    go : (b : Bool) → Eq? y.task t b → cond b (some y) (find_row t rs) ≡ some r → Found t r y rs
+    go : (b : Bool) → Eq? y.task t b → cond b (Some y) (find_row t rs) ≡ Some r → Found t r y rs
     go true (same q) e = here q (some_inj y r e)
     go false (differ q) e = there q e
 
-pub find_task : (t : ℕ) (rs : List Row) (r : Row) → find_row t rs ≡ some r → r.task ≡ t
+pub find_task : (t : ℕ) (rs : List Row) (r : Row) → find_row t rs ≡ Some r → r.task ≡ t
 find_task t [] r e = absurd (none_some r (unfold find_row in e))
 find_task t (y ∷ rs) r e = elim (found t r y rs e) [ here q p ↦ rw (← p) q | there q k ↦ find_task t rs r k ]
 
@@ -51,7 +50,7 @@ pub data Put (r x : Row) : List Row → List Row → Type 0 where
   first : {rs : List Row} → Put r x (r ∷ rs) (x ∷ rs)
   later : {y : Row} {rs qs : List Row} → Put r x rs qs → Put r x (y ∷ rs) (y ∷ qs)
 
-pub put_row_lem : (t : ℕ) (rs : List Row) (r x : Row) → find_row t rs ≡ some r → Put r x rs (put_row t x rs)
+pub put_row_lem : (t : ℕ) (rs : List Row) (r x : Row) → find_row t rs ≡ Some r → Put r x rs (put_row t x rs)
 put_row_lem t [] r x e = absurd (none_some r (unfold find_row in e))
 put_row_lem t (y ∷ rs) r x e =
     elim (found t r y rs e) [
@@ -60,7 +59,7 @@ put_row_lem t (y ∷ rs) r x e =
     ]
 
 -- the row that is found, put for itself
-pub put_same : (t : ℕ) (rs : List Row) (r : Row) → find_row t rs ≡ some r → put_row t r rs ≡ rs
+pub put_same : (t : ℕ) (rs : List Row) (r : Row) → find_row t rs ≡ Some r → put_row t r rs ≡ rs
 put_same t [] r e = absurd (none_some r (unfold find_row in e))
 put_same t (y ∷ rs) r e =
     elim (found t r y rs e) [
@@ -68,7 +67,7 @@ put_same t (y ∷ rs) r e =
       | there q k ↦ put_there t r y rs q ∙ ap (λ (l : List Row). y ∷ l) (put_same t rs r k)
     ]
 
-pub find_put_same : (t : ℕ) (rs : List Row) (r x : Row) → find_row t rs ≡ some r → x.task ≡ t → find_row t (put_row t x rs) ≡ some x
+pub find_put_same : (t : ℕ) (rs : List Row) (r x : Row) → find_row t rs ≡ Some r → x.task ≡ t → find_row t (put_row t x rs) ≡ Some x
 find_put_same t [] r x e n = absurd (none_some r (unfold find_row in e))
 find_put_same t (y ∷ rs) r x e n =
     elim (found t r y rs e) [

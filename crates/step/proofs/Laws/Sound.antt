@@ -1,8 +1,7 @@
 -- Soundness of a state: its parts, and the invariant of a run that it gives.
 use Rattle.std.specs.Prelude.{ℕ, zero, suc, ◌+◌, ◌*◌, ◌/◌, ◌%◌, ◌≤◌, ◌<◌, ◌≡◌, ◌≢◌, Bool, true, false, ◌||◌, List, [], ◌∷◌, length, get_or, eqb, leb, ltb}
-use Rattle.std.proofs.Common.{ap, ◌∙◌, subst, le_of_suc-le-suc, not-suc-le-zero, arith, eqb-true, eq-eqb, leb-true, ltb-true}
+use Rattle.std.proofs.Common.{ap, ◌∙◌, subst, le_of_suc-le-suc, not-suc-le-zero, arith, eqb-true, eq-eqb, leb-true, ltb-true, Some}
 use Rattle.std.proofs.lemmas.Bool.{false≢true}
-use Rattle.std.proofs.Math.Option.{some}
 use Rattle.window.specs.Limits.{most_constants, most_registers, most_program, most_data}
 use Rattle.window.specs.declared.Row.{Row}
 use Rattle.word.proofs.Laws.Bools.{Eq?, same, differ, eq?, and_left, and_right, or_right}
@@ -92,7 +91,7 @@ sound_whole s p = also (also p.rows (table_whole s.rows s.table.users p.table)) 
 -- ---- the invariant of a run
 
 -- a task that has a row is listed
-pub found_has_row : (t : ℕ) (rs : List Row) (r : Row) → find_row t rs ≡ some r → has_row t rs ≡ true
+pub found_has_row : (t : ℕ) (rs : List Row) (r : Row) → find_row t rs ≡ Some r → has_row t rs ≡ true
 unfolding has_row
 found_has_row t [] r e = absurd (none_some r (unfold find_row in e))
 found_has_row t (y ∷ rs) r e =

@@ -1,7 +1,6 @@
 -- A step or a try of a sound state leaves a sound state.
 use Rattle.std.specs.Prelude.{ℕ, ◌≡◌, refl, ◌≢◌, Bool, true, false, cond, List, [], ◌∷◌, eqb}
-use Rattle.std.proofs.Common.{sym, ap, ◌∙◌, subst}
-use Rattle.std.proofs.Math.Option.{none, some}
+use Rattle.std.proofs.Common.{sym, ap, ◌∙◌, subst, None, Some}
 use Rattle.window.specs.Limits.{most_constants, most_registers, most_data}
 use Rattle.window.proofs.Laws.Sound.{quality_tag}
 use Rattle.word.specs.Fields.{psw_sound}
@@ -66,12 +65,12 @@ environment_sound s r psw m h =
     }
 
 -- what a task with sound PSWs decides
-pub decided_sound : (s : State) (r : Row) (psws : List ℕ) (d : Decision) → SoundMemories s → every psw_sound psws ≡ true → row_decides decide s r psws ≡ some d
+pub decided_sound : (s : State) (r : Row) (psws : List ℕ) (d : Decision) → SoundMemories s → every psw_sound psws ≡ true → row_decides decide s r psws ≡ Some d
     → SoundDecision s.table.users.flag d
 unfolding row_decides head_decides environment environment_of
 decided_sound s r psws d m h e = go (eqb r.kind no_trap) psws h e
   where
-    go : (b : Bool) (psws : List ℕ) → every psw_sound psws ≡ true → cond b (head_decides decide s r psws) none ≡ some d → SoundDecision s.table.users.flag d
+    go : (b : Bool) (psws : List ℕ) → every psw_sound psws ≡ true → cond b (head_decides decide s r psws) None ≡ Some d → SoundDecision s.table.users.flag d
     go false psws h e = absurd (none_some d e)
     go true [] h e = absurd (none_some d e)
     go true (psw ∷ psws) h e =
@@ -94,7 +93,7 @@ data_writes_lem flag (Executes e) h = more h.datum done
 
 -- ---- the state
 
-module _ (s : State) (a : Attempt) (t : ℕ) (r : Row) (before : Sound s) (at : find_row t s.rows ≡ some r) (nonempty : (acting_queue s.table.users a t).len ≢ 0) where
+module _ (s : State) (a : Attempt) (t : ℕ) (r : Row) (before : Sound s) (at : find_row t s.rows ≡ Some r) (nonempty : (acting_queue s.table.users a t).len ≢ 0) where
   task_t : r.task ≡ t
   task_t = find_task t s.rows r at
 

@@ -1,15 +1,12 @@
 -- One step or try, seen from what the task owns: the decision that it makes (none: idle), and what that does. For any instruction set.
 use Rattle.std.specs.Prelude.{◌≡◌, ◌≢◌, Bool, ℕ, zero, suc, eqb}
 use Rattle.std.proofs.Math.Path.{refl, sym, ap}
-use Rattle.std.proofs.Common.{ap₂, ◌∙◌, subst, arith, ne_eqb}
+use Rattle.std.proofs.Common.{ap₂, ◌∙◌, subst, arith, ne_eqb, Option, None, Some, slice_get}
 use Rattle.std.proofs.Math.Bool.{true, false, cond}
-use Rattle.std.proofs.Math.Option.{Option, none, some}
 use mathlib.Core.List.{List, []}
-use Rattle.std.proofs.Math.ListN.{get_elem?}
 use Rattle.window.specs.declared.Row.{Row}
 use Rattle.window.specs.declared.Window.{Window}
 use Rattle.window.specs.declared.Cell.{Cell}
-use Rattle.window.specs.declared.Write.{Write}
 use Rattle.window.specs.Windows.{inside, register_window, data_word_window}
 use Rattle.window.specs.Memories.{stored_all, written, tag_of, word_of}
 use Rattle.window.proofs.Laws.Memories.{hits, at_stored_all, hits_outside}
@@ -44,7 +41,7 @@ window_in register_words r = register_window r
 window_in data_tags r = data_word_window r
 window_in data_values r = data_word_window r
 
-abbrev pub writes_in : Part → Decision → List Write
+abbrev pub writes_in : Part → Decision → List (Option (ℕ × Cell))
 writes_in register_tags d = register_writes d
 writes_in register_words d = register_writes d
 writes_in data_tags d = data_writes d
@@ -92,39 +89,39 @@ acting_own Try r t psw qs = refl
 
 -- the share of the task that steps, and how its step ends
 abbrev pub local_in : Attempt → Option Decision → Option Own → Option Own
-local_in a none o = o
-local_in a (some d) none = none
-local_in a (some d) (some o) = some (local a d o)
+local_in a None o = o
+local_in a (Some d) None = None
+local_in a (Some d) (Some o) = Some (local a d o)
 
 abbrev pub ending_in : Option Decision → Ending
-ending_in none = Idle
-ending_in (some d) = ending_of d
+ending_in None = Idle
+ending_in (Some d) = ending_of d
 
 -- a list that a step writes, place by place
 abbrev pub hits_in : Part → Option Decision → Option Row → ℕ → Option ℕ → Option ℕ
-hits_in m none o a x = x
-hits_in m (some d) none a x = x
-hits_in m (some d) (some r) a x = hits (taken_in m) (window_in m r) (writes_in m d) a x
+hits_in m None o a x = x
+hits_in m (Some d) None a x = x
+hits_in m (Some d) (Some r) a x = hits (taken_in m) (window_in m r) (writes_in m d) a x
 
 module _ (instructions : Environment → Decision) where
   abbrev pub decided : Attempt → State → Option Own → Option Decision
-  decided a s none = none
-  decided a s (some o) = row_decides instructions s o.row (acting_of a o)
+  decided a s None = None
+  decided a s (Some o) = row_decides instructions s o.row (acting_of a o)
 
   -- it is idle, or an act of the task's row
   pub data Attempts (a : Attempt) (t : ℕ) (s : State) : Type 0 where
-    idles : attempt_by instructions a t s ≡ record { state = s; ending = Idle } → decided a s (own t s) ≡ none → Attempts a t s
-    acts : (r : Row) (d : Decision) → find_row t s.rows ≡ some r → (acting_queue s.table.users a t).len ≢ 0
-        → own t s ≡ some (own_of r t s.table.users.psw s.table.users.queues) → decided a s (own t s) ≡ some d
+    idles : attempt_by instructions a t s ≡ record { state = s; ending = Idle } → decided a s (own t s) ≡ None → Attempts a t s
+    acts : (r : Row) (d : Decision) → find_row t s.rows ≡ Some r → (acting_queue s.table.users a t).len ≢ 0
+        → own t s ≡ Some (own_of r t s.table.users.psw s.table.users.queues) → decided a s (own t s) ≡ Some d
         → attempt_by instructions a t s ≡ act s a r d → Attempts a t s
 
   -- a task that decides has a process
-  pub deciding : (a : Attempt) (t : ℕ) (s : State) (r : Row) (d : Decision) → row_decides instructions s r (processes_acting s.table.users a t) ≡ some d
+  pub deciding : (a : Attempt) (t : ℕ) (s : State) (r : Row) (d : Decision) → row_decides instructions s r (processes_acting s.table.users a t) ≡ Some d
       → (acting_queue s.table.users a t).len ≢ 0
   unfolding row_decides head_decides processes_at
   deciding a t s r d e z = go (eqb r.kind no_trap) (ap (row_decides instructions s r) (sym (none_live (acting_queue s.table.users a t) s.table.users.psw z)) ∙ e)
     where
-      go : (b : Bool) → cond b (head_decides instructions s r []) none ≡ some d → ⊥
+      go : (b : Bool) → cond b (head_decides instructions s r []) None ≡ Some d → ⊥
       go true k = none_some d k
       go false k = none_some d k
 
@@ -133,18 +130,18 @@ module _ (instructions : Environment → Decision) where
   attempts a t s = go (find_row t s.rows) refl
     where
       go : (o : Option Row) → find_row t s.rows ≡ o → Attempts a t s
-      go none e = idles (ap (attempt_row instructions a t s) e) (ap (λ (x : Option Row). decided a s (own_in s.table.users t x)) e)
-      go (some r) e = by (row_decides instructions s r (processes_acting s.table.users a t)) refl
+      go None e = idles (ap (attempt_row instructions a t s) e) (ap (λ (x : Option Row). decided a s (own_in s.table.users t x)) e)
+      go (Some r) e = by (row_decides instructions s r (processes_acting s.table.users a t)) refl
         where
           same_list : row_decides instructions s r (acting_of a (own_of r t s.table.users.psw s.table.users.queues))
               ≡ row_decides instructions s r (processes_acting s.table.users a t)
           same_list = ap (row_decides instructions s r) (acting_own a r t s.table.users.psw s.table.users.queues)
 
           by : (x : Option Decision) → row_decides instructions s r (processes_acting s.table.users a t) ≡ x → Attempts a t s
-          by none k =
+          by None k =
               idles (ap (attempt_row instructions a t s) e ∙ ap (acted instructions s a r) k)
               (ap (λ (x : Option Row). decided a s (own_in s.table.users t x)) e ∙ same_list ∙ k)
-          by (some d) k =
+          by (Some d) k =
               acts r d e (deciding a t s r d k) (ap (own_in s.table.users t) e)
               (ap (λ (x : Option Row). decided a s (own_in s.table.users t x)) e ∙ same_list ∙ k)
               (ap (attempt_row instructions a t s) e ∙ ap (acted instructions s a r) k)
@@ -157,12 +154,12 @@ module _ (instructions : Environment → Decision) where
         | acts r d f q o n e ↦ absurd (q z)
       ]
 
-  pub idle_trapped : (a : Attempt) (t : ℕ) (s : State) (r : Row) → find_row t s.rows ≡ some r → r.kind ≢ no_trap → attempt_by instructions a t s ≡ record { state = s; ending = Idle }
+  pub idle_trapped : (a : Attempt) (t : ℕ) (s : State) (r : Row) → find_row t s.rows ≡ Some r → r.kind ≢ no_trap → attempt_by instructions a t s ≡ record { state = s; ending = Idle }
   unfolding attempt_by attempt_row acted row_decides
   idle_trapped a t s r e n =
-      ap (attempt_row instructions a t s) e ∙ ap (λ (b : Bool). acted instructions s a r (cond b (head_decides instructions s r (processes_acting s.table.users a t)) none)) (ne_eqb r.kind no_trap n)
+      ap (attempt_row instructions a t s) e ∙ ap (λ (b : Bool). acted instructions s a r (cond b (head_decides instructions s r (processes_acting s.table.users a t)) None)) (ne_eqb r.kind no_trap n)
 
-  pub idle_unlisted : (a : Attempt) (t : ℕ) (s : State) → find_row t s.rows ≡ none → attempt_by instructions a t s ≡ record { state = s; ending = Idle }
+  pub idle_unlisted : (a : Attempt) (t : ℕ) (s : State) → find_row t s.rows ≡ None → attempt_by instructions a t s ≡ record { state = s; ending = Idle }
   unfolding attempt_by attempt_row
   idle_unlisted a t s e = ap (attempt_row instructions a t s) e
 
@@ -214,18 +211,18 @@ module _ (instructions : Environment → Decision) where
       ]
 
   pub list_attempt : (m : Part) (a : Attempt) (t : ℕ) (s : State) (i : ℕ)
-      → get_elem? (list_in m (attempt_by instructions a t s).state) i ≡ hits_in m (decided a s (own t s)) (fixed_at t s) i (get_elem? (list_in m s) i)
+      → slice_get (list_in m (attempt_by instructions a t s).state) i ≡ hits_in m (decided a s (own t s)) (fixed_at t s) i (slice_get (list_in m s) i)
   unfolding fixed_at
   list_attempt m a t s i =
       elim (attempts a t s) [
         | idles e n ↦
-            ap (λ (x : Stepped). get_elem? (list_in m x.state) i) e ∙ ap (λ (x : Option Decision). hits_in m x (fixed_at t s) i (get_elem? (list_in m s) i)) (sym n)
+            ap (λ (x : Stepped). slice_get (list_in m x.state) i) e ∙ ap (λ (x : Option Decision). hits_in m x (fixed_at t s) i (slice_get (list_in m s) i)) (sym n)
         | acts r d f q o n e ↦
-            ap (λ (x : Stepped). get_elem? (list_in m x.state) i) e
-            ∙ ap (λ (l : List ℕ). get_elem? l i) (act_list m s a r d)
+            ap (λ (x : Stepped). slice_get (list_in m x.state) i) e
+            ∙ ap (λ (l : List ℕ). slice_get l i) (act_list m s a r d)
             ∙ at_stored_all (taken_in m) (window_in m r) (writes_in m d) (list_in m s) i
-            ∙ ap (λ (w : Window). hits (taken_in m) w (writes_in m d) i (get_elem? (list_in m s) i)) (sym (window_fixed m r))
-            ∙ sym (ap₂ (λ (x : Option Decision) (y : Option Row). hits_in m x (fixed_of y) i (get_elem? (list_in m s) i)) n f)
+            ∙ ap (λ (w : Window). hits (taken_in m) w (writes_in m d) i (slice_get (list_in m s) i)) (sym (window_fixed m r))
+            ∙ sym (ap₂ (λ (x : Option Decision) (y : Option Row). hits_in m x (fixed_of y) i (slice_get (list_in m s) i)) n f)
       ]
 
   -- no step changes a constant or a program word
@@ -247,22 +244,22 @@ module _ (instructions : Environment → Decision) where
         | acts r d f q o n e ↦ ap (λ (x : Stepped). fixed_at u x.state) e ∙ fixed_act s a t r f d u
       ]
 
-  hits_out : (m : Part) (d : Option Decision) (o : Option Row) (a : ℕ) (x : Option ℕ) → ((r : Row) → o ≡ some r → inside (window_in m r) a ≡ false) → hits_in m d o a x ≡ x
-  hits_out m none o a x h = refl
-  hits_out m (some d) none a x h = refl
-  hits_out m (some d) (some r) a x h = hits_outside (taken_in m) (window_in m r) (writes_in m d) a x (h r refl)
+  hits_out : (m : Part) (d : Option Decision) (o : Option Row) (a : ℕ) (x : Option ℕ) → ((r : Row) → o ≡ Some r → inside (window_in m r) a ≡ false) → hits_in m d o a x ≡ x
+  hits_out m None o a x h = refl
+  hits_out m (Some d) None a x h = refl
+  hits_out m (Some d) (Some r) a x h = hits_outside (taken_in m) (window_in m r) (writes_in m d) a x (h r refl)
 
   -- a place outside the window of a task
-  pub attempt_outside : (m : Part) (a : Attempt) (t : ℕ) (s : State) (i : ℕ) → ((r : Row) → fixed_at t s ≡ some r → inside (window_in m r) i ≡ false)
-      → get_elem? (list_in m (attempt_by instructions a t s).state) i ≡ get_elem? (list_in m s) i
-  attempt_outside m a t s i h = list_attempt m a t s i ∙ hits_out m (decided a s (own t s)) (fixed_at t s) i (get_elem? (list_in m s) i) h
+  pub attempt_outside : (m : Part) (a : Attempt) (t : ℕ) (s : State) (i : ℕ) → ((r : Row) → fixed_at t s ≡ Some r → inside (window_in m r) i ≡ false)
+      → slice_get (list_in m (attempt_by instructions a t s).state) i ≡ slice_get (list_in m s) i
+  attempt_outside m a t s i h = list_attempt m a t s i ∙ hits_out m (decided a s (own t s)) (fixed_at t s) i (slice_get (list_in m s) i) h
 
 -- outside by the row, and by its fixed part
-pub outside_fixed : (m : Part) (t : ℕ) (s : State) (i : ℕ) → ((r : Row) → find_row t s.rows ≡ some r → inside (window_in m r) i ≡ false)
-    → (r : Row) → fixed_at t s ≡ some r → inside (window_in m r) i ≡ false
+pub outside_fixed : (m : Part) (t : ℕ) (s : State) (i : ℕ) → ((r : Row) → find_row t s.rows ≡ Some r → inside (window_in m r) i ≡ false)
+    → (r : Row) → fixed_at t s ≡ Some r → inside (window_in m r) i ≡ false
 unfolding fixed_at
 outside_fixed m t s i h r = go (find_row t s.rows) refl
   where
-    go : (o : Option Row) → find_row t s.rows ≡ o → fixed_of o ≡ some r → inside (window_in m r) i ≡ false
-    go none q e = absurd (none_some r e)
-    go (some x) q e = ap (λ (y : Row). inside (window_in m y) i) (sym (some_inj (fixed x) r e)) ∙ ap (λ (w : Window). inside w i) (window_fixed m x) ∙ h x q
+    go : (o : Option Row) → find_row t s.rows ≡ o → fixed_of o ≡ Some r → inside (window_in m r) i ≡ false
+    go None q e = absurd (none_some r e)
+    go (Some x) q e = ap (λ (y : Row). inside (window_in m y) i) (sym (some_inj (fixed x) r e)) ∙ ap (λ (w : Window). inside w i) (window_fixed m x) ∙ h x q

@@ -1,8 +1,7 @@
 -- A step or a try that ends waved is an act of a decision that waits.
 use Rattle.std.proofs.Math.Path.{◌≡◌, refl, ap}
-use Rattle.std.proofs.Common.{sym, ◌∙◌, arith}
+use Rattle.std.proofs.Common.{sym, ◌∙◌, arith, Option, None, Some}
 use Rattle.std.specs.Prelude.{◌≢◌, Bool, true, false, cond, ℕ, List}
-use Rattle.std.proofs.Math.Option.{Option, none, some}
 use Rattle.window.specs.declared.Row.{Row}
 use Rattle.operation.specs.Environment.{Environment}
 use Rattle.operation.specs.declared.Wait.{Wait}
@@ -41,7 +40,7 @@ module _ (decide : Environment → Decision) (a : Attempt) (t : ℕ) (s : State)
   pub record Waiting : Type 0 where
     pub row : Row
     pub wait : Wait
-    pub found : find_row t s.rows ≡ some row
+    pub found : find_row t s.rows ≡ Some row
     pub nonempty : (acting_queue s.table.users a t).len ≢ 0
     pub acts : attempt_by decide a t s ≡ act s a row (Waits wait)
 
@@ -50,20 +49,20 @@ module _ (decide : Environment → Decision) (a : Attempt) (t : ℕ) (s : State)
   waved_acts = go (find_row t s.rows) refl
     where
       go : (o : Option Row) → find_row t s.rows ≡ o → (attempt_row decide a t s o).ending ≡ Waved → Waiting
-      go none f e = let z : ◌≡◌ {A = ℕ} 0 1 = cc in absurd (omega arith)
-      go (some r) f e = by (row_decides decide s r (processes_acting s.table.users a t)) refl e
+      go None f e = let z : ◌≡◌ {A = ℕ} 0 1 = cc in absurd (omega arith)
+      go (Some r) f e = by (row_decides decide s r (processes_acting s.table.users a t)) refl e
         where
           by : (x : Option Decision) → row_decides decide s r (processes_acting s.table.users a t) ≡ x → (acted decide s a r x).ending ≡ Waved → Waiting
-          by none k e = let z : ◌≡◌ {A = ℕ} 0 1 = cc in absurd (omega arith)
-          by (some (Waits w)) k e = record {
+          by None k e = let z : ◌≡◌ {A = ℕ} 0 1 = cc in absurd (omega arith)
+          by (Some (Waits w)) k e = record {
             row = r;
             wait = w;
             found = f;
             nonempty = deciding decide a t s r (Waits w) k;
             acts = ap (attempt_row decide a t s) f ∙ ap (acted decide s a r) k;
           }
-          by (some (Traps c p)) k e = let z : ◌≡◌ {A = ℕ} 0 1 = cc in absurd (omega arith)
-          by (some (Executes x)) k e = absurd (fate_ends s.table.users a r x.fate e)
+          by (Some (Traps c p)) k e = let z : ◌≡◌ {A = ℕ} 0 1 = cc in absurd (omega arith)
+          by (Some (Executes x)) k e = absurd (fate_ends s.table.users a r x.fate e)
 
 -- as many processes live of each task, and in all
 module _ {psw : List ℕ} {qs : List Queue} (tidy : Tidy psw qs) (t : ℕ) where

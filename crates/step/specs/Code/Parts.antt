@@ -1,10 +1,9 @@
 -- A step or a try in the parts that code makes one after another: what is decided, how it ends, and what becomes of the queues, the PSWs, the row
 -- and the flag. `free` is the lowest free PT, and `below` says that one process more is fewer than the total; only a create looks at them.
 -- Document 01 has none of these parts: it names steps and tries alone, and law attempt_made (Laws/Parts) says that together they are one.
-use Rattle.std.specs.Prelude.{ℕ, ◌≡◌, Bool, true, false, cond, List, [], set}
-use Rattle.std.proofs.Math.Option.{Option, none, some}
+use Rattle.std.specs.Prelude.{ℕ, ◌≡◌, Bool, true, false, cond, List, [], set, Option, Some, None}
+use Rattle.window.specs.declared.Cell.{Cell}
 use Rattle.window.specs.declared.Row.{Row}
-use Rattle.window.specs.declared.Write.{Write}
 use Rattle.window.specs.Windows.{register_window, data_word_window}
 use Rattle.window.specs.Memories.{Memory, written}
 use Rattle.operation.specs.declared.Trap.TheVariants.{CreateFault}
@@ -20,9 +19,6 @@ use Rattle.step.specs.declared.Queue.{Queue}
 use Rattle.step.specs.declared.Ending.{Ending}
 use Rattle.step.specs.declared.Ending.TheVariants.{Executed, Waved, Trapped}
 use Rattle.step.specs.declared.Ending.TheVariants as ending
-use Rattle.step.specs.declared.Decided.{Decided}
-use Rattle.step.specs.declared.Decided.TheVariants.{Decides}
-use Rattle.step.specs.declared.Decided.TheVariants as decided
 use Rattle.step.specs.declared.Motion.{Motion}
 use Rattle.step.specs.declared.Motion.TheVariants.{Stays, Turns, Leaves, Passes, TurnsAndJoins, PassesAndJoins, Joins}
 use Rattle.step.specs.declared.StepResult.{StepResult}
@@ -30,9 +26,9 @@ use Rattle.step.specs.Queues.{own_number, sfu_number, acting_number}
 use Rattle.step.specs.Act.{register_writes, data_writes, trapped_row, turned_at, left_at, joined_at, passed_to}
 
 -- a decision, or none, as an answer
-unfoldable pub decided_as : Option Decision → Decided
-decided_as none = decided.Idle
-decided_as (some d) = Decides d
+unfoldable pub decided_as : Option Decision → Option Decision
+decided_as None = None
+decided_as (Some d) = Some d
 
 -- whether a process joins
 unfoldable pub fate_creates : Fate → Bool
@@ -40,11 +36,11 @@ fate_creates (Continues p) = false
 fate_creates Quits = false
 fate_creates (Creates p new) = true
 
-unfoldable pub creates : Decided → Bool
-creates decided.Idle = false
-creates (Decides (Waits w)) = false
-creates (Decides (Traps k p)) = false
-creates (Decides (Executes e)) = fate_creates e.fate
+unfoldable pub creates : Option Decision → Bool
+creates None = false
+creates (Some (Waits w)) = false
+creates (Some (Traps k p)) = false
+creates (Some (Executes e)) = fate_creates e.fate
 
 abbrev pub result : Ending → Motion → StepResult
 result e m = record { ending = e; motion = m }
@@ -75,9 +71,9 @@ decision_result a free below (Waits w) = result Waved (waved_motion a w)
 decision_result a free below (Traps k p) = result (Trapped k p) Stays
 decision_result a free below (Executes e) = fate_result a free below e.fate
 
-unfoldable pub result_of : Attempt → (free : ℕ) → (below : Bool) → Decided → StepResult
-result_of a free below decided.Idle = result ending.Idle Stays
-result_of a free below (Decides d) = decision_result a free below d
+unfoldable pub result_of : Attempt → (free : ℕ) → (below : Bool) → Option Decision → StepResult
+result_of a free below None = result ending.Idle Stays
+result_of a free below (Some d) = decision_result a free below d
 
 -- the PSWs, the head process having the PT head
 unfoldable pub fate_psws : (head free : ℕ) → Fate → List ℕ → List ℕ
@@ -90,18 +86,18 @@ decision_psws head free (Waits w) psw = psw
 decision_psws head free (Traps k p) psw = set psw head p
 decision_psws head free (Executes e) psw = fate_psws head free e.fate psw
 
-unfoldable pub psws_after : (head free : ℕ) → Decided → List ℕ → List ℕ
-psws_after head free decided.Idle psw = psw
-psws_after head free (Decides d) psw = decision_psws head free d psw
+unfoldable pub psws_after : (head free : ℕ) → Option Decision → List ℕ → List ℕ
+psws_after head free None psw = psw
+psws_after head free (Some d) psw = decision_psws head free d psw
 
 -- the writes to registers and data words
-unfoldable pub registers_written : Decided → List Write
-registers_written decided.Idle = []
-registers_written (Decides d) = register_writes d
+unfoldable pub registers_written : Option Decision → List (Option (ℕ × Cell))
+registers_written None = []
+registers_written (Some d) = register_writes d
 
-unfoldable pub data_written : Decided → List Write
-data_written decided.Idle = []
-data_written (Decides d) = data_writes d
+unfoldable pub data_written : Option Decision → List (Option (ℕ × Cell))
+data_written None = []
+data_written (Some d) = data_writes d
 
 -- the queue that is not the one whose head acts
 unfoldable pub other_number : Attempt → (t : ℕ) → ℕ
@@ -136,7 +132,7 @@ row_after (Trapped k p) r = trapped_row r k p
 row_after ending.Idle r = r
 
 -- what is done about what is decided: the result, and every cell of the PSWs, the registers m and the data words n, before and after
-pub record Acts (a : Attempt) (r : Row) (d : Decided) (head free : ℕ) (below : Bool) (x : StepResult) (psw psw' : List ℕ) (m m' n n' : Memory) : Type 0 where
+pub record Acts (a : Attempt) (r : Row) (d : Option Decision) (head free : ℕ) (below : Bool) (x : StepResult) (psw psw' : List ℕ) (m m' n n' : Memory) : Type 0 where
   pub ends : x ≡ result_of a free below d
   pub psws : psw' ≡ psws_after head free d psw
   pub registers : m' ≡ written (register_window r) (registers_written d) m

@@ -5,7 +5,6 @@ use Rattle.std.specs.Prelude.{ℕ, ◌≡◌, Bool, cond, List}
 use Rattle.window.specs.declared.Row.{Row}
 use Rattle.window.specs.Windows.{register_window, data_word_window}
 use Rattle.window.specs.Memories.{Memory, written}
-use Rattle.operation.specs.declared.Trap.{Trap}
 use Rattle.operation.specs.declared.Trap.TheVariants as trap
 use Rattle.operation.specs.declared.Wait.{Wait}
 use Rattle.operation.specs.declared.Wait.TheVariants as wait
@@ -15,21 +14,13 @@ use Rattle.operation.specs.declared.Decision.{Decision}
 use Rattle.operation.specs.declared.Decision.TheVariants as decision
 use Rattle.operation.specs.declared.Course.{Course}
 use Rattle.operation.specs.declared.Course.TheVariants as go
+unfoldable pub use Rattle.operation.specs.Code.Courses.{trap_course}
 use Rattle.step.specs.declared.Attempt.{Attempt}
 use Rattle.step.specs.declared.Ending.TheVariants.{Executed, Waved, Trapped}
 use Rattle.step.specs.declared.Motion.TheVariants.{Stays, Turns, Leaves, Joins}
 use Rattle.step.specs.declared.StepResult.{StepResult}
 use Rattle.step.specs.Act.{register_writes, data_writes}
 use Rattle.step.specs.Code.Parts.{result, decision_psws, executed_motion, created_motion, waved_motion}
-
-unfoldable pub trap_course : Trap → Course
-trap_course trap.CreateFault = go.CreateFault
-trap_course trap.IllegalInstruction = go.IllegalInstruction
-trap_course trap.ProtectionViolation = go.ProtectionViolation
-trap_course trap.PrivilegedInstruction = go.PrivilegedInstruction
-trap_course trap.SupervisorCall = go.SupervisorCall
-trap_course trap.SimulatedInstruction = go.SimulatedInstruction
-trap_course trap.DataException = go.DataException
 
 unfoldable pub fate_course : Fate → Course
 fate_course (fate.Continues p) = go.Continues

@@ -1,47 +1,32 @@
-use Rattle.step.specs.Soundness.{row_ends_in}
+use Rattle.std.proofs.Common.{◌≡◌, true, false}
+use Rattle.window.specs.Windows.{register_window, program_window, data_word_window}
+use Rattle.step.specs.Soundness.{ends_in, row_ends_in}
 use Rattle.step_fields.proofs.row_ends_in.Goals as goal
+use Rattle.step_fields.proofs.row_ends_in.Goals.{then-ends_in, else-ends_in}
 
-pub returns-then-not-ends_in : goal.returns-then-not-ends_in
+pub returns-then-ends_in-2 : goal.returns-then-ends_in-2
 unfolding row_ends_in
-returns-then-not-ends_in c =
-    let register-window = c.register_window in
-    let ends-in = c.ends_in in
-    simp (← register-window.ensures, ← ends-in.ensures, c.if-not-ends_in.true)
+returns-then-ends_in-2 c =
+    let r = c.args.row in
+    elim c.if-ends_in.branch [
+      | then-ends_in w ↦
+          let registers : ends_in (register_window r) c.args.registers ≡ true = cc in
+          let program : ends_in (program_window r) c.args.program ≡ true = cc in
+          let words : c.ends_in-then-ends_in-2.result ≡ ends_in (data_word_window r) c.args.data_words = cc in
+          simp (registers, program, words)
+      | else-ends_in w ↦ cc
+    ]
 
-pub returns-then-not-ends_in-2 : goal.returns-then-not-ends_in-2
+pub returns-else-ends_in-2 : goal.returns-else-ends_in-2
 unfolding row_ends_in
-returns-then-not-ends_in-2 c =
-    let register-window = c.register_window in
-    let ends-in = c.ends_in in
-    let if1 = c.if-not-ends_in in
-    let program-window = c.program_window in
-    let ends-in2 = c.ends_in-2 in
-    simp (
-      ← register-window.ensures,
-      ← ends-in.ensures,
-      if1.false,
-      ← program-window.ensures,
-      ← ends-in2.ensures,
-      c.if-not-ends_in-2.true,
-    )
-
-pub returns : goal.returns
-unfolding row_ends_in
-returns c =
-    let register-window = c.register_window in
-    let ends-in = c.ends_in in
-    let if1 = c.if-not-ends_in in
-    let program-window = c.program_window in
-    let ends-in2 = c.ends_in-2 in
-    let if2 = c.if-not-ends_in-2 in
-    let data-word-window = c.data_word_window in
-    simp (
-      ← register-window.ensures,
-      ← ends-in.ensures,
-      if1.false,
-      ← program-window.ensures,
-      ← ends-in2.ensures,
-      if2.false,
-      ← data-word-window.ensures,
-      ← c.ends_in-3.ensures,
-    )
+returns-else-ends_in-2 c =
+    let r = c.args.row in
+    elim c.if-ends_in.branch [
+      | then-ends_in w ↦
+          let registers : ends_in (register_window r) c.args.registers ≡ true = cc in
+          let program : ends_in (program_window r) c.args.program ≡ false = cc in
+          simp (registers, program, c.if-ends_in-2.false)
+      | else-ends_in w ↦
+          let registers : ends_in (register_window r) c.args.registers ≡ false = cc in
+          simp (registers, c.if-ends_in-2.false)
+    ]

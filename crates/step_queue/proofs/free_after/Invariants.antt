@@ -1,11 +1,7 @@
 use Rattle.step_queue.specs.Code.Mask.{free_after}
 use Rattle.step.specs.Queues.{ring, list_of}
-use Prim.Native.Nat.{◌<◌}
-use mathlib.Core.Path.{◌≡◌}
+use Rattle.std.proofs.Common.{◌≡◌, ◌<◌, ◌-◌}
 use Rattle.step_queue.proofs.free_after.Given as goal
 
-abbrev pub invariant-loop-left : goal.invariant-loop-left
-invariant-loop-left l = (l.at < 64) × (free_after (ring l.q.pts l.at l.left) l.free ≡ free_after (list_of l.q) l.free-2)
-
-abbrev pub decreases-loop-left : goal.decreases-loop-left
-decreases-loop-left l = l.left
+abbrev pub invariant-loop : goal.invariant-loop
+invariant-loop l = (l.at < 64) × (free_after (ring l.q.pts l.at (l.q.len - l.counter)) l.free ≡ free_after (list_of l.q) l.free-2)

@@ -12,9 +12,6 @@ pub returns-then-free-pt-eq0 : goal.returns-then-free-pt-eq0
 unfolding without
 returns-then-free-pt-eq0 c = simp (lt-leb _ _ c.if-pt-ge-FIRST_NO_PT.false, eq-eqb _ _ c.if-free-pt-eq0.true)
 
-pub overflow_sub-result : goal.overflow_sub-result
-overflow_sub-result c = rw (shifted_one _ c.if-pt-ge-FIRST_NO_PT.false) (digit_le _ _ c.if-free-pt-eq0.false)
-
 pub returns : goal.returns
 unfolding without
 returns c = simp (lt-leb _ _ c.if-pt-ge-FIRST_NO_PT.false, ne_eqb _ _ c.if-free-pt-eq0.false, shifted_one _ c.if-pt-ge-FIRST_NO_PT.false)

@@ -1,31 +1,12 @@
-use mathlib.Core.Path.{refl}
-use native.Mathlib.Omega.{arith}
-use Rattle.step_soundness.proofs.Loops.{next_in, past_count, past_end, has_found, has_goes, has_ends}
+use Rattle.std.proofs.Common.{◌∙◌, eqb, rules, tests}
+use Rattle.std.proofs.lemmas.Iterator.{YieldsList-from_slice}
+use Rattle.std.proofs.lemmas.Iterator.Search.{any_from_yields_List}
+use Rattle.window.specs.declared.Row.{Row}
+use Rattle.step_soundness.proofs.Loops.{has_any}
 use Rattle.step_soundness.proofs.has_row.Goals as goal
 
-pub loop-i-init : goal.loop-i-init
-loop-i-init c = (omega arith, refl)
-
-pub returns-then-n-i : goal.returns-then-n-i
-returns-then-n-i c = has_ends _ (past_count _ _ _ c.if-n-i.true) c.loop-i.invariant.1
-
-pub offset_bounds-rows-i : goal.offset_bounds-rows-i
-offset_bounds-rows-i c = omega arith
-
-pub bounds-rows-i : goal.bounds-rows-i
-bounds-rows-i c = omega arith
-
-pub returns-then-rows-i : goal.returns-then-rows-i
-returns-then-rows-i c = has_found _ (next_in _ _ _ _ c.if-n-i.false (omega arith)) c.if-rows-i.true c.loop-i.invariant.1
-
-pub overflow_add-i : goal.overflow_add-i
-overflow_add-i c = omega arith
-
-pub loop-i-smaller : goal.loop-i-smaller
-loop-i-smaller c = omega arith
-
-pub loop-i-preserved : goal.loop-i-preserved
-loop-i-preserved c = (omega arith, has_goes _ (next_in _ _ _ _ c.if-n-i.false (omega arith)) c.if-rows-i.false c.loop-i.invariant.1)
-
 pub returns : goal.returns
-returns c = has_ends _ (past_end c.args.rows c.args.n c.loop-i.i (omega arith)) c.loop-i.invariant.1
+returns c =
+    let a = c.args in
+    any_from_yields_List (λ (r : Row). eqb r.task a.t) _ _ _ c.any.ensures.ran (YieldsList-from_slice a.rows.now cc) (λ x b q k. search (rules, tests))
+    ∙ has_any a.t a.rows.now

@@ -6,10 +6,6 @@ pub returns-then-pt-ge-FIRST_NO_PT : goal.returns-then-pt-ge-FIRST_NO_PT
 unfolding pt_sound
 returns-then-pt-ge-FIRST_NO_PT c = simp (le-ltb _ _ c.if-pt-ge-FIRST_NO_PT.true)
 
-pub returns-then-marked : goal.returns-then-marked
-unfolding pt_sound
-returns-then-marked c = simp (c.if-marked.true, lt-ltb _ _ c.if-pt-ge-FIRST_NO_PT.false)
-
 pub returns : goal.returns
 unfolding pt_sound
 returns c = simp (← c.psw_sound.ensures, c.if-marked.false, lt-ltb _ _ c.if-pt-ge-FIRST_NO_PT.false)

@@ -20,4 +20,4 @@ returns-then-program-gt-MOST_PROGRAM c = λ all k t. simp (sym c.memory_sound.en
 
 pub returns : goal.returns
 unfolding memories_sound state_in tag_test
-returns c = λ all k t. simp (sym c.memory_sound.ensures ∙ c.if-not-memory_sound.false, sym c.memory_sound-2.ensures ∙ c.if-not-memory_sound-2.false, words_few (2 ^ 20) c.args.program.now c.if-program-gt-MOST_PROGRAM.false (λ i. (c.shared_slice_known-5-1.given i).fits), ← c.memory_sound-3.ensures)
+returns c = λ all k t. simp (sym c.memory_sound.ensures ∙ c.if-not-memory_sound.false, sym c.memory_sound-2.ensures ∙ c.if-not-memory_sound-2.false, words_few (2 ^ 20) c.args.program.now c.if-program-gt-MOST_PROGRAM.false (λ i. (c.type_inv.program i).fits), ← c.memory_sound-3.ensures)

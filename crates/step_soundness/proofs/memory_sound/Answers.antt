@@ -9,4 +9,4 @@ pub returns-then-most-words : goal.returns-then-most-words
 returns-then-most-words c = too_long _ _ _ c.if-tags-words.false c.if-most-words.true
 
 pub returns : goal.returns
-returns c = c.tags_ok.ensures ∙ tags_decide _ _ _ c.if-tags-words.false c.if-most-words.false (λ i. (c.shared_slice_known-2-1.given i).fits)
+returns c = c.tags_ok.ensures ∙ tags_decide _ _ _ c.if-tags-words.false c.if-most-words.false (λ i. (c.type_inv.words i).fits)

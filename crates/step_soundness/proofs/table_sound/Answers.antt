@@ -28,12 +28,12 @@ returns-then-not-processes_sound c =
     let p = c.processes_sound in
     sym (opened _ c.args.users (search rules) (search rules) ∙ simp (sym q.ensures ∙ c.if-not-queues_sound.false, sym p.ensures ∙ c.if-not-processes_sound.true))
 
-pub returns-then-flag-gt1 : goal.returns-then-flag-gt1
+pub returns-then-users-gt1 : goal.returns-then-users-gt1
 unfolding flag_sound
-returns-then-flag-gt1 c =
+returns-then-users-gt1 c =
     let q = c.queues_sound in
     let p = c.processes_sound in
-    sym (opened _ c.args.users (search rules) (search rules) ∙ simp (sym q.ensures ∙ c.if-not-queues_sound.false, sym p.ensures ∙ c.if-not-processes_sound.false, lt-leb _ _ c.if-flag-gt1.true))
+    sym (opened _ c.args.users (search rules) (search rules) ∙ simp (sym q.ensures ∙ c.if-not-queues_sound.false, sym p.ensures ∙ c.if-not-processes_sound.false, lt-leb _ _ c.if-users-gt1.true))
 
 pub returns-then-not-live_sound : goal.returns-then-not-live_sound
 unfolding flag_sound
@@ -41,7 +41,7 @@ returns-then-not-live_sound c =
     let q = c.queues_sound in
     let p = c.processes_sound in
     let l = c.live_sound in
-    sym (opened _ c.args.users (search rules) (search rules) ∙ simp (sym q.ensures ∙ c.if-not-queues_sound.false, sym p.ensures ∙ c.if-not-processes_sound.false, le-leb _ _ c.if-flag-gt1.false, sym l.ensures ∙ c.if-not-live_sound.true))
+    sym (opened _ c.args.users (search rules) (search rules) ∙ simp (sym q.ensures ∙ c.if-not-queues_sound.false, sym p.ensures ∙ c.if-not-processes_sound.false, le-leb _ _ c.if-users-gt1.false, sym l.ensures ∙ c.if-not-live_sound.true))
 
 pub returns : goal.returns
 unfolding flag_sound
@@ -51,4 +51,4 @@ returns c =
     let l = c.live_sound in
     let live = sym l.ensures ∙ c.if-not-live_sound.false in
     let room = c.total_sound.ensures ∙ ap (λ (n : ℕ). total_sound n c.args.users.flag) (live_counted c.args.users live).1 in
-    sym (opened _ c.args.users (search rules) (search rules) ∙ simp (sym q.ensures ∙ c.if-not-queues_sound.false, sym p.ensures ∙ c.if-not-processes_sound.false, le-leb _ _ c.if-flag-gt1.false, live, ← room))
+    sym (opened _ c.args.users (search rules) (search rules) ∙ simp (sym q.ensures ∙ c.if-not-queues_sound.false, sym p.ensures ∙ c.if-not-processes_sound.false, le-leb _ _ c.if-users-gt1.false, live, ← room))

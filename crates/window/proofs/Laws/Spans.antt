@@ -1,10 +1,9 @@
 -- The places of a window by its first address and the address past its last.
 use Rattle.std.specs.Prelude.{ℕ, suc, ◌+◌, ◌≡◌, Bool, true, false, cond, leb, ltb}
-use Rattle.std.proofs.Common.{arith, lt-ltb, le-ltb}
+use Rattle.std.proofs.Common.{arith, lt-ltb, le-ltb, Some, None}
 use Rattle.word.proofs.Laws.Bools.{Le?, below, above, le?}
 use Rattle.window.specs.declared.Row.{Row}
 use Rattle.window.specs.declared.Window.{Window}
-use Rattle.window.specs.declared.Place.TheVariants.{At, Violation}
 use Rattle.window.specs.Windows.{place_in, data_window, byte_place}
 use Rattle.window.specs.Code.Spans.{end_of, Span, place_below, byte_below}
 
@@ -14,7 +13,7 @@ unfolding place_below end_of place_in
 below_end w e = go (leb w.first w.last) (le? w.first w.last) (leb (w.first + e) w.last) (le? (w.first + e) w.last)
   where
     go : (s : Bool) → Le? w.first w.last s → (t : Bool) → Le? (w.first + e) w.last t
-        → cond (ltb (w.first + e) (cond s (suc w.last) 0)) (At (w.first + e)) Violation ≡ cond t (At (w.first + e)) Violation
+        → cond (ltb (w.first + e) (cond s (suc w.last) 0)) (Some (w.first + e)) None ≡ cond t (Some (w.first + e)) None
     go true (below p) true (below q) = rw (lt-ltb (w.first + e) (suc w.last) (omega arith))
     go true (below p) false (above q) = rw (le-ltb (w.first + e) (suc w.last) (omega arith))
     go false (above p) true (below q) = absurd (omega arith)

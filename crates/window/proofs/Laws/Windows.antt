@@ -1,12 +1,10 @@
 -- Facts of windows, for any number k of appended bits.
 use Rattle.std.specs.Prelude.{◌≡◌, refl, ◌↔◌, Bool, true, false, cond, ℕ, suc, ◌+◌, ◌-◌, ◌*◌, ◌/◌, ◌^◌, ◌≤◌, ◌<◌, max, leb}
-use Rattle.std.proofs.Common.{ap, le-div_iff_mul-le, div-lt_iff_lt-mul, suc-mul, arith, pow_pos, shr-shr, leb-true, le-leb}
+use Rattle.std.proofs.Common.{ap, le-div_iff_mul-le, div-lt_iff_lt-mul, suc-mul, arith, pow_pos, shr-shr, leb-true, le-leb, Option, Some, None}
 use Rattle.std.proofs.Math.Nat.{mul-add-div_right}
 use Rattle.std.proofs.lemmas.Nat.{shl-shr}
 use Rattle.window.specs.declared.Row.{Row}
 use Rattle.window.specs.declared.Window.{Window}
-use Rattle.window.specs.declared.Place.{Place}
-use Rattle.window.specs.declared.Place.TheVariants.{At, Violation}
 use Rattle.window.specs.Windows.{window_of, inside, place_in, data_window, byte_place, meets}
 use Rattle.word.proofs.Laws.Conjunctions.{also, both}
 use Rattle.word.proofs.Laws.Bools.{Le?, below, above, le?, and_left, and_right, and_both}
@@ -28,23 +26,23 @@ unfolding inside
 of_in w a i = and_both (leb w.first a) (leb a w.last) (le-leb w.first a i.from) (le-leb a w.last i.to)
 
 -- the place of an effective address lies in the window
-pub placed : (w : Window) (e : ℕ) (a : ℕ) → place_in w e ≡ At a → inside w a ≡ true
+pub placed : (w : Window) (e : ℕ) (a : ℕ) → place_in w e ≡ Some a → inside w a ≡ true
 unfolding place_in
 placed w e a = go (leb (w.first + e) w.last) (le? (w.first + e) w.last)
   where
-    same : Place → ℕ
-    same (At x) = x
-    same Violation = 0
+    same : Option ℕ → ℕ
+    same (Some x) = x
+    same None = 0
 
-    go : (b : Bool) → Le? (w.first + e) w.last b → cond b (At (w.first + e)) Violation ≡ At a → inside w a ≡ true
+    go : (b : Bool) → Le? (w.first + e) w.last b → cond b (Some (w.first + e)) None ≡ Some a → inside w a ≡ true
     go true (below h) q = let k : w.first + e ≡ a = ap same q in of_in w a (record { from = omega arith; to = omega arith })
     go false (above h) q = let z : ◌≡◌ {A = ℕ} 0 1 = cc in absurd (omega arith)
 
-pub byte_placed : (r : Row) (e a : ℕ) → byte_place r e ≡ At a → inside (data_window r) a ≡ true
+pub byte_placed : (r : Row) (e a : ℕ) → byte_place r e ≡ Some a → inside (data_window r) a ≡ true
 unfolding byte_place
 byte_placed r e a = go (leb (2 ^ 31) e)
   where
-    go : (b : Bool) → cond b Violation (place_in (data_window r) e) ≡ At a → inside (data_window r) a ≡ true
+    go : (b : Bool) → cond b None (place_in (data_window r) e) ≡ Some a → inside (data_window r) a ≡ true
     go true q = let z : ◌≡◌ {A = ℕ} 0 1 = cc in absurd (omega arith)
     go false q = placed (data_window r) e a q
 
@@ -88,15 +86,15 @@ reach k b l e =
     ((λ h. omega (arith, (below_limit k l (b * 2 ^ k + e)).0 h)), (λ h. (below_limit k l (b * 2 ^ k + e)).1 (omega arith)))
 
 -- so it has a place there, or none
-pub reached : (k b l e : ℕ) → b + e / 2 ^ k ≤ l → place_in (window_of k b l) e ≡ At (b * 2 ^ k + e)
+pub reached : (k b l e : ℕ) → b + e / 2 ^ k ≤ l → place_in (window_of k b l) e ≡ Some (b * 2 ^ k + e)
 unfolding place_in window_of
 reached k b l e h = rw (le-leb _ _ ((reach k b l e).1 h))
 
-pub past : (k b l e : ℕ) → l < b + e / 2 ^ k → place_in (window_of k b l) e ≡ Violation
+pub past : (k b l e : ℕ) → l < b + e / 2 ^ k → place_in (window_of k b l) e ≡ None
 unfolding place_in window_of
 past k b l e h = go (leb (b * 2 ^ k + e) (l * 2 ^ k + (2 ^ k - 1))) (le? (b * 2 ^ k + e) (l * 2 ^ k + (2 ^ k - 1)))
   where
-    go : (t : Bool) → Le? (b * 2 ^ k + e) (l * 2 ^ k + (2 ^ k - 1)) t → cond t (At (b * 2 ^ k + e)) Violation ≡ Violation
+    go : (t : Bool) → Le? (b * 2 ^ k + e) (l * 2 ^ k + (2 ^ k - 1)) t → cond t (Some (b * 2 ^ k + e)) None ≡ None
     go true (below p) = absurd (omega (arith, (reach k b l e).0 p))
     go false (above p) = refl
 

@@ -1,11 +1,8 @@
 use Rattle.std.proofs.Common.{ℕ, ◌-◌, ap, ◌∙◌}
-use lib.Bits.{bit_and, and_le_l}
+use lib.Bits.{bit_and}
 use Rattle.word.specs.Bits.{bitclr_of}
 use Rattle.word.proofs.Computed.{sub_weight}
 use Rattle.word.proofs.bitclr.Goals as goal
-
-pub overflow_sub-result : goal.overflow_sub-result
-overflow_sub-result c = and_le_l c.args.a _
 
 pub returns : goal.returns
 unfolding bitclr_of

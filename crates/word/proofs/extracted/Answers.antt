@@ -1,7 +1,7 @@
 use Rattle.std.proofs.Common.{ℕ, ◌/◌, ◌%◌, ◌^◌, ap, ◌∙◌, arith}
 use Rattle.word.specs.Parts.{extracted}
 use Rattle.word.proofs.Laws.Parts.{whole_extracted, no_bits_extracted}
-use Rattle.word.proofs.Computed.{size_positive, by_size}
+use Rattle.word.proofs.Computed.{by_size}
 use Rattle.word.proofs.extracted.Goals as goal
 
 pub returns-then-part-ge64 : goal.returns-then-part-ge64
@@ -9,9 +9,6 @@ returns-then-part-ge64 c = let a = c.args in whole_extracted a.part a.word (omeg
 
 pub returns-then-part-eq0 : goal.returns-then-part-eq0
 returns-then-part-eq0 c = let a = c.args in no_bits_extracted a.part a.word (omega arith)
-
-pub nonzero_rem-result : goal.nonzero_rem-result
-nonzero_rem-result c = size_positive c.args.part.width (omega arith)
 
 pub returns : goal.returns
 unfolding extracted

@@ -1,6 +1,6 @@
 use Rattle.std.proofs.Common.{arith}
 use Rattle.word.proofs.Laws.Parts.{whole_placed, no_bits_placed}
-use Rattle.word.proofs.Computed.{size_positive, taken_le, put_placed, put_lt}
+use Rattle.word.proofs.Computed.{put_placed, put_lt}
 use Rattle.word.proofs.placed.Goals as goal
 
 pub returns-then-part-ge64 : goal.returns-then-part-ge64
@@ -8,15 +8,6 @@ returns-then-part-ge64 c = let a = c.args in whole_placed a.part a.register a.wo
 
 pub returns-then-part-eq0 : goal.returns-then-part-eq0
 returns-then-part-eq0 c = let a = c.args in no_bits_placed a.part a.register a.word (omega arith)
-
-pub nonzero_rem-old : goal.nonzero_rem-old
-nonzero_rem-old c = size_positive c.args.part.width (omega arith)
-
-pub nonzero_rem-new : goal.nonzero_rem-new
-nonzero_rem-new c = size_positive c.args.part.width (omega arith)
-
-pub overflow_sub-result : goal.overflow_sub-result
-overflow_sub-result c = let a = c.args in taken_le a.part (omega arith) _ c.right_of-right.ensures a.word
 
 pub overflow_add-result : goal.overflow_add-result
 overflow_add-result c =

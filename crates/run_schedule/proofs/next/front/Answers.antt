@@ -3,4 +3,4 @@ use Rattle.run_rings.specs.Laws.Rings.{head_at}
 use Rattle.run_schedule.proofs.next.front.Goals as goal
 
 pub returns : goal.returns
-returns c = λ lens. sym (head_at _ _ lens _)
+returns c = sym (head_at _ _ _ _)

@@ -1,6 +1,0 @@
-use Rattle.library.specs.Empty.{no_rows}
-use Rattle.hep.proofs.no_rows.Goals as goal
-
-pub returns : goal.returns
-unfolding no_rows
-returns c = simp (← c.empty_row-empty.ensures)

@@ -1,7 +1,0 @@
-use Rattle.operation_data.proofs.illegal_load_d_s1.Goals as goal
-
-pub returns-then-illegal_load : goal.returns-then-illegal_load
-returns-then-illegal_load c = simp (c.if-illegal_load.true, ← c.illegal_load.ensures)
-
-pub returns : goal.returns
-returns c = simp (← c.illegal_d_s1.ensures, c.if-illegal_load.false, ← c.illegal_load.ensures)

@@ -1,7 +1,0 @@
-use Rattle.operation_data.proofs.illegal_store_pair.Goals as goal
-
-pub returns-then-illegal_store : goal.returns-then-illegal_store
-returns-then-illegal_store c = simp (c.if-illegal_store.true, ← c.illegal_store.ensures)
-
-pub returns : goal.returns
-returns c = simp (← c.illegal_unused_s1_s2.ensures, c.if-illegal_store.false, ← c.illegal_store.ensures)

@@ -1,6 +1,0 @@
-use native.Mathlib.Omega.{arith}
-use lib.Count.{trailing_le}
-use Rattle.run_schedule.proofs.next.lowest.Goals as goal
-
-pub overflow_cast-result : goal.overflow_cast-result
-overflow_cast-result c = omega (arith, trailing_le 64 c.args.free)
