@@ -7,7 +7,7 @@ use library::Sizes;
 use refusal::Refusal;
 use run::{Counts, TASK_NUMBERS};
 use std::io;
-use step::{Ending, NO_TRAP, NUMBERS, PLACES, PTS, ProcessTable, Processes, QUEUES, Queue};
+use step::{Ending, NUMBERS, PLACES, PTS, ProcessTable, Processes, QUEUES, Queue};
 use window::{Row, TASKS};
 
 // What lies in a lent place before a call; no value of the state is equal to it.
@@ -19,18 +19,10 @@ const WORD_MARK: u64 = 0xEE;
 
 // The windows of its one row end with the memories.
 fn trial_row() -> Row {
-    Row {
-        task: 1,
-        cb: 0,
-        rb: 0,
-        rl: 3,
-        pb: 0,
-        pl: 0,
-        db: 0,
-        dl: 0,
-        kind: NO_TRAP,
-        psw: 0,
-    }
+    let mut row = library::empty_row();
+    row.task = 1;
+    row.rl = 3;
+    row
 }
 
 // This row, and empty ones behind it.
@@ -51,17 +43,9 @@ fn sizes(rows: usize) -> Sizes {
     }
 }
 
-fn no_processes() -> Queue {
-    Queue {
-        pts: [0; PLACES],
-        head: 0,
-        len: 0,
-    }
-}
-
 // No processes but those of this queue, which has the number k.
 fn queues_with(k: usize, queue: Queue) -> [Queue; QUEUES] {
-    let mut queues = [no_processes(); QUEUES];
+    let mut queues = [library::empty_queue(); QUEUES];
     queues[k % QUEUES] = queue;
     queues
 }
@@ -83,7 +67,7 @@ fn table_of(psw: u64, queues: [Queue; QUEUES], flag: u8, task: usize, n: usize) 
 
 // The processes with these PTs, of which a queue has room for 64.
 fn queue_of(pts: &[u8]) -> Queue {
-    let mut queue = no_processes();
+    let mut queue = library::empty_queue();
     for (place, pt) in queue.pts.iter_mut().zip(pts) {
         *place = *pt;
     }
@@ -114,7 +98,7 @@ fn table_unlisted(k: usize) -> ProcessTable {
 
 // So many processes, with the PTs 0 to 63.
 fn queue_full(len: usize) -> Queue {
-    let mut queue = no_processes();
+    let mut queue = library::empty_queue();
     for i in 0..PLACES {
         queue.pts[i] = i as u8;
     }
@@ -677,7 +661,7 @@ fn count_trial(rt: &impl Print, live: [usize; NUMBERS], count: usize) -> io::Res
         listed(6),
         listed(7),
     ];
-    let none = no_processes();
+    let none = library::empty_queue();
     let queues = [
         none,
         none,
