@@ -3,7 +3,7 @@
 
 // The process that makes the next attempt of a task, among the task's processes.
 #[derive(Clone, Copy)]
-pub enum Role {
+pub enum NextRole {
     // The only one: it stays where it is where it goes on or waits.
     Alone,
     // One of several in the task's queue.
@@ -18,5 +18,5 @@ pub enum Role {
 #[derive(Clone, Copy)]
 pub struct Next {
     pub pt: u8,
-    pub role: Role,
+    pub role: NextRole,
 }

@@ -10,7 +10,7 @@ ghost use Rattle.step.specs.Code.Parts.{moved_queues, waved_motion, created_moti
 ghost use Rattle.step.specs.declared.Motion.TheVariants.{Leaves};
 ghost use Rattle.step.specs.declared.Attempt.TheVariants.{Try};
 ghost use Rattle.run_rings.specs.Code.Rings.{ring_count};
-ghost use Rattle.run_next.specs.declared.Role.TheVariants.{Tries, Follows};
+ghost use Rattle.run_next.specs.declared.NextRole.TheVariants.{Tries, Follows};
 ghost use Rattle.run_next.specs.Code.Next.{next_at, next_is, only, standing, place_after, attempt_at, had_in, going_motion, no_place};
 ghost use Rattle.run_next.specs.Code.Settled.{Makes, Ready, Others, Settles, going_place, trap_by};
 ghost use Rattle.run_next.specs.Code.Stands.{Stands};
@@ -20,7 +20,7 @@ ghost use Rattle.run_schedule.specs.Code.Queued.{all_queues, queue_of, RingMoves
 
 use crate::{CELLS, Carried, Queued};
 use operation::{Course, Trap};
-use run_next::{Next, Role};
+use run_next::{Next, NextRole};
 use run_rings::Rings;
 use step::{NO_TRAP, NUMBERS, PLACES, PTS};
 
@@ -111,13 +111,13 @@ fn went(rings: &mut Rings, t: usize, place: usize)
 // ---- the next attempt of a task
 
 // The role of the head of a queue of n processes.
-fn only(n: usize) -> Role
+fn only(n: usize) -> NextRole
     ensures { result ≡ only n }
 {
     if n == 1 {
-        return Role::Alone;
+        return NextRole::Alone;
     }
-    Role::Several
+    NextRole::Several
 }
 
 // The next attempt of an active task where no item is under way.
@@ -129,7 +129,7 @@ fn standing(rings: &Rings, t: usize) -> Option<Next>
     if rings.lens[own + 1] != 0 {
         return Some(Next {
             pt: front(rings, own + 1),
-            role: Role::Tries,
+            role: NextRole::Tries,
         });
     }
     let len = rings.lens[own];
@@ -154,7 +154,7 @@ impl Queued {
         }
         self.next[t] = Some(Next {
             pt: front(&self.rings, 2 * t),
-            role: Role::Follows,
+            role: NextRole::Follows,
         });
         THEN + place
     }
@@ -166,7 +166,7 @@ impl Queued {
     {
         let own = 2 * t;
         turn(&mut self.rings, own);
-        if let Role::Follows = next.role {
+        if let NextRole::Follows = next.role {
             self.next[t] = standing(&self.rings, t);
             return;
         }
@@ -181,7 +181,7 @@ impl Queued {
         requires { Acts t next self.old × (place < 32) }
         ensures { (result ≡ place_after (attempt_at t self.old.next) (had_in t self.old.rings.lens) place) × QueuedGoes t (going_motion (eqb place 8)) self.old self.new }
     {
-        if let Role::Tries = next.role {
+        if let NextRole::Tries = next.role {
             let had = self.rings.lens[2 * t] != 0;
             went(&mut self.rings, t, place);
             return self.tried(t, had, place);
@@ -196,7 +196,7 @@ impl Queued {
         ensures { (result ≡ place_after (attempt_at t self.old.next) (had_in t self.old.rings.lens) 8) × QueuedGoes t (λ a. waved_motion a Data) self.old self.new }
     {
         let own = 2 * t;
-        if let Role::Tries = next.role {
+        if let NextRole::Tries = next.role {
             let had = self.rings.lens[own] != 0;
             turn(&mut self.rings, own + 1);
             return self.tried(t, had, WAVED);
@@ -212,13 +212,13 @@ impl Queued {
         ensures { (result ≡ place_after (attempt_at t self.old.next) (had_in t self.old.rings.lens) 0) × QueuedGoes t (λ a. Leaves) self.old self.new }
     {
         let own = 2 * t;
-        if let Role::Tries = next.role {
+        if let NextRole::Tries = next.role {
             let had = self.rings.lens[own] != 0;
             leave(&mut self.rings, own + 1);
             return self.tried(t, had, EXECUTED);
         }
         leave(&mut self.rings, own);
-        if let Role::Several = next.role {
+        if let NextRole::Several = next.role {
             self.next[t] = Some(Next {
                 pt: front(&self.rings, own),
                 role: only(self.rings.lens[own]),
@@ -235,15 +235,15 @@ impl Queued {
         ensures { (result ≡ place_after (attempt_at t self.old.next) (had_in t self.old.rings.lens) 0) × QueuedGoes t (λ a. created_motion a p) self.old self.new }
     {
         let own = 2 * t;
-        if let Role::Alone = next.role {
+        if let NextRole::Alone = next.role {
             join(&mut self.rings, own, p);
             self.next[t] = Some(Next {
                 pt: next.pt,
-                role: Role::Several,
+                role: NextRole::Several,
             });
             return EXECUTED;
         }
-        if let Role::Tries = next.role {
+        if let NextRole::Tries = next.role {
             let had = self.rings.lens[own] != 0;
             pass(&mut self.rings, own + 1, own);
             join(&mut self.rings, own, p);
@@ -338,7 +338,7 @@ impl Carried {
         self.kinds[t] = kind;
         self.stored[t] = p;
         self.queued.next[t] = None;
-        if let Role::Tries = next.role {
+        if let NextRole::Tries = next.role {
             return TRY + TRAPPED;
         }
         TRAPPED
@@ -363,7 +363,7 @@ impl Carried {
         ensures { Settles t next.pt c p result (lines_of self.old) (lines_of self.new) × (self.new.tally ≡ self.old.tally) }
     {
         if let Some(place) = going(c) {
-            if let Role::Alone = next.role {
+            if let NextRole::Alone = next.role {
                 return place;
             }
             return self.queued.moves_on(t, next, place);

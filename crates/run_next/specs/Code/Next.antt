@@ -13,8 +13,8 @@ use Rattle.step.specs.Step.{step_follows}
 use Rattle.step.specs.Code.Parts.{executed_motion, moved_queues}
 use Rattle.run_rings.specs.Code.Rings.{queues_in}
 use Rattle.run_next.specs.declared.Next.{Next}
-use Rattle.run_next.specs.declared.Role.{Role}
-use Rattle.run_next.specs.declared.Role.TheVariants.{Alone, Several, Follows, Tries}
+use Rattle.run_next.specs.declared.NextRole.{NextRole}
+use Rattle.run_next.specs.declared.NextRole.TheVariants.{Alone, Several, Follows, Tries}
 
 -- where tries are counted: those that end an item, and those that a step follows; and what is no place
 abbrev pub try_places : ℕ
@@ -26,14 +26,14 @@ then_places = 7 * numbers
 abbrev pub no_place : ℕ
 no_place = 9 * numbers
 
-abbrev pub next_is : (pt : ℕ) → Role → Option Next
+abbrev pub next_is : (pt : ℕ) → NextRole → Option Next
 next_is p r = Some (record { pt = p; role = r })
 
 -- that of task t
 abbrev pub next_at : List (Option Next) → (t : ℕ) → Option Next
 next_at l t = get_or l t None
 
-unfoldable pub only : ℕ → Role
+unfoldable pub only : ℕ → NextRole
 only n = cond (eqb n 1) Alone Several
 
 -- where no item is under way: of an active task with the queue q and the SFU queue s
@@ -58,7 +58,7 @@ pub data Acting (t : ℕ) (l : List (Option Next)) (qs : List Queue) : Type 0 wh
   tries : next_at l t ≡ next_is (head_of (queue_in qs (2 * t + 1))) Tries → 1 ≤ (queue_in qs (2 * t + 1)).len → Acting t l qs
 
 -- which attempt it is
-unfoldable pub attempt_as : Role → Attempt
+unfoldable pub attempt_as : NextRole → Attempt
 attempt_as Alone = Step
 attempt_as Several = Step
 attempt_as Follows = Step
@@ -76,7 +76,7 @@ unfoldable pub follows_try : Option Next → Bool
 follows_try None = false
 follows_try (Some n) = follows_role n.role
   where
-    follows_role : Role → Bool
+    follows_role : NextRole → Bool
     follows_role Alone = false
     follows_role Several = false
     follows_role Follows = true

@@ -20,14 +20,14 @@ use Rattle.step.specs.State.{no_queue, queue_in, with_queue}
 use Rattle.step.specs.Act.{turned_at, left_at, joined_at, passed_to}
 use Rattle.run_rings.specs.Code.Rings.{ring_count, queue_at, queues_in, Moves}
 use Rattle.run_next.specs.declared.Next.{Next}
-use Rattle.run_next.specs.declared.Role.{Role}
-use Rattle.run_next.specs.declared.Role.TheVariants.{Alone, Several, Follows, Tries}
+use Rattle.run_next.specs.declared.NextRole.{NextRole}
+use Rattle.run_next.specs.declared.NextRole.TheVariants.{Alone, Several, Follows, Tries}
 use Rattle.run_next.specs.Code.Next.{next_is, next_at, only, item_next, standing, Puts, Acting, alone, several, follows, tries, attempt_as, attempt_in, attempt_at, followed, place_after, going_motion, Goes}
 use Rattle.step.proofs.Laws.Queues.{shifted_len, joined_len}
 use Rattle.run_rings.specs.Laws.Rings.{moves_len, in_ring, len_in, turned_in, joined_in, length_in}
 
-pub next_eq : (u v : ℕ) (r s : Role) → u ≡ v → r ≡ s → next_is u r ≡ next_is v s
-next_eq u v r s p q = ap (λ (x : ℕ). next_is x r) p ∙ ap (λ (x : Role). next_is v x) q
+pub next_eq : (u v : ℕ) (r s : NextRole) → u ≡ v → r ≡ s → next_is u r ≡ next_is v s
+next_eq u v r s p q = ap (λ (x : ℕ). next_is x r) p ∙ ap (λ (x : NextRole). next_is v x) q
 
 pub set_puts : (l : List (Option Next)) (t : ℕ) (n : Option Next) → t < length l → Puts t n l (set l t n)
 set_puts l t n h = record { mine = get_or-set_same l t n None h; others = λ u k d. get_or-set_other l t u n None d }
@@ -95,7 +95,7 @@ module _ (t : ℕ) (a b c : List ℕ) (small : t < numbers) where
   pub is_none : get_or c (2 * t + 1) 0 ≡ 0 → get_or c (2 * t) 0 ≡ 0 → None ≡ standing false t (queues_in a b c)
   is_none m n = sym (stands_none t (queues_in a b c) (sfu_len ∙ m) (own_len ∙ n))
 
-  pub is_own : (u : ℕ) (r : Role) → u ≡ head_of (queue_at a b c (2 * t)) → r ≡ only (get_or c (2 * t) 0) → get_or c (2 * t + 1) 0 ≡ 0 → get_or c (2 * t) 0 ≢ 0
+  pub is_own : (u : ℕ) (r : NextRole) → u ≡ head_of (queue_at a b c (2 * t)) → r ≡ only (get_or c (2 * t) 0) → get_or c (2 * t + 1) 0 ≡ 0 → get_or c (2 * t) 0 ≢ 0
       → next_is u r ≡ standing false t (queues_in a b c)
   is_own u r e g m n =
       sym (stands_own t (queues_in a b c) (sfu_len ∙ m) (λ z. n (sym own_len ∙ z)) ∙ next_eq _ _ _ _ (own_is_lem ∙ sym e) (ap only own_len ∙ sym g))
@@ -117,10 +117,10 @@ tried_goes t p had qs n e x = (ap (λ (b : Bool). place_after Try b p) (sym e), 
 -- ---- what the next attempts say of the queues
 
 -- the roles are apart
-pub role_of : (l : List (Option Next)) (t : ℕ) (n : Next) (u : ℕ) (r : Role) → next_at l t ≡ Some n → next_at l t ≡ next_is u r → n.role ≡ r
+pub role_of : (l : List (Option Next)) (t : ℕ) (n : Next) (u : ℕ) (r : NextRole) → next_at l t ≡ Some n → next_at l t ≡ next_is u r → n.role ≡ r
 role_of l t n u r e f = let g : Some n ≡ next_is u r = sym e ∙ f in let h : n ≡ record { pt = u; role = r } = cc in ap (λ (x : Next). x.role) h
 
-pub pt_of : (l : List (Option Next)) (t : ℕ) (n : Next) (u : ℕ) (r : Role) → next_at l t ≡ Some n → next_at l t ≡ next_is u r → n.pt ≡ u
+pub pt_of : (l : List (Option Next)) (t : ℕ) (n : Next) (u : ℕ) (r : NextRole) → next_at l t ≡ Some n → next_at l t ≡ next_is u r → n.pt ≡ u
 pt_of l t n u r e f = let g : Some n ≡ next_is u r = sym e ∙ f in let h : n ≡ record { pt = u; role = r } = cc in ap (λ (x : Next). x.pt) h
 
 only_several : (n : ℕ) → 2 ≤ n → only n ≡ Several
@@ -132,7 +132,7 @@ unfolding only
 only_alone n e = ap only e
 
 -- the numbers of the task's queue where its head steps and none follows a try
-pub record Own (t : ℕ) (r : Role) (lens : List ℕ) : Type 0 where
+pub record Own (t : ℕ) (r : NextRole) (lens : List ℕ) : Type 0 where
   pub is : r ≡ only (get_or lens (2 * t) 0)
   pub empty : get_or lens (2 * t + 1) 0 ≡ 0
   pub some_one : get_or lens (2 * t) 0 ≢ 0
@@ -144,7 +144,7 @@ module _ (t : ℕ) (l : List (Option Next)) (n : Next) (a b c : List ℕ) (small
   sful : (queue_in (queues_in a b c) (2 * t + 1)).len ≡ get_or c (2 * t + 1) 0
   sful = len_in a b c (2 * t + 1) (omega (arith, small))
 
-  abbrev is : (u : ℕ) (r : Role) → next_at l t ≡ next_is u r → n.role ≡ r
+  abbrev is : (u : ℕ) (r : NextRole) → next_at l t ≡ next_is u r → n.role ≡ r
   is u r e = role_of l t n u r here e
 
   pub acts_own : Acting t l (queues_in a b c) → n.role ≢ Tries → 1 ≤ get_or c (2 * t) 0
@@ -245,7 +245,7 @@ went_on t place a b c a' b' c' h n m =
 
 -- ---- an attempt is a step or a try by its process's role
 
-step_role : (r : Role) → r ≢ Tries → attempt_as r ≡ Step
+step_role : (r : NextRole) → r ≢ Tries → attempt_as r ≡ Step
 unfolding attempt_as
 step_role Alone n = refl
 step_role Several n = refl
@@ -348,7 +348,7 @@ turns_none qs k h = ap (set qs k) (turned_one (get_or qs k no_queue) h) ∙ set-
 
 module _ (t : ℕ) (l : List (Option Next)) (n : Next) (small : t < numbers) (here : next_at l t ≡ Some n) where
   -- the head of several leaves: the next one's head, and whether it is alone
-  pub left_several : (a b c a' b' c' : List ℕ) (u : ℕ) (r : Role) → Many t l n a b c small here → Moves (2 * t) shifted a b c a' b' c'
+  pub left_several : (a b c a' b' c' : List ℕ) (u : ℕ) (r : NextRole) → Many t l n a b c small here → Moves (2 * t) shifted a b c a' b' c'
       → u ≡ head_of (queue_at a' b' c' (2 * t)) → r ≡ only (get_or c' (2 * t) 0) → next_is u r ≡ standing false t (queues_in a' b' c')
   left_several a b c a' b' c' u r s m e f =
       let n : get_or c' (2 * t) 0 ≡ get_or c (2 * t) 0 - 1 = left_len (2 * t) a b c a' b' c' m in
@@ -386,4 +386,4 @@ module _ (t : ℕ) (l : List (Option Next)) (n : Next) (small : t < numbers) (he
       let o = len_in a b c (2 * t + 1) (omega (arith, small)) in
       ends_step t place place had (going_motion x) a b c l a b c l n here (λ z. let y : Alone ≡ Tries = sym s.role ∙ z in cc) refl
       (sym (turns_none (queues_in a b c) (2 * t) (omega (arith, s.one, k))) ∙ sym (step_goes x t (queues_in a b c) small))
-      (sym (ap (set l t) (sym (s.is ∙ sym (stands_own t (queues_in a b c) (o ∙ s.empty) (λ z. omega (arith, z, k, s.one)) ∙ ap (λ (r : Role). next_is (head_of (queue_in (queues_in a b c) (2 * t))) r) (only_alone _ (k ∙ s.one))))) ∙ set-get_or l t None))
+      (sym (ap (set l t) (sym (s.is ∙ sym (stands_own t (queues_in a b c) (o ∙ s.empty) (λ z. omega (arith, z, k, s.one)) ∙ ap (λ (r : NextRole). next_is (head_of (queue_in (queues_in a b c) (2 * t))) r) (only_alone _ (k ∙ s.one))))) ∙ set-get_or l t None))

@@ -47,7 +47,7 @@ use Rattle.run_rings.specs.Laws.Records.{find_in, records_after}
 use Rattle.run_rings.specs.Laws.Rows.{rising_in, listed, Row-of, live_row}
 use Rattle.run_rings.specs.Laws.Spans.{windows_in}
 use Rattle.run_next.specs.declared.Next.{Next}
-use Rattle.run_next.specs.declared.Role.{Role}
+use Rattle.run_next.specs.declared.NextRole.{NextRole}
 use Rattle.run_next.specs.Code.Next.{next_is, next_at, Acting, alone, several, follows, tries, attempt_as, attempt_in, attempt_at}
 use Rattle.run_next.specs.Code.Settled.{Lines, lines, queues_of, attempt_of, result_by, psws_by, Ready, Settles}
 use Rattle.run_next.specs.Code.Numbers.{Cells, state_from, Numbers, Attempted}
@@ -140,7 +140,7 @@ decided_length pt f (decision.Executes e) w = on e.fate
 
 -- ---- the process that acts
 
-pub step_at : (t : ℕ) (l : List (Option Next)) (u : ℕ) (r : Role) → next_at l t ≡ next_is u r → attempt_at t l ≡ attempt_as r
+pub step_at : (t : ℕ) (l : List (Option Next)) (u : ℕ) (r : NextRole) → next_at l t ≡ next_is u r → attempt_at t l ≡ attempt_as r
 unfolding attempt_in
 step_at t l u r e = ap attempt_in e
 

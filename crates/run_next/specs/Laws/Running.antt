@@ -25,7 +25,7 @@ use Rattle.run.proofs.Laws.Run.{sum_counted, tries_counted}
 use Rattle.run_rings.specs.Code.Records.{rows_in}
 use Rattle.run_rings.specs.Laws.Rings.{len_in}
 use Rattle.run_rings.specs.Laws.Rows.{listed, listed_kind}
-use Rattle.run_next.specs.declared.Role.TheVariants.{Alone, Several, Follows, Tries}
+use Rattle.run_next.specs.declared.NextRole.TheVariants.{Alone, Several, Follows, Tries}
 use Rattle.run_next.specs.Code.Next.{next_is, next_at, only, standing, Acting, alone, several, follows, tries, attempt_as, had_in, goes_on}
 use Rattle.run_next.specs.Code.Settled.{Lines, lines, queues_of, attempt_of, result_by, Settles}
 use Rattle.run_next.specs.Code.Stands.{StandsAt, Between}

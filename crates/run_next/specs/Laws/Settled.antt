@@ -25,7 +25,7 @@ use Rattle.step.specs.Code.Performs.{course_result}
 use Rattle.run_rings.specs.Code.Rings.{queues_in}
 use Rattle.run_rings.specs.Code.Records.{kinds_after, stored_after}
 use Rattle.run_next.specs.declared.Next.{Next}
-use Rattle.run_next.specs.declared.Role.TheVariants.{Tries}
+use Rattle.run_next.specs.declared.NextRole.TheVariants.{Tries}
 use Rattle.run_next.specs.Code.Next.{next_at, standing, Puts, attempt_at, had_in, followed, place_after, going_motion, Goes}
 use Rattle.run_next.specs.Code.Settled.{Lines, queues_of, attempt_of, result_by, place_of, next_by, free_by, count_by, psws_by, Makes, Settles, going_place, trap_by, Others}
 use Rattle.run_next.specs.Laws.Next.{own_number_lem, puts_as, as_step, as_try}

@@ -35,7 +35,7 @@ use Rattle.step.specs.Act.{turned_at, left_at, joined_at, passed_to}
 use Rattle.step.specs.Step.{no_trap, step_follows}
 use Rattle.step.specs.Code.Parts.{moved_queues, other_number}
 use Rattle.run_next.specs.declared.Next.{Next}
-use Rattle.run_next.specs.declared.Role.TheVariants.{Alone, Several}
+use Rattle.run_next.specs.declared.NextRole.TheVariants.{Alone, Several}
 use Rattle.run_next.specs.Code.Next.{then_places, next_is, next_at, only, item_next, standing, Puts, Acting, alone, several, follows, tries, had_in, followed, goes_on, place_after}
 use Rattle.run_next.specs.Code.Stands.{StandsAt, Stands, Between, Laid}
 use Rattle.run_next.specs.Laws.Next.{own_number_lem, sfu_number_lem, stands_sfu, stands_none, stands_own}

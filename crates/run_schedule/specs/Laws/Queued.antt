@@ -8,7 +8,7 @@ use Rattle.step.specs.Code.Parts.{moved_queues}
 use Rattle.operation.specs.declared.Course.{Course}
 use Rattle.run_rings.specs.declared.Rings.{Rings}
 use Rattle.run_next.specs.declared.Next.{Next}
-use Rattle.run_next.specs.declared.Role.TheVariants.{Tries, Follows, Several, Alone}
+use Rattle.run_next.specs.declared.NextRole.TheVariants.{Tries, Follows, Several, Alone}
 use Rattle.run_next.specs.Code.Next.{standing, attempt_at, had_in, place_after}
 use Rattle.run_next.specs.Code.Settled.{Ready}
 use Rattle.run_next.specs.Laws.Next.{Own, Only, Many, acts_own, acts_sfu, acts_here, acts_alone, acts_several, ends_step, ends_try}
