@@ -531,17 +531,10 @@ pub fn quit(
 }
 
 // SVC: any first field, the others unused. It traps with the PC past it.
-pub fn svc(psws: &mut [u64], process: Process, first: u16, second: u16, third: u16) -> Course
-    ensures { (row : Row) (v : Environment) (code fresh : ℕ) (m n : Memory) → v.psw ≡ process.psw → process.psw ≡ get_or psws.old process.pt 0 → Performs row (decide_code Svc v (instruction code first second third)) process.pt fresh result psws.old psws.new m m n n }
+pub fn svc(psws: &mut [u64], process: Process, second: u16, third: u16) -> Course
+    ensures { (row : Row) (v : Environment) (code first fresh : ℕ) (m n : Memory) → v.psw ≡ process.psw → process.psw ≡ get_or psws.old process.pt 0 → Performs row (decide_code Svc v (instruction code first second third)) process.pt fresh result psws.old psws.new m m n n }
 {
-    if operation_checks::illegal_fields(
-        Role::Free,
-        first,
-        Role::Unused,
-        second,
-        Role::Unused,
-        third,
-    ) {
+    if operation_checks::illegal_fields(Role::Free, 0, Role::Unused, second, Role::Unused, third) {
         return Course::IllegalInstruction;
     }
     let past = word::next(process.psw);

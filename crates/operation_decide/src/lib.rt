@@ -217,7 +217,7 @@ fn decide_code(
     match code {
         Code::Privileged => Course::PrivilegedInstruction,
         Code::Simulated => Course::SimulatedInstruction,
-        Code::Svc => operation_control::svc(psws, process, first, second, third),
+        Code::Svc => operation_control::svc(psws, process, second, third),
         Code::Listed(op) => decide_listed(
             op,
             windows,

@@ -90,7 +90,7 @@ fn one_found(
     operation_checks::continues(psws, process.pt, word::next(process.psw))
 }
 
-// CLR, ONE.
+// CLR, ONE. They read no constant, so their row may have its constants anywhere.
 pub fn one(
     op: One,
     windows: Windows,
@@ -102,7 +102,7 @@ pub fn one(
     register_tags: &mut [u8],
     register_words: &mut [u64],
 ) -> Course
-    ensures { (row : Row) (code flag fresh : ℕ) (program : List ℕ) (constants n : Memory) → Spans row windows.constants windows.registers.base windows.registers.end → process.psw ≡ get_or psws.old process.pt 0 → Performs row (decide_listed (roles Destination Unused Unused) (operation.One op) (environment_of row process.psw flag program constants (memory register_tags.old register_words.old) n) (instruction code first second third)) process.pt fresh result psws.old psws.new (memory register_tags.old register_words.old) (memory register_tags.new register_words.new) n n }
+    ensures { (row : Row) (code flag fresh cb : ℕ) (program : List ℕ) (constants n : Memory) → Spans row cb windows.registers.base windows.registers.end → process.psw ≡ get_or psws.old process.pt 0 → Performs row (decide_listed (roles Destination Unused Unused) (operation.One op) (environment_of row process.psw flag program constants (memory register_tags.old register_words.old) n) (instruction code first second third)) process.pt fresh result psws.old psws.new (memory register_tags.old register_words.old) (memory register_tags.new register_words.new) n n }
 {
     if operation_checks::illegal_fields(
         Role::Destination,

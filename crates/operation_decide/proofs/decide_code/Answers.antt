@@ -16,7 +16,7 @@ returns-in-Simulated c = λ row k program s d own. code_traps row _ _ _ _ _ _ _ 
 
 pub returns-in-Svc : goal.returns-in-Svc
 unfolding environment_of
-returns-in-Svc c = λ row k program s d own. code_told row _ _ _ _ _ _ _ _ _ _ _ _ _ c.in-Svc.is (c.svc.ensures row _ _ _ _ _ refl own)
+returns-in-Svc c = λ row k program s d own. code_told row _ _ _ _ _ _ _ _ _ _ _ _ _ c.in-Svc.is (c.svc.ensures row _ _ _ _ _ _ refl own)
 
 pub returns-in-Listed : goal.returns-in-Listed
 returns-in-Listed c = λ row k program s d own. code_told row _ _ _ _ _ _ _ _ _ _ _ _ _ c.in-Listed.is (c.decide_listed.ensures row _ _ s d own)

@@ -17,7 +17,7 @@ returns-in-Two c = λ row code program s d own. listed_told row _ _ _ _ _ _ _ _ 
 
 pub returns-in-One : goal.returns-in-One
 unfolding roles_of
-returns-in-One c = λ row code program s d own. listed_told row _ _ _ _ _ _ _ _ _ _ _ _ _ _ c.in-One.is refl (c.one.ensures row _ _ _ _ _ _ s own)
+returns-in-One c = λ row code program s d own. listed_told row _ _ _ _ _ _ _ _ _ _ _ _ _ _ c.in-One.is refl (c.one.ensures row _ _ _ _ _ _ _ s own)
 
 pub returns-in-Branch : goal.returns-in-Branch
 unfolding roles_of
