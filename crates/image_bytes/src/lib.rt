@@ -1,7 +1,7 @@
 // Numbers, words and cells of an image: read from bytes, written to bytes, and checked.
 #![tactic(auto)]
 
-ghost use Rattle.std.specs.Prelude.{◌≡◌, Ok, ◌+◌, ◌-◌, ◌*◌, ◌^◌, ◌≤◌, ◌<◌, length};
+ghost use Rattle.std.specs.Prelude.{◌≡◌, ◌+◌, ◌-◌, ◌*◌, ◌^◌, ◌≤◌, ◌<◌, length};
 ghost use Rattle.window.specs.Memories.{memory};
 ghost use Rattle.step.specs.Soundness.{every};
 ghost use Rattle.image.specs.Codec.{number, num, digits, dec_many, no_state};
@@ -43,8 +43,11 @@ pub fn number_at(s: &[u8], at: usize, w: usize) -> u64
         return 0;
     }
     let from = at.min(s.len());
-    let there = w.min(s.len() - from);
-    number(&s[from..from + there])
+    if s.len() - from < w {
+        return number(&s[from..]);
+    }
+    // A part of w bytes, and not of the smaller number: where w is a constant the loop over it has no test.
+    number(&s[from..from + w])
 }
 
 // The word at `at`.
@@ -199,10 +202,19 @@ fn cell_tags_ok(s: &[u8], at: usize, n: usize, kind: CellKind) -> bool
     good
 }
 
-// A number of w bytes at `at`, which is good or refused by e: the place behind it.
-pub fn check_number(s: &[u8], at: usize, w: usize, good: bool, e: Refusal) -> Result<usize, Refusal>
-    ensures { result ≡ scan (num w e (λ _. good)).dec s.now (Ok at) }
+// A check goes on with a number of w bytes at its place, which is good or refused by e: the place behind it.
+pub fn check_number(
+    s: &[u8],
+    c: Result<usize, Refusal>,
+    w: usize,
+    good: bool,
+    e: Refusal,
+) -> Result<usize, Refusal>
+    ensures { result ≡ scan (num w e (λ _. good)).dec s.now c }
 {
+    let Ok(at) = c else {
+        return c;
+    };
     let left = s.len().saturating_sub(at);
     if left < w {
         return Err(Refusal::InputEnds);
@@ -214,10 +226,13 @@ pub fn check_number(s: &[u8], at: usize, w: usize, good: bool, e: Refusal) -> Re
 }
 
 // n words: only their length is tested.
-pub fn check_words(s: &[u8], at: usize, n: usize) -> Result<usize, Refusal>
-    ensures { result ≡ scan (dec_many (λ _. word_codec) no_state tt n) s.now (Ok at) }
+pub fn check_words(s: &[u8], c: Result<usize, Refusal>, n: usize) -> Result<usize, Refusal>
+    ensures { result ≡ scan (dec_many (λ _. word_codec) no_state tt n) s.now c }
 {
-    let left = s.len().saturating_sub(at);
+    let Ok(from) = c else {
+        return c;
+    };
+    let left = s.len().saturating_sub(from);
     if left / WORD_BYTES < n {
         return Err(Refusal::InputEnds);
     }
@@ -225,9 +240,17 @@ pub fn check_words(s: &[u8], at: usize, n: usize) -> Result<usize, Refusal>
 }
 
 // n cells: refused where a tag that is there is not sound, and then where they are not all there.
-pub fn check_cells(s: &[u8], at: usize, n: usize, kind: CellKind) -> Result<usize, Refusal>
-    ensures { result ≡ scan (dec_many (λ _. cell_codec (tag_refusal kind) (tag_test kind)) no_state tt n) s.now (Ok at) }
+pub fn check_cells(
+    s: &[u8],
+    c: Result<usize, Refusal>,
+    n: usize,
+    kind: CellKind,
+) -> Result<usize, Refusal>
+    ensures { result ≡ scan (dec_many (λ _. cell_codec (tag_refusal kind) (tag_test kind)) no_state tt n) s.now c }
 {
+    let Ok(at) = c else {
+        return c;
+    };
     let left = s.len().saturating_sub(at);
     let tags = n.min(left.div_ceil(CELL_BYTES));
     if !cell_tags_ok(s, at, tags, kind) {

@@ -27,7 +27,7 @@ fn check_below(s: &[u8], at: usize, w: usize, bound: u64, e: Refusal) -> Result<
     ensures { result ≡ scan (num w e (λ v. ltb v bound)).dec s.now (Ok at) }
 {
     let v = image_bytes::number_at(s, at, w);
-    image_bytes::check_number(s, at, w, v < bound, e)
+    image_bytes::check_number(s, Ok(at), w, v < bound, e)
 }
 
 // The trap record of a row: its kind and its PSW.
@@ -36,10 +36,10 @@ fn check_trap(s: &[u8], at: usize) -> Result<usize, Refusal>
 {
     let kind = image_bytes::number_at(s, at, 1);
     let sound = step_fields::kind_sound(kind);
-    let at = image_bytes::check_number(s, at, 1, sound, Refusal::TaskField)?;
+    let at = image_bytes::check_number(s, Ok(at), 1, sound, Refusal::TaskField)?;
     let psw = image_bytes::number_at(s, at, 8);
     let sound = step_fields::record_sound(kind, psw);
-    image_bytes::check_number(s, at, 8, sound, Refusal::TaskField)
+    image_bytes::check_number(s, Ok(at), 8, sound, Refusal::TaskField)
 }
 
 // A row after the row of task `before`: behind the task stand cb, rb, rl, pb, pl, db and dl.
@@ -48,7 +48,7 @@ fn check_row(s: &[u8], at: usize, before: u64) -> Result<usize, Refusal>
 {
     let task = image_bytes::number_at(s, at, 1);
     let sound = step_fields::task_sound(before, task);
-    let at = image_bytes::check_number(s, at, 1, sound, Refusal::TaskField)?;
+    let at = image_bytes::check_number(s, Ok(at), 1, sound, Refusal::TaskField)?;
     let at = check_below(s, at, 2, 1 << 12, Refusal::TaskField)?;
     let at = check_below(s, at, 2, 1 << 10, Refusal::TaskField)?;
     let at = check_below(s, at, 2, 1 << 10, Refusal::TaskField)?;
@@ -79,7 +79,7 @@ fn check_tasks(s: &[u8], at: usize) -> Result<usize, Refusal>
     ensures { result ≡ scan tasks_codec.dec s.now (Ok at) }
 {
     let n = image_bytes::number_at(s, at, 1) as usize;
-    let at = image_bytes::check_number(s, at, 1, n <= TASKS, Refusal::CountOverLimit)?;
+    let at = image_bytes::check_number(s, Ok(at), 1, n <= TASKS, Refusal::CountOverLimit)?;
     check_rows(s, at, n)
 }
 
@@ -121,9 +121,9 @@ fn check_process(s: &[u8], at: usize, before: u64, n: u8) -> Result<usize, Refus
     let at = check_below(s, at, 1, PTS as u64, Refusal::ProcessField)?;
     let task = image_bytes::number_at(s, at, 1);
     let listed = task_listed(s, n, before, task);
-    let at = image_bytes::check_number(s, at, 1, listed, Refusal::ProcessField)?;
+    let at = image_bytes::check_number(s, Ok(at), 1, listed, Refusal::ProcessField)?;
     let psw = image_bytes::number_at(s, at, 8);
-    image_bytes::check_number(s, at, 8, word::psw_sound(psw), Refusal::ProcessField)
+    image_bytes::check_number(s, Ok(at), 8, word::psw_sound(psw), Refusal::ProcessField)
 }
 
 // m processes, where there are n rows.
@@ -146,9 +146,9 @@ fn check_processes(s: &[u8], at: usize, n: u8) -> Result<usize, Refusal>
     ensures { result ≡ scan (processes_codec (rows_at n s.now)).dec s.now (Ok at) }
 {
     let m = image_bytes::number_at(s, at, 1) as usize;
-    let at = image_bytes::check_number(s, at, 1, m <= PTS, Refusal::CountOverLimit)?;
+    let at = image_bytes::check_number(s, Ok(at), 1, m <= PTS, Refusal::CountOverLimit)?;
     let flag = image_bytes::number_at(s, at, 1);
-    let at = image_bytes::check_number(s, at, 1, flag <= 1, Refusal::ProcessField)?;
+    let at = image_bytes::check_number(s, Ok(at), 1, flag <= 1, Refusal::ProcessField)?;
     check_each_process(s, at, m, n)
 }
 
@@ -160,8 +160,8 @@ fn check_words(s: &[u8], at: usize, w: usize, most: usize) -> Result<usize, Refu
     ensures { result ≡ scan (words_codec w most).dec s.now (Ok at) }
 {
     let n = image_bytes::number_at(s, at, w) as usize;
-    let at = image_bytes::check_number(s, at, w, n <= most, Refusal::CountOverLimit)?;
-    image_bytes::check_words(s, at, n)
+    let at = image_bytes::check_number(s, Ok(at), w, n <= most, Refusal::CountOverLimit)?;
+    image_bytes::check_words(s, Ok(at), n)
 }
 
 // A section of cells, likewise.
@@ -170,8 +170,8 @@ fn check_cells(s: &[u8], at: usize, w: usize, most: usize, kind: CellKind) -> Re
     ensures { result ≡ scan (cells_codec (tag_refusal kind) (tag_test kind) w most).dec s.now (Ok at) }
 {
     let n = image_bytes::number_at(s, at, w) as usize;
-    let at = image_bytes::check_number(s, at, w, n <= most, Refusal::CountOverLimit)?;
-    image_bytes::check_cells(s, at, n, kind)
+    let at = image_bytes::check_number(s, Ok(at), w, n <= most, Refusal::CountOverLimit)?;
+    image_bytes::check_cells(s, Ok(at), n, kind)
 }
 
 // ---- after the last section
