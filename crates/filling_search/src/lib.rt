@@ -13,6 +13,9 @@ use window::MOST_REGISTERS;
 // The registers of a module, in the type of a sum.
 const REGISTERS: u64 = MOST_REGISTERS as u64;
 
+// The most jobs of a choice, likewise.
+const CHOSEN: u64 = MOST_CHOSEN as u64;
+
 // ---- the jobs
 
 // An even need from 2 to 2,048.
@@ -49,14 +52,14 @@ fn try_choice(choice: u64, needs: &[u64]) -> Option<u64>
     let mut rest = choice;
     let mut count = 0;
     let mut sum = 0;
+    // No `if` on the bit: its jump would be guessed wrong half the time.
     for need in needs {
-        if rest % 2 == 1 {
-            count += 1;
-            sum += *need;
-        }
+        let bit = rest % 2;
+        count += bit;
+        sum += bit * *need;
         rest /= 2;
     }
-    (count <= MOST_CHOSEN && sum <= REGISTERS).then_some(sum)
+    (count <= CHOSEN && sum <= REGISTERS).then_some(sum)
 }
 
 // A choice where it is better than the best before it, else that one.

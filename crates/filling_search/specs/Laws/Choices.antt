@@ -1,5 +1,5 @@
 -- A choice tried job by job, and the better of two.
-use Rattle.std.specs.Prelude.{refl, ℕ, ◌+◌, ◌*◌, ◌/◌, ◌%◌, ◌≤◌, ◌<◌, ◌≡◌, true, cond, ◌&&◌, List, ◌∷◌, leb, eqb, length, get_or, drop, Some, None}
+use Rattle.std.specs.Prelude.{refl, ℕ, zero, suc, ◌+◌, ◌*◌, ◌/◌, ◌%◌, ◌≤◌, ◌<◌, ◌≡◌, true, cond, ◌&&◌, List, ◌∷◌, leb, eqb, length, get_or, drop, Some, None}
 use Rattle.std.proofs.Common.{add-one, arith, ap, ◌∙◌, drop_of_length-le, drop-cons, eq-eqb, ne_eqb}
 use Rattle.window.specs.Limits.{most_registers}
 use Rattle.filling.specs.declared.Best.{Best}
@@ -43,6 +43,27 @@ module _ (needs : List ℕ) (x rest count sum i : ℕ) (t : Trying needs x rest 
             counted = omega (arith, t.counted, ap length e);
             summed = omega (arith, t.summed, ap total e);
           }
+
+      -- a job by its bit, without a choice between the two
+      pub job_done : Trying needs x (rest / 2) (count + rest % 2) (sum + rest % 2 * get_or needs i 0) (i + 1)
+      job_done = go (rest % 2) refl (omega arith)
+        where
+          go : (bit : ℕ) → rest % 2 ≡ bit → bit ≤ 1 → Trying needs x (rest / 2) (count + bit) (sum + bit * get_or needs i 0) (i + 1)
+          go zero e few =
+              let p = job_passed (λ (z : rest % 2 ≡ 1). omega (arith, z, e)) in
+              record { few = omega (arith, p.few); small = omega (arith, p.small); counted = omega (arith, p.counted); summed = omega (arith, p.summed) }
+          go (suc zero) e few =
+              let p = job_taken e in
+              record { few = omega (arith, p.few); small = omega (arith, p.small); counted = omega (arith, p.counted); summed = omega (arith, p.summed) }
+          go (suc (suc n)) e few = let z : ⊥ = omega arith in absurd z
+
+      pub bit_fits : sum + rest % 2 * get_or needs i 0 ≤ most_registers * most_jobs
+      bit_fits = go (rest % 2) (omega arith)
+        where
+          go : (bit : ℕ) → bit ≤ 1 → sum + bit * get_or needs i 0 ≤ most_registers * most_jobs
+          go zero few = omega (arith, sum_fits)
+          go (suc zero) few = omega (arith, sum_fits)
+          go (suc (suc n)) few = let z : ⊥ = omega arith in absurd z
 
   -- ---- its end
 
