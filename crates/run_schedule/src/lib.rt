@@ -54,8 +54,9 @@ pub struct Carried {
     pub kinds: [u8; NUMBERS],
     pub stored: [u64; NUMBERS],
     pub psws: [u64; PSWS],
-    pub flag: u8,
     pub free: u64,
+    // Here, since the two numbers side by side would be changed as one pair where a process leaves: three instructions more.
+    pub flag: u8,
     pub count: usize,
     pub tally: [u32; CELLS],
 }
